@@ -1,0 +1,11 @@
+-- The laws, a file for each notion of specs/, and parts of slices.
+pub mod Tests
+pub mod ListLaws
+pub mod Perms
+pub mod Folds
+pub mod RowLaws
+pub mod Sorting
+pub mod Leasts
+pub mod Runs
+pub mod Parts
+pub mod Columns

@@ -1,0 +1,96 @@
+-- Charged runs within an allowance: one law for every walk. Assumes nothing.
+use mathlib.Core.Path.{_≡_, refl, sym, ap, _∙_}
+use mathlib.Core.Logic.{_⊎_, inl, inr, _↔_}
+use mathlib.Core.List.{List, [], _∷_}
+use mathlib.Core.Bool.{Bool, true, false, cond}
+use Prim.Native.Nat.{ℕ, suc, _-_, _≤_, _<_}
+use native.Mathlib.Omega.{arith}
+use borrow.Author.Tests.{le-leb, lt-leb}
+use lib.Dec.{leb}
+use Rattle.laws.specs.Charged.{Charged, Outcome, spent, left, within, free, visit, after, runs, onward, reaches, settle, reply}
+use Rattle.laws.proofs.Tests.{le-or-lt, cond-true, cond-false}
+
+module _ {A : Type 0} where
+  pub within-enough : (m : ℕ) (c : Charged A) → c .cost ≤ m → within m c ≡ left (c .value) (m - c .cost)
+  unfolding within
+  within-enough m c h = cond-true (leb (c .cost) m) _ _ (le-leb (c .cost) m h)
+
+  pub within-short : (m : ℕ) (c : Charged A) → m < c .cost → within m c ≡ spent
+  unfolding within
+  within-short m c h = cond-false (leb (c .cost) m) _ _ (lt-leb (c .cost) m h)
+
+  pub within-free : (m : ℕ) (a : A) → within m (free a) ≡ left a m
+  within-free m a = within-enough m (free a) (omega arith) ∙ ap (left a) (omega arith)
+
+  -- ---- one visit: with nothing left the run stops before it
+  pub visit-spent : (c : Charged A) → within 0 (visit c) ≡ spent
+  visit-spent c = within-short 0 (visit c) (omega arith)
+
+  pub visit-paid : (m : ℕ) (c : Charged A) → within (suc m) (visit c) ≡ within m c
+  visit-paid m c = elim (le-or-lt (c .cost) m) [
+    | inl h ↦ within-enough (suc m) (visit c) (omega arith) ∙ ap (left (c .value)) (omega arith) ∙ sym (within-enough m c h)
+    | inr h ↦ within-short (suc m) (visit c) (omega arith) ∙ sym (within-short m c h)
+  ]
+
+module _ {A B : Type 0} where
+  -- ---- going on with what is left
+  pub onward-spent : (k : A → ℕ → Outcome B) → onward spent k ≡ spent
+  unfolding onward
+  onward-spent k = refl
+
+  pub onward-left : (a : A) (m : ℕ) (k : A → ℕ → Outcome B) → onward (left a m) k ≡ k a m
+  unfolding onward
+  onward-left a m k = refl
+
+  -- running one after the other within m is running the first within m and the second within what is left
+  pub within-after : (m : ℕ) (c : Charged A) (k : A → Charged B) → within m (after c k) ≡ onward (within m c) (λ a r. within r (k a))
+  within-after m c k = elim (le-or-lt (c .cost) m) [
+    | inl h ↦ second h (le-or-lt (k (c .value) .cost) (m - c .cost)) ∙ sym (rw (within-enough m c h) (onward-left (c .value) (m - c .cost) (λ a r. within r (k a))))
+    | inr h ↦ within-short m (after c k) (omega arith) ∙ sym (rw (within-short m c h) (onward-spent (λ a r. within r (k a))))
+  ]
+    where
+      second : c .cost ≤ m → (k (c .value) .cost ≤ m - c .cost) ⊎ (m - c .cost < k (c .value) .cost) → within m (after c k) ≡ within (m - c .cost) (k (c .value))
+      second h (inl g) = within-enough m (after c k) (omega arith) ∙ ap (left (k (c .value) .value)) (omega arith) ∙ sym (within-enough (m - c .cost) (k (c .value)) g)
+      second h (inr g) = within-short m (after c k) (omega arith) ∙ sym (within-short (m - c .cost) (k (c .value)) g)
+
+-- ---- a run for each entry of a list
+module _ {S X : Type 0} (step : S → X → Charged S) where
+  pub within-none : (m : ℕ) (s : S) → within m (runs step s []) ≡ left s m
+  unfolding runs
+  within-none m s = within-free m s
+
+  pub within-next : (m : ℕ) (s : S) (x : X) (l : List X) → within m (runs step s (x ∷ l)) ≡ onward (within m (step s x)) (λ s′ r. within r (runs step s′ l))
+  unfolding runs
+  within-next m s x l = within-after m (step s x) (λ s′. runs step s′ l)
+
+-- ---- what a call answers
+module _ {A R : Type 0} (report : A → ℕ → R) (refusal : R) where
+  pub settle-reached : (m : ℕ) (c : Charged A) → c .cost ≤ m → settle report refusal m c ≡ report (c .value) (c .cost)
+  unfolding settle
+  settle-reached m c h = cond-true (leb (c .cost) m) _ _ (le-leb (c .cost) m h)
+
+  pub settle-short : (m : ℕ) (c : Charged A) → m < c .cost → settle report refusal m c ≡ refusal
+  unfolding settle
+  settle-short m c h = cond-false (leb (c .cost) m) _ _ (lt-leb (c .cost) m h)
+
+  -- a run within the allowance answers so
+  pub settle-within : (m : ℕ) (c : Charged A) → reply report refusal m (within m c) ≡ settle report refusal m c
+  unfolding reply
+  settle-within m c = elim (le-or-lt (c .cost) m) [
+    | inl h ↦ ap (reply report refusal m) (within-enough m c h) ∙ ap (report (c .value)) (used (c .cost) m h) ∙ sym (settle-reached m c h)
+    | inr h ↦ ap (reply report refusal m) (within-short m c h) ∙ sym (settle-short m c h)
+  ]
+    where
+      used : (a m : ℕ) → a ≤ m → m - (m - a) ≡ a
+      used a m h = omega arith
+
+  -- "their results are equal, bit by bit, exactly when both allowances reach that drawing's visit count or neither does"
+  pub settle-equal : ((a : A) (n : ℕ) → report a n ≡ refusal → ⊥) → (m n : ℕ) (c : Charged A) → (settle report refusal m c ≡ settle report refusal n c) ↔ (reaches m c ≡ reaches n c)
+  unfolding settle
+  settle-equal apart m n c = (to (reaches m c) (reaches n c), λ e. ap (λ (b : Bool). cond b (report (c .value) (c .cost)) refusal) e)
+    where
+      to : (a b : Bool) → cond a (report (c .value) (c .cost)) refusal ≡ cond b (report (c .value) (c .cost)) refusal → a ≡ b
+      to true true e = refl
+      to true false e = absurd (apart (c .value) (c .cost) e)
+      to false true e = absurd (apart (c .value) (c .cost) (sym e))
+      to false false e = refl

@@ -1,0 +1,7 @@
+-- The definitions, a file for each notion.
+pub mod Lists
+pub mod Perm
+pub mod Sort
+pub mod Rows
+pub mod Least
+pub mod Charged

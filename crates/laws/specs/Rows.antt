@@ -1,0 +1,11 @@
+-- Rows of words in dictionary order. Every order of document 01 and of the Rust compares a few natural numbers, the first that differ deciding.
+use mathlib.Core.Bool.{Bool, true, false, cond}
+use mathlib.Core.List.{List, [], _∷_}
+use Prim.Native.Nat.{ℕ}
+use lib.Dec.{ltb, eqb}
+
+-- the first row may stand before the second
+unfoldable pub rowLe : List ℕ → List ℕ → Bool
+rowLe [] b = true
+rowLe (x ∷ a) [] = false
+rowLe (x ∷ a) (y ∷ b) = let r = rowLe a b in cond (ltb x y) true (cond (eqb x y) r false)
