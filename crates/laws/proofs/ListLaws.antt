@@ -3,12 +3,14 @@ use mathlib.Core.Path.{_≡_, refl, sym, ap, _∙_, subst}
 use mathlib.Core.Logic.{_⊎_, inl, inr}
 use mathlib.Core.List.{List, [], _∷_, _++_, map}
 use mathlib.Core.Bool.{Bool, true, false}
-use Prim.Native.Nat.{suc, _*_}
+use Prim.Native.Nat.{ℕ, suc, _+_, _*_, _≤_, _<_}
 use native.Mathlib.Nat.{zero-mul, suc-mul}
 use native.Mathlib.Omega.{arith}
-use lib.ListN.{length, length-append}
+use native.Mathlib.Numerals.{add-one}
+use lib.ListN.{length, getD, drop, length-append, drop-of-length-le}
+use lib.Seq.{drop-cons}
 use Rattle.laws.specs.Lists.{Mem, All, every, some-of, put, chosen, beside, cross, pairs}
-use Rattle.laws.proofs.Tests.{clash, and-left, and-right, and-both, or-elim, or-left, or-right}
+use Rattle.laws.proofs.Tests.{clash, and-left, and-right, and-both, or-elim, or-left, or-right, neither-left, neither-right}
 
 module _ {A : Type 0} where
   -- ---- what holds of each entry
@@ -70,10 +72,29 @@ module _ {A : Type 0} where
       go (inl e) k = (y, inl refl, e)
       go (inr e) k = let r = k e in (r .0, inr (r .1), r .2)
 
+  pub none-all : (p : A → Bool) (l : List A) → some-of p l ≡ false → All (λ x. p x ≡ false) l
+  unfolding some-of
+  none-all p [] h = tt
+  none-all p (x ∷ l) h = (neither-left (p x) (some-of p l) h, none-all p l (neither-right (p x) (some-of p l) h))
+
   pub mem-some : (p : A → Bool) (x : A) (l : List A) → Mem x l → p x ≡ true → some-of p l ≡ true
   unfolding some-of
   mem-some p x (y ∷ l) (inl e) t = or-left (p y) (some-of p l) (ap p (sym e) ∙ t)
   mem-some p x (y ∷ l) (inr m) t = or-right (p y) (some-of p l) (mem-some p x l m t)
+
+-- ---- a scan for an entry that passes: what is left to look at after i entries
+module _ {A : Type 0} (p : A → Bool) (l : List A) (i : ℕ) where
+  pub scan-hit : (d : A) → i < length l → p (getD l i d) ≡ true → some-of p (drop i l) ≡ true
+  unfolding some-of
+  scan-hit d h e = rw (drop-cons l i d h, e)
+
+  pub scan-next : (d : A) → i < length l → p (getD l i d) ≡ false → some-of p (drop i l) ≡ some-of p (drop (i + 1) l)
+  unfolding some-of
+  scan-next d h e = rw (add-one i, drop-cons l i d h, e)
+
+  pub scan-end : length l ≤ i → some-of p (drop i l) ≡ false
+  unfolding some-of
+  scan-end h = rw (drop-of-length-le l {i = i} h)
 
 -- ---- those that pass
 module _ {A C : Type 0} (p : A → Bool) (h : A → C) where

@@ -2,13 +2,14 @@
 use mathlib.Core.Path.{_≡_, refl, sym, ap, _∙_, subst}
 use mathlib.Core.Logic.{inl, inr}
 use mathlib.Core.List.{List, [], _∷_, _++_, append-assoc, map}
-use mathlib.Core.Bool.{Bool, true, false}
+use mathlib.Core.Bool.{Bool, true, false, _||_}
 use Prim.Native.Nat.{ℕ, zero, suc, _+_, _<_}
 use native.Mathlib.Nat.{not-suc-le-zero, le-of-suc-le-suc}
 use native.Mathlib.Omega.{arith}
 use lib.ListN.{length, getD, set}
-use Rattle.laws.specs.Lists.{Mem, All, chosen, put, fold, bit, count, beside, cross, pairs}
+use Rattle.laws.specs.Lists.{Mem, All, some-of, chosen, put, fold, bit, count, beside, cross, pairs}
 use Rattle.laws.specs.Perm.{Perm, none, first, swap, via}
+use Rattle.laws.proofs.Tests.{or-swap}
 use Rattle.laws.proofs.ListLaws.{chosen-append}
 use Rattle.laws.proofs.Folds.{plus, fold-perm}
 
@@ -89,6 +90,14 @@ module _ {A : Type 0} where
   perm-exchange (x ∷ l) i zero d h k = absurd (not-suc-le-zero h)
   perm-exchange (x ∷ l) zero (suc j) d h k = perm-replace l j x d (le-of-suc-le-suc k)
   perm-exchange (x ∷ l) (suc i) (suc j) d h k = first (perm-exchange l i j d (le-of-suc-le-suc h) (le-of-suc-le-suc k))
+
+  -- ---- tests over the list
+  pub perm-some : (p : A → Bool) {l r : List A} → Perm l r → some-of p l ≡ some-of p r
+  unfolding some-of
+  perm-some p none = refl
+  perm-some p (first {x = x} q) = ap (λ (b : Bool). p x || b) (perm-some p q)
+  perm-some p (swap {x = x} {y = y} {l = l}) = or-swap (p x) (p y) (some-of p l)
+  perm-some p (via q s) = perm-some p q ∙ perm-some p s
 
   -- ---- the same entries, each equally often
   pub perm-count : (p : A → Bool) {l r : List A} → Perm l r → count p l ≡ count p r

@@ -1,0 +1,4 @@
+-- The definitions, a file for each module of src/.
+pub mod TotalOrder
+pub mod Values
+pub mod Grid

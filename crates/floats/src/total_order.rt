@@ -1,0 +1,70 @@
+// IEEE 754's totalOrder on bit patterns of binary64, and its key: a number whose order is totalOrder.
+ghost use mathlib.Core.Path.{_≡_};
+ghost use Rattle.floats.specs.TotalOrder as TotalOrder;
+
+pub enum Ordering {
+    Less,
+    Equal,
+    Greater,
+}
+
+// The key of a bit pattern: its place in totalOrder.
+pub fn total_order_key(bits: u64) -> u64
+    ensures { λ r. ⌜ r ≡ TotalOrder.key bits ⌝ }
+{
+    if bits < 0x8000_0000_0000_0000 {
+        bits + 0x8000_0000_0000_0000
+    } else {
+        0xffff_ffff_ffff_ffff - bits
+    }
+}
+
+// The bit pattern that has a key.
+fn pattern_of_key(key: u64) -> u64
+    ensures { λ r. ⌜ r ≡ TotalOrder.patternAt key ⌝ }
+{
+    if key < 0x8000_0000_0000_0000 {
+        0xffff_ffff_ffff_ffff - key
+    } else {
+        key - 0x8000_0000_0000_0000
+    }
+}
+
+// Two bit patterns compared by totalOrder.
+pub fn total_cmp(a: u64, b: u64) -> Ordering
+    ensures { λ r. ⌜ r ≡ TotalOrder.totalCmp a b ⌝ }
+{
+    let x = total_order_key(a);
+    let y = total_order_key(b);
+    if x < y {
+        Ordering::Less
+    } else if y < x {
+        Ordering::Greater
+    } else {
+        Ordering::Equal
+    }
+}
+
+// The key of a float. No bits are read of a NaN: it has the key of the one pattern that stands for it.
+pub fn key_of(x: f64) -> u64
+    ensures { λ r. ⌜ r ≡ TotalOrder.keyOf x ⌝ }
+{
+    if x == x {
+        let bits = f64::to_bits(x);
+        total_order_key(bits)
+    } else {
+        0xfff8_0000_0000_0000
+    }
+}
+
+// The float that has a key. No NaN pattern is read: a NaN stands for each of them.
+pub fn float_of_key(key: u64) -> f64
+    ensures { λ r. ⌜ r ≡ TotalOrder.floatAt key ⌝ }
+{
+    let bits = pattern_of_key(key);
+    if bits % 0x8000_0000_0000_0000 <= 0x7ff0_0000_0000_0000 {
+        f64::from_bits(bits)
+    } else {
+        0.0 / 0.0
+    }
+}
