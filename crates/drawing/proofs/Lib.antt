@@ -1,0 +1,8 @@
+-- The laws of the definitions, a file for each notion. Other crates cite these.
+pub mod EntryLaws
+pub mod Scans
+pub mod FirstRefusal
+pub mod AnyOrder
+pub mod ListOrders
+pub mod GapLaws
+pub mod Examples

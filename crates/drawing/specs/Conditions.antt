@@ -1,0 +1,55 @@
+-- The conditions of document 01's refusals 2 to 6, each over the lists alone.
+use mathlib.Core.Bool.{Bool, not, _||_}
+use mathlib.Core.List.{List}
+use Prim.Native.Nat.{ℕ, _+_, _*_}
+use lib.Dec.{ltb, eqb}
+use lib.Ieee.{Float, binary64, add, lt}
+use lib.Ieee.Scale.{finite}
+use Rattle.laws.specs.Lists.{some-of}
+use Rattle.floats.specs.Values.{plusZero}
+use Rattle.floats.specs.Grid.{onGrid}
+use Rattle.drawing.specs.Entries.{Segment, Node}
+
+-- 2. "The columns of one list differ in length": some length is not the first one's
+unfoldable pub differ : ℕ → List ℕ → Bool
+differ n l = some-of (λ m. not (eqb n m)) l
+
+-- 3. "A list holds more than 4,096 entries"
+unfoldable pub tooMany : ℕ → Bool
+tooMany n = ltb 4096 n
+
+-- 4. "The scratch is shorter than stated above": "at least 32 times (segments + nodes) plus 64 words"
+unfoldable pub shortScratch : ℕ → ℕ → ℕ → Bool
+shortScratch words segments nodes = ltb words (32 * (segments + nodes) + 64)
+
+-- 5. "an orientation byte above 1, a non-finite number, start not below end"
+unfoldable pub unfitLine : ℕ → Float → Float → Float → Bool
+unfitLine orientation fixed start end = ltb 1 orientation || not (finite fixed) || not (finite start) || not (finite end) || not (lt start end)
+
+unfoldable pub unfitSegment : Segment → Bool
+unfitSegment s = unfitLine (s .orientation) (s .fixed) (s .start) (s .end)
+
+-- 5. along one axis of a node's box: "a non-finite number, .. width or height not above 0, a non-finite right or bottom edge"
+unfoldable pub unfitExtent : Float → Float → Bool
+unfitExtent corner extent = not (finite corner) || not (finite extent) || not (lt plusZero extent) || not (finite (add binary64 corner extent))
+
+unfoldable pub unfitNode : Node → Bool
+unfitNode n = unfitExtent (n .x) (n .width) || unfitExtent (n .y) (n .height)
+
+-- 5. "a non-finite number, .. or a threshold below 0 (-0 passes)"
+unfoldable pub unfitThreshold : Float → Bool
+unfitThreshold t = not (finite t) || lt t plusZero
+
+-- 5. "a non-finite number"
+unfoldable pub unfitCutoff : Float → Bool
+unfitCutoff c = not (finite c)
+
+-- 6. "a coordinate or the cutoff is off the grid"
+unfoldable pub offGridLine : Float → Float → Float → Bool
+offGridLine fixed start end = not (onGrid fixed) || not (onGrid start) || not (onGrid end)
+
+unfoldable pub offGridSegment : Segment → Bool
+offGridSegment s = offGridLine (s .fixed) (s .start) (s .end)
+
+unfoldable pub offGridCutoff : Float → Bool
+offGridCutoff c = not (onGrid c)

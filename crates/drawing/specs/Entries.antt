@@ -1,0 +1,81 @@
+-- The entries that columns stand for: "columns of equal length (net, orientation byte 1 horizontal or 0 vertical, fixed, start, end)".
+use mathlib.Core.List.{List, [], _∷_}
+use Prim.Native.Nat.{ℕ}
+use lib.Ieee.{Float}
+
+pub record Segment : Type 0 where
+  pub net : ℕ
+  pub orientation : ℕ
+  pub fixed : Float
+  pub start : Float
+  pub end : Float
+
+pub record Node : Type 0 where
+  pub id : ℕ
+  pub x : Float
+  pub y : Float
+  pub width : Float
+  pub height : Float
+
+pub record Exemption : Type 0 where
+  pub net : ℕ
+  pub node : ℕ
+
+-- the columns of each list, as they are lent
+pub record SegmentColumns : Type 0 where
+  pub net : List ℕ
+  pub orientation : List ℕ
+  pub fixed : List Float
+  pub start : List Float
+  pub end : List Float
+
+pub record NodeColumns : Type 0 where
+  pub id : List ℕ
+  pub x : List Float
+  pub y : List Float
+  pub width : List Float
+  pub height : List Float
+
+pub record ExemptionColumns : Type 0 where
+  pub net : List ℕ
+  pub node : List ℕ
+
+abbrev pub segmentColumns : List ℕ → List ℕ → List Float → List Float → List Float → SegmentColumns
+segmentColumns ns os fs ss es = record { net = ns; orientation = os; fixed = fs; start = ss; end = es }
+
+abbrev pub nodeColumns : List ℕ → List Float → List Float → List Float → List Float → NodeColumns
+nodeColumns is xs ys ws hs = record { id = is; x = xs; y = ys; width = ws; height = hs }
+
+abbrev pub exemptionColumns : List ℕ → List ℕ → ExemptionColumns
+exemptionColumns ns ms = record { net = ns; node = ms }
+
+-- the entries at each place, as many as the shortest column holds
+unfoldable pub segmentsOf : List ℕ → List ℕ → List Float → List Float → List Float → List Segment
+segmentsOf [] os fs ss es = []
+segmentsOf (n ∷ ns) [] fs ss es = []
+segmentsOf (n ∷ ns) (o ∷ os) [] ss es = []
+segmentsOf (n ∷ ns) (o ∷ os) (f ∷ fs) [] es = []
+segmentsOf (n ∷ ns) (o ∷ os) (f ∷ fs) (s ∷ ss) [] = []
+segmentsOf (n ∷ ns) (o ∷ os) (f ∷ fs) (s ∷ ss) (e ∷ es) = record { net = n; orientation = o; fixed = f; start = s; end = e } ∷ segmentsOf ns os fs ss es
+
+unfoldable pub nodesOf : List ℕ → List Float → List Float → List Float → List Float → List Node
+nodesOf [] xs ys ws hs = []
+nodesOf (i ∷ is) [] ys ws hs = []
+nodesOf (i ∷ is) (x ∷ xs) [] ws hs = []
+nodesOf (i ∷ is) (x ∷ xs) (y ∷ ys) [] hs = []
+nodesOf (i ∷ is) (x ∷ xs) (y ∷ ys) (w ∷ ws) [] = []
+nodesOf (i ∷ is) (x ∷ xs) (y ∷ ys) (w ∷ ws) (h ∷ hs) = record { id = i; x = x; y = y; width = w; height = h } ∷ nodesOf is xs ys ws hs
+
+unfoldable pub exemptionsOf : List ℕ → List ℕ → List Exemption
+exemptionsOf [] ms = []
+exemptionsOf (n ∷ ns) [] = []
+exemptionsOf (n ∷ ns) (m ∷ ms) = record { net = n; node = m } ∷ exemptionsOf ns ms
+
+abbrev pub segments : SegmentColumns → List Segment
+segments c = segmentsOf (c .net) (c .orientation) (c .fixed) (c .start) (c .end)
+
+abbrev pub nodes : NodeColumns → List Node
+nodes c = nodesOf (c .id) (c .x) (c .y) (c .width) (c .height)
+
+abbrev pub exemptions : ExemptionColumns → List Exemption
+exemptions c = exemptionsOf (c .net) (c .node)

@@ -1,0 +1,19 @@
+-- Columns of equal length: what holds of a list where refusal 2 does not apply. Functions behind check 2 ask it of their columns.
+use mathlib.Core.Path.{_≡_}
+use lib.ListN.{length}
+use Rattle.drawing.specs.Entries.{SegmentColumns, NodeColumns, ExemptionColumns}
+
+pub record SegmentsAgree (c : SegmentColumns) : Type 0 where
+  pub orientation : length (c .orientation) ≡ length (c .net)
+  pub fixed : length (c .fixed) ≡ length (c .net)
+  pub start : length (c .start) ≡ length (c .net)
+  pub end : length (c .end) ≡ length (c .net)
+
+pub record NodesAgree (c : NodeColumns) : Type 0 where
+  pub x : length (c .x) ≡ length (c .id)
+  pub y : length (c .y) ≡ length (c .id)
+  pub width : length (c .width) ≡ length (c .id)
+  pub height : length (c .height) ≡ length (c .id)
+
+pub record ExemptionsAgree (c : ExemptionColumns) : Type 0 where
+  pub node : length (c .node) ≡ length (c .net)

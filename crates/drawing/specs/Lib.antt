@@ -1,0 +1,8 @@
+-- The definitions, a file for each notion.
+pub mod Entries
+pub mod Refusals
+pub mod Conditions
+pub mod Checks
+pub mod Orders
+pub mod Lengths
+pub mod Gaps

@@ -1,0 +1,23 @@
+-- The refusals' numbers, and the first refusal that applies.
+use mathlib.Core.Bool.{Bool, cond}
+use mathlib.Core.List.{List, [], _∷_}
+use Prim.Native.Nat.{ℕ}
+use Rattle.drawing.specs.declared.refusal.Refusal.{Refusal}
+use Rattle.drawing.specs.declared.refusal.Refusal.the-variants.{MalformedFile, ColumnsDiffer, TooManyEntries, ShortScratch, InvalidInput, OffGrid, WorkLimitExceeded}
+use Rattle.drawing.specs.declared.refusal.Check.{Check}
+use Rattle.drawing.specs.declared.refusal.Check.the-variants.{Passed, Refused}
+
+-- document 01, 'Turned down, in checking order': the number of each
+unfoldable pub numberOf : Refusal → ℕ
+numberOf MalformedFile = 1
+numberOf ColumnsDiffer = 2
+numberOf TooManyEntries = 3
+numberOf ShortScratch = 4
+numberOf InvalidInput = 5
+numberOf OffGrid = 6
+numberOf WorkLimitExceeded = 7
+
+-- conditions with their refusals, in checking order: "the first refusal that applies"
+unfoldable pub firstOf : List (Bool × Refusal) → Check
+firstOf [] = Passed
+firstOf (c ∷ l) = let r = firstOf l in cond (c .0) (Refused (c .1)) r

@@ -1,0 +1,34 @@
+// Why a call is turned down, one case for each number of document 01's list 'Turned down'.
+ghost use mathlib.Core.Path.{_≡_};
+ghost use Rattle.drawing.specs.Refusals as Refusals;
+
+pub enum Refusal {
+    MalformedFile,
+    ColumnsDiffer,
+    TooManyEntries,
+    ShortScratch,
+    InvalidInput,
+    OffGrid,
+    WorkLimitExceeded,
+}
+
+// What the checks of a call answer before any work starts.
+pub enum Check {
+    Passed,
+    Refused(Refusal),
+}
+
+// The refusal's number.
+pub fn number(refusal: Refusal) -> u8
+    ensures { λ r. ⌜ r ≡ Refusals.numberOf refusal ⌝ }
+{
+    match refusal {
+        Refusal::MalformedFile => 1,
+        Refusal::ColumnsDiffer => 2,
+        Refusal::TooManyEntries => 3,
+        Refusal::ShortScratch => 4,
+        Refusal::InvalidInput => 5,
+        Refusal::OffGrid => 6,
+        Refusal::WorkLimitExceeded => 7,
+    }
+}
