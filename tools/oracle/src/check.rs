@@ -1,0 +1,144 @@
+//! The comparison of many drawings: D with the marked cases first, then
+//! generated ones.
+
+use crate::{
+    drawing::{drawing_d, Drawing, SHEET_OF_D},
+    examine::{smallest_difference, Examined},
+    generate,
+    listing::listing,
+    marked,
+    random::Random,
+    report::MEASURES,
+    sheet,
+};
+
+/// Compares `count` drawings, D first, prints what was met, and returns how
+/// many differ.
+pub fn check(count: u64, seed: u64) -> u64 {
+    let mut tally = Tally::default();
+    for index in 0..count {
+        if index == 0 {
+            let examined = Examined::new(drawing_d());
+            let mut differences = examined.differences();
+            differences.extend(differences_on_document_01());
+            tally.add(index, "drawing D", examined, differences);
+        } else {
+            let (name, examined) = generated(seed, index);
+            let differences = examined.differences();
+            tally.add(index, name, examined, differences);
+        }
+    }
+    tally.print();
+    tally.differ
+}
+
+/// Drawing number `index` of a run, with the name of its kind.
+fn generated(seed: u64, index: u64) -> (&'static str, Examined) {
+    let mut random = Random::for_drawing(seed, index);
+    let (kind, name) = generate::any_kind(&mut random);
+    let most = generate::any_length(&mut random);
+    let mut examined = Examined::new(generate::drawing(kind, &most, &mut random));
+    examined.aim(generate::aims(&mut random));
+    (name, examined)
+}
+
+/// What document 01 says of single drawings: D's sheet and the marked cases.
+/// Both computations must give it.
+fn differences_on_document_01() -> Vec<String> {
+    let mut found = Vec::new();
+    for sheet in both_sheets(&drawing_d()) {
+        if sheet != SHEET_OF_D {
+            found.push(format!("drawing D's sheet: {sheet}"));
+        }
+    }
+    for case in marked::cases() {
+        for sheet in both_sheets(&case.drawing) {
+            if !case.holds_on(&sheet) {
+                found.push(format!("marked case ({}): {sheet}", case.name));
+            }
+        }
+    }
+    found
+}
+
+/// The Rust's sheet and the all-pairs sheet, or the fault in the place of one.
+fn both_sheets(drawing: &Drawing) -> [String; 2] {
+    [sheet::by_reference(drawing), sheet::by_pairs(drawing)]
+        .map(|sheet| sheet.unwrap_or_else(|fault| fault.to_string()))
+}
+
+/// What a run met.
+#[derive(Default)]
+struct Tally {
+    agree: u64,
+    differ: u64,
+    kinds: Vec<(&'static str, u64)>,
+    reports: [u64; 3],
+    refused: [u64; 3],
+    first_to_differ: Vec<String>,
+    smallest: Option<(Drawing, Vec<String>)>,
+}
+
+impl Tally {
+    fn add(
+        &mut self,
+        index: u64,
+        kind: &'static str,
+        examined: Examined,
+        differences: Vec<String>,
+    ) {
+        self.count_kind(kind);
+        for (place, answer) in examined.answers.iter().enumerate() {
+            match answer {
+                Ok(Ok(_)) => self.reports[place] += 1,
+                Ok(Err(_)) => self.refused[place] += 1,
+                Err(_) => {}
+            }
+        }
+        if differences.is_empty() {
+            self.agree += 1;
+            return;
+        }
+        self.differ += 1;
+        if self.first_to_differ.len() < 10 {
+            self.first_to_differ.push(format!("{index} ({kind})"));
+        }
+        let fewest = self.smallest.as_ref().map(|(drawing, _)| drawing.entries());
+        if fewest.is_none_or(|fewest| examined.drawing.entries() < fewest) {
+            self.smallest = Some((examined.drawing, differences));
+        }
+    }
+
+    fn count_kind(&mut self, kind: &'static str) {
+        match self.kinds.iter_mut().find(|(name, _)| *name == kind) {
+            Some((_, count)) => *count += 1,
+            None => self.kinds.push((kind, 1)),
+        }
+    }
+
+    fn print(&self) {
+        let kinds: Vec<String> = self
+            .kinds
+            .iter()
+            .map(|(name, count)| format!("{name} {count}"))
+            .collect();
+        println!("drawings: {}", kinds.join(", "));
+        for (place, measure) in MEASURES.into_iter().enumerate() {
+            println!(
+                "{}: {} reports, {} refused before work",
+                measure.name(),
+                self.reports[place],
+                self.refused[place]
+            );
+        }
+        if let Some((drawing, differences)) = &self.smallest {
+            println!("first to differ: {}", self.first_to_differ.join(", "));
+            println!("the smallest that differs:");
+            match smallest_difference(drawing) {
+                Some(text) => println!("{text}"),
+                None => println!("{}\n{}", listing(drawing), differences.join("\n")),
+            }
+        }
+        println!("{} agree, {} differ", self.agree, self.differ);
+    }
+}

@@ -1,0 +1,172 @@
+//! A drawing: the lists and settings that document 01's measures are given,
+//! the orders in which its lists are walked, and drawing D.
+
+use std::cmp::Ordering;
+
+pub const VERTICAL: u8 = 0;
+pub const HORIZONTAL: u8 = 1;
+
+/// A straight wire. `fixed` is y for a horizontal wire and x for a vertical
+/// one; `start` and `end` lie along the other axis.
+#[derive(Clone, Copy, Debug)]
+pub struct Segment {
+    pub net: u32,
+    /// A byte and not a bool, because a column of bytes may hold an unfit one.
+    pub orientation: u8,
+    pub fixed: f64,
+    pub start: f64,
+    pub end: f64,
+}
+
+#[derive(Clone, Copy, Debug)]
+pub struct Node {
+    pub id: u32,
+    pub x: f64,
+    pub y: f64,
+    pub width: f64,
+    pub height: f64,
+}
+
+/// Says that clearance leaves out the net's segments against every node of
+/// that id.
+#[derive(Clone, Copy, Debug)]
+pub struct Exemption {
+    pub net: u32,
+    pub node: u32,
+}
+
+/// The most visits that each measure may make.
+#[derive(Clone, Copy, Debug)]
+pub struct Allowances {
+    pub clearance: u64,
+    pub separation: u64,
+    pub congestion: u64,
+}
+
+#[derive(Clone, Debug)]
+pub struct Drawing {
+    pub segments: Vec<Segment>,
+    pub nodes: Vec<Node>,
+    pub exemptions: Vec<Exemption>,
+    pub threshold: f64,
+    pub cutoff: f64,
+    pub allowances: Allowances,
+}
+
+/// Zero of either sign becomes +0; every other value stays.
+pub fn plus_zero(value: f64) -> f64 {
+    if value == 0.0 {
+        0.0
+    } else {
+        value
+    }
+}
+
+impl Segment {
+    fn with_plus_zeros(self) -> Self {
+        Self {
+            fixed: plus_zero(self.fixed),
+            start: plus_zero(self.start),
+            end: plus_zero(self.end),
+            ..self
+        }
+    }
+
+    /// Document 01's order of segments: net, orientation byte, fixed, start,
+    /// end, floats by totalOrder.
+    fn list_order(&self, other: &Self) -> Ordering {
+        self.net
+            .cmp(&other.net)
+            .then(self.orientation.cmp(&other.orientation))
+            .then(self.fixed.total_cmp(&other.fixed))
+            .then(self.start.total_cmp(&other.start))
+            .then(self.end.total_cmp(&other.end))
+    }
+}
+
+impl Node {
+    /// The right edge: x + width, rounded once.
+    pub fn right(&self) -> f64 {
+        self.x + self.width
+    }
+
+    /// The bottom edge: y + height, rounded once.
+    pub fn bottom(&self) -> f64 {
+        self.y + self.height
+    }
+
+    /// Document 01's order of nodes: id, x, y, width, height, floats by
+    /// totalOrder.
+    fn list_order(&self, other: &Self) -> Ordering {
+        self.id
+            .cmp(&other.id)
+            .then(self.x.total_cmp(&other.x))
+            .then(self.y.total_cmp(&other.y))
+            .then(self.width.total_cmp(&other.width))
+            .then(self.height.total_cmp(&other.height))
+    }
+}
+
+impl Drawing {
+    /// How many entries its three lists hold together.
+    pub fn entries(&self) -> usize {
+        self.segments.len() + self.nodes.len() + self.exemptions.len()
+    }
+
+    /// The same drawing with the zeros of its segments made +0.
+    pub fn with_plus_zeros(&self) -> Self {
+        let segments = self.segments.iter().copied();
+        Self {
+            segments: segments.map(Segment::with_plus_zeros).collect(),
+            ..self.clone()
+        }
+    }
+
+    /// The same drawing with its lists in document 01's orders. Exemptions are
+    /// a set, so their order stays as it is.
+    pub fn in_list_order(&self) -> Self {
+        let mut ordered = self.clone();
+        ordered.segments.sort_by(Segment::list_order);
+        ordered.nodes.sort_by(Node::list_order);
+        ordered
+    }
+}
+
+/// The sheet that document 01 prints for drawing D.
+pub const SHEET_OF_D: &str = "\
+clearance 3ff0000000000000 1 2
+separation 4010000000000000 4010000000000000 16
+congestion 4034000000000000 4024000000000000 4014000000000000 1 4010000000000000 4
+";
+
+/// Document 01's drawing D.
+pub fn drawing_d() -> Drawing {
+    Drawing {
+        segments: vec![horizontal(1, 0.0, 0.0, 10.0), horizontal(2, 4.0, 5.0, 15.0)],
+        nodes: vec![Node {
+            id: 7,
+            x: 2.0,
+            y: 1.0,
+            width: 3.0,
+            height: 2.0,
+        }],
+        exemptions: vec![Exemption { net: 2, node: 7 }],
+        threshold: 2.0,
+        cutoff: 6.0,
+        allowances: Allowances {
+            clearance: 1_000,
+            separation: 1_000,
+            congestion: 1_000,
+        },
+    }
+}
+
+pub fn horizontal(net: u32, fixed: f64, start: f64, end: f64) -> Segment {
+    Segment {
+        net,
+        orientation: HORIZONTAL,
+        fixed,
+        start,
+        end,
+    }
+}

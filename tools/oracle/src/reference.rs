@@ -1,0 +1,309 @@
+//! The reference: the unchanged Rust, run on a drawing's lists.
+//!
+//! It is fed lists in document 01's order. Congestion is fed +0 for every
+//! zero, and the total of an empty list is read as +0: both are departures of
+//! document 01. A panic of the reference is caught and reported as a fault.
+
+use std::{
+    cell::Cell,
+    fmt,
+    panic::{self, AssertUnwindSafe},
+    sync::Once,
+};
+
+use crate::{
+    drawing::{plus_zero, Drawing, Segment, HORIZONTAL},
+    pairs,
+    readability::{
+        measure_edge_node_clearance_bounded, measure_parallel_congestion,
+        measure_parallel_congestion_profile_bounded, measure_parallel_density_profile_bounded,
+        measure_parallel_separation_bounded, EdgeNodeClearanceError, EdgeNodeSegment,
+        NetNodeRelation, ParallelCongestion, ParallelSegment, ParallelSeparationError,
+    },
+    refusals::{before_work, Lent, Refusal},
+    report::{Answer, Figure, Measure, Report},
+    NodeGeometry,
+};
+
+/// How one call of the reference ended.
+#[derive(Clone, Debug, PartialEq)]
+pub enum Run {
+    Done(Vec<Figure>),
+    Unfit,
+    Spent,
+    Panicked(String),
+}
+
+/// The reference did what document 01 leaves no room for.
+#[derive(Clone, Debug)]
+pub struct Fault(pub String);
+
+impl fmt::Display for Fault {
+    fn fmt(&self, formatter: &mut fmt::Formatter<'_>) -> fmt::Result {
+        formatter.write_str(&self.0)
+    }
+}
+
+/// A drawing as the reference takes it.
+pub struct Fed {
+    routes: Vec<EdgeNodeSegment>,
+    nodes: Vec<NodeGeometry>,
+    relations: Vec<NetNodeRelation>,
+    wires: Vec<ParallelSegment>,
+    wires_with_plus_zeros: Vec<ParallelSegment>,
+    threshold: f64,
+    cutoff: f64,
+}
+
+impl Fed {
+    /// The lists in document 01's order: what every comparison rests on.
+    pub fn in_list_order(drawing: &Drawing) -> Self {
+        Self::new(
+            &drawing.in_list_order(),
+            &drawing.with_plus_zeros().in_list_order(),
+        )
+    }
+
+    /// The lists in the order that they are given in: only to see that the
+    /// order decides nothing.
+    pub fn as_given(drawing: &Drawing) -> Self {
+        Self::new(drawing, &drawing.with_plus_zeros())
+    }
+
+    fn new(drawing: &Drawing, with_plus_zeros: &Drawing) -> Self {
+        Self {
+            routes: drawing.segments.iter().map(route).collect(),
+            nodes: drawing
+                .nodes
+                .iter()
+                .map(|node| NodeGeometry {
+                    id: node.id,
+                    x: node.x,
+                    y: node.y,
+                    width: node.width,
+                    height: node.height,
+                })
+                .collect(),
+            relations: drawing
+                .exemptions
+                .iter()
+                .map(|exemption| NetNodeRelation {
+                    net: exemption.net,
+                    node: exemption.node,
+                })
+                .collect(),
+            wires: drawing.segments.iter().map(wire).collect(),
+            wires_with_plus_zeros: with_plus_zeros.segments.iter().map(wire).collect(),
+            threshold: drawing.threshold,
+            cutoff: drawing.cutoff,
+        }
+    }
+
+    /// Runs a measure of the sheet under a limit of visits.
+    pub fn run(&self, measure: Measure, limit: u64) -> Run {
+        let limit = usize::try_from(limit).unwrap_or(usize::MAX);
+        catching_panics(|| match measure {
+            Measure::Clearance => self.clearance(limit),
+            Measure::Separation => self.separation(limit),
+            Measure::Congestion => congestion_run(measure_parallel_density_profile_bounded(
+                &self.wires_with_plus_zeros,
+                self.cutoff,
+                limit,
+            )),
+        })
+    }
+
+    /// Runs the congestion call that leaves pair overlap and peak out.
+    pub fn run_profile(&self, limit: u64) -> Run {
+        let limit = usize::try_from(limit).unwrap_or(usize::MAX);
+        catching_panics(|| {
+            congestion_run(measure_parallel_congestion_profile_bounded(
+                &self.wires_with_plus_zeros,
+                self.cutoff,
+                limit,
+            ))
+        })
+    }
+
+    /// Runs the congestion call that has no limit. Its figures are the four
+    /// lengths and counts, which come without a gap, and then their ratio.
+    pub fn run_without_limit(&self) -> Run {
+        catching_panics(|| {
+            let congestion = measure_parallel_congestion(&self.wires_with_plus_zeros, self.cutoff);
+            let mut figures = congestion_figures(congestion);
+            figures.push(Figure::Length(congestion.ratio()));
+            Run::Done(figures)
+        })
+    }
+
+    fn clearance(&self, limit: usize) -> Run {
+        let measured = measure_edge_node_clearance_bounded(
+            &self.routes,
+            &self.nodes,
+            &self.relations,
+            self.threshold,
+            limit,
+        );
+        match measured {
+            Ok(clearance) => Run::Done(vec![
+                Figure::Gap(clearance.minimum_clearance),
+                Figure::Count(clearance.violations as u64),
+            ]),
+            Err(EdgeNodeClearanceError::InvalidInput) => Run::Unfit,
+            Err(EdgeNodeClearanceError::WorkLimitExceeded) => Run::Spent,
+        }
+    }
+
+    fn separation(&self, limit: usize) -> Run {
+        match measure_parallel_separation_bounded(&self.wires, limit) {
+            Ok(separation) => Run::Done(vec![
+                Figure::Gap(separation.minimum),
+                Figure::Gap(separation.minimum_positive),
+            ]),
+            Err(ParallelSeparationError::InvalidInput) => Run::Unfit,
+            Err(ParallelSeparationError::WorkLimitExceeded) => Run::Spent,
+        }
+    }
+}
+
+/// The answer that the reference gives where no allowance runs out: its
+/// figures with its visit count, or the refusal that comes before work.
+pub fn answer_without_limit(
+    measure: Measure,
+    drawing: &Drawing,
+    fed: &Fed,
+) -> Result<Answer, Fault> {
+    match before_work(measure, drawing, &Lent::enough_for(drawing)) {
+        None => report(measure, drawing, fed).map(Ok),
+        Some(Refusal::Unfit) if checks_its_input(measure) => match fed.run(measure, u64::MAX) {
+            Run::Unfit => Ok(Err(Refusal::Unfit)),
+            run => Err(unexpected(measure, "the drawing is unfit", &run)),
+        },
+        Some(refusal) => Ok(Err(refusal)),
+    }
+}
+
+/// The answer that the reference gives under the drawing's own allowance.
+pub fn answer(measure: Measure, drawing: &Drawing) -> Result<Answer, Fault> {
+    let fed = Fed::in_list_order(drawing);
+    match answer_without_limit(measure, drawing, &fed)? {
+        Err(refusal) => Ok(Err(refusal)),
+        Ok(report) => match fed.run(measure, measure.allowance(drawing)) {
+            Run::Done(figures) => Ok(Ok(Report { figures, ..report })),
+            Run::Spent => Ok(Err(Refusal::Spent)),
+            run => Err(unexpected(measure, "the drawing is fit", &run)),
+        },
+    }
+}
+
+/// Congestion takes every float, so that the reference says nothing there.
+fn checks_its_input(measure: Measure) -> bool {
+    measure != Measure::Congestion
+}
+
+/// Figures and visit count. The reference keeps its count to itself, so the
+/// count is the least limit that it accepts, found by halving.
+fn report(measure: Measure, drawing: &Drawing, fed: &Fed) -> Result<Report, Fault> {
+    let mut enough = pairs::most_visits(measure, drawing);
+    let mut figures = match fed.run(measure, enough) {
+        Run::Done(figures) => figures,
+        Run::Spent => {
+            let suffice = format!("{enough} visits always suffice");
+            return Err(unexpected(measure, &suffice, &Run::Spent));
+        }
+        run => return Err(unexpected(measure, "the drawing is fit", &run)),
+    };
+    let mut least = 0;
+    while least < enough {
+        let limit = least + (enough - least) / 2;
+        match fed.run(measure, limit) {
+            Run::Done(found) => {
+                figures = found;
+                enough = limit;
+            }
+            Run::Spent => least = limit + 1,
+            run => return Err(unexpected(measure, "the drawing is fit", &run)),
+        }
+    }
+    Ok(Report {
+        figures,
+        visits: enough,
+    })
+}
+
+fn unexpected(measure: Measure, though: &str, run: &Run) -> Fault {
+    Fault(format!(
+        "{}: {though}, yet the Rust answers {run:?}",
+        measure.name()
+    ))
+}
+
+fn route(segment: &Segment) -> EdgeNodeSegment {
+    EdgeNodeSegment {
+        net: segment.net,
+        horizontal: segment.orientation == HORIZONTAL,
+        fixed: segment.fixed,
+        start: segment.start,
+        end: segment.end,
+    }
+}
+
+fn wire(segment: &Segment) -> ParallelSegment {
+    ParallelSegment {
+        net: segment.net,
+        horizontal: segment.orientation == HORIZONTAL,
+        fixed: segment.fixed,
+        start: segment.start,
+        end: segment.end,
+    }
+}
+
+fn congestion_run(measured: Option<(ParallelCongestion, Option<f64>)>) -> Run {
+    match measured {
+        Some((congestion, least_nonzero)) => {
+            let mut figures = congestion_figures(congestion);
+            figures.push(Figure::Gap(least_nonzero));
+            Run::Done(figures)
+        }
+        None => Run::Spent,
+    }
+}
+
+/// The figures without the gap. Only an empty list can have a total of -0.
+fn congestion_figures(congestion: ParallelCongestion) -> Vec<Figure> {
+    vec![
+        Figure::Length(plus_zero(congestion.total_length)),
+        Figure::Length(congestion.congested_length),
+        Figure::Length(congestion.pair_overlap_length),
+        Figure::Count(congestion.peak_close_neighbors as u64),
+    ]
+}
+
+thread_local! {
+    /// Whether this thread is inside a call of the reference.
+    static IN_REFERENCE: Cell<bool> = const { Cell::new(false) };
+}
+
+/// Runs a call of the reference; where it panics, returns its words and keeps
+/// them off the terminal. Panics of our own stay loud.
+fn catching_panics(call: impl FnOnce() -> Run) -> Run {
+    static QUIET: Once = Once::new();
+    QUIET.call_once(|| {
+        let loud = panic::take_hook();
+        panic::set_hook(Box::new(move |panicked| {
+            if !IN_REFERENCE.get() {
+                loud(panicked);
+            }
+        }));
+    });
+    IN_REFERENCE.set(true);
+    let ended = panic::catch_unwind(AssertUnwindSafe(call));
+    IN_REFERENCE.set(false);
+    ended.unwrap_or_else(|payload| {
+        let words = payload
+            .downcast_ref::<String>()
+            .map(String::as_str)
+            .or_else(|| payload.downcast_ref::<&str>().copied());
+        Run::Panicked(words.unwrap_or("no words").to_string())
+    })
+}
