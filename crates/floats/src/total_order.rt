@@ -1,6 +1,8 @@
 // IEEE 754's totalOrder on bit patterns of binary64, and its key: a number whose order is totalOrder.
 ghost use mathlib.Core.Path.{_≡_};
 ghost use Rattle.floats.specs.TotalOrder as TotalOrder;
+use crate::patterns::bits_of;
+use crate::patterns::float_of_bits;
 
 pub enum Ordering {
     Less,
@@ -45,26 +47,16 @@ pub fn total_cmp(a: u64, b: u64) -> Ordering
     }
 }
 
-// The key of a float. No bits are read of a NaN: it has the key of the one pattern that stands for it.
+// The key of a float.
 pub fn key_of(x: f64) -> u64
     ensures { λ r. ⌜ r ≡ TotalOrder.keyOf x ⌝ }
 {
-    if x == x {
-        let bits = f64::to_bits(x);
-        total_order_key(bits)
-    } else {
-        0xfff8_0000_0000_0000
-    }
+    total_order_key(bits_of(x))
 }
 
-// The float that has a key. No NaN pattern is read: a NaN stands for each of them.
+// The float that has a key, a NaN where the key is a NaN's.
 pub fn float_of_key(key: u64) -> f64
     ensures { λ r. ⌜ r ≡ TotalOrder.floatAt key ⌝ }
 {
-    let bits = pattern_of_key(key);
-    if bits % 0x8000_0000_0000_0000 <= 0x7ff0_0000_0000_0000 {
-        f64::from_bits(bits)
-    } else {
-        0.0 / 0.0
-    }
+    float_of_bits(pattern_of_key(key))
 }
