@@ -1,0 +1,175 @@
+-- Document 01's marked cases of congestion, and a few drawings more, by computing the definitions. Assumes nothing.
+use mathlib.Core.Path.{_≡_, refl}
+use mathlib.Core.List.{List, [], _∷_}
+use mathlib.Core.Option.{none, some}
+use mathlib.Core.Bool.{true, false}
+use Prim.Native.Nat.{ℕ}
+use lib.Ieee.{Float, binary64, ofBits, toBits, round, sub, div, lt}
+use Rattle.laws.specs.Lists.{some-of, chosen, fold, pairs}
+use Rattle.laws.specs.Rows.{rowLe}
+use Rattle.laws.specs.Sort.{insertBy, sortBy}
+use Rattle.laws.specs.Least.{lesser, least}
+use Rattle.laws.specs.Charged.{runs, settle}
+use Rattle.floats.specs.TotalOrder.{key, keyOf}
+use Rattle.floats.specs.Values.{gapOf, absOf}
+use Rattle.floats.specs.Grid.{onGrid, steps, unit, ofUnits}
+use Rattle.drawing.specs.Entries.{SegmentColumns, segmentColumns, segmentsOf, segments}
+use Rattle.drawing.specs.Orders.{segmentRow, segmentsInOrder}
+use Rattle.drawing.specs.Refusals.{numberOf, firstOf}
+use Rattle.drawing.specs.Conditions.{differ, tooMany, shortScratch, unfitLine, unfitSegment, unfitCutoff, offGridLine, offGridSegment, offGridCutoff}
+use Rattle.drawing.specs.Checks.{segmentsDiffer, separationConditions, congestionConditions}
+use Rattle.drawing.specs.Gaps.{gapFrom, leastGap}
+use Rattle.drawing.specs.declared.gap.Gap.{Gap}
+use Rattle.drawing.specs.declared.gap.Gap.the-variants.{Absent, Present}
+use Rattle.drawing.specs.declared.refusal.Refusal.the-variants.{OffGrid, WorkLimitExceeded}
+use Rattle.congestion.specs.declared.report.CongestionAnswer.{CongestionAnswer}
+use Rattle.congestion.specs.declared.report.CongestionAnswer.the-variants.{Report, Refused}
+use Rattle.congestion.specs.Wires.{Wire, cutoffOf}
+use Rattle.congestion.specs.Cells.{cellsFrom}
+use Rattle.congestion.specs.Figures.{total, stretches, congested, closeOtherPairs, pairOverlap, peak, closePairs, visits}
+use Rattle.congestion.specs.Profile.{lengths, leastNonzero, allPairs}
+use Rattle.congestion.specs.Sweep.{inOrder, oriented, ofOrientation, sweepWires, sweep}
+use Rattle.congestion.specs.Answer.{settled, densityAnswer, profileAnswer, congestionAnswer, zeros, resultOf}
+use Rattle.congestion.specs.Ratio.{clamp, ratio}
+use Rattle.congestion.proofs.SweepFigures.{gathered, found}
+
+abbrev float : ℕ → Float
+float b = ofBits binary64 b
+
+-- the bits of 0, 4, 5, 6, 10 and 15
+abbrev f0 : Float
+f0 = float 0
+
+abbrev f4 : Float
+f4 = float 0x4010_0000_0000_0000
+
+abbrev f5 : Float
+f5 = float 0x4014_0000_0000_0000
+
+abbrev f6 : Float
+f6 = float 0x4018_0000_0000_0000
+
+abbrev f10 : Float
+f10 = float 0x4024_0000_0000_0000
+
+abbrev f15 : Float
+f15 = float 0x402e_0000_0000_0000
+
+abbrev f20 : Float
+f20 = float 0x4034_0000_0000_0000
+
+-- an accepted call's answer
+abbrev report : Float → Float → Float → ℕ → Gap → ℕ → CongestionAnswer
+report t c o p g n = Report (record { congestion = record { «total_length» = t; «congested_length» = c; «pair_overlap_length» = o; «peak_close_neighbors» = p }; «minimum_positive» = g; visits = n })
+
+-- "net 1 horizontal at 0 from 0 to 10; net 2 horizontal at 4 from 5 to 15"
+abbrev D : SegmentColumns
+D = segmentColumns (1 ∷ 2 ∷ []) (1 ∷ 1 ∷ []) (f0 ∷ f4 ∷ []) (f0 ∷ f5 ∷ []) (f10 ∷ f15 ∷ [])
+
+-- "congestion 4034000000000000 4024000000000000 4014000000000000 1 4010000000000000 4", and marked case (c): "D's congestion at 4 and 3"
+pub D-at-4 : densityAnswer D f6 4 128 ≡ report f20 f10 f5 1 (Present f4) 4
+unfolding densityAnswer settled settle allPairs leastNonzero lengths total stretches congested closeOtherPairs pairOverlap peak closePairs visits cutoffOf cellsFrom some-of chosen fold pairs lesser least gapOf absOf onGrid steps unit ofUnits segmentsOf firstOf differ tooMany shortScratch unfitLine unfitSegment unfitCutoff offGridLine offGridSegment offGridCutoff segmentsDiffer separationConditions congestionConditions gapFrom leastGap ofBits round sub lt
+D-at-4 = refl
+
+pub D-at-3 : densityAnswer D f6 3 128 ≡ Refused WorkLimitExceeded
+unfolding densityAnswer settled settle allPairs leastNonzero lengths total stretches congested closeOtherPairs pairOverlap peak closePairs visits cutoffOf cellsFrom some-of chosen fold pairs lesser least gapOf absOf onGrid steps unit ofUnits segmentsOf firstOf differ tooMany shortScratch unfitLine unfitSegment unfitCutoff offGridLine offGridSegment offGridCutoff segmentsDiffer separationConditions congestionConditions gapFrom leastGap ofBits round sub lt
+D-at-3 = refl
+
+-- as a result: "A refusal returns its number and a report of zeros and absent gaps"
+pub D-spent : resultOf (densityAnswer D f6 3 128) ≡ (7, zeros)
+unfolding resultOf numberOf densityAnswer settled settle allPairs leastNonzero lengths total stretches congested closeOtherPairs pairOverlap peak closePairs visits cutoffOf cellsFrom some-of chosen fold pairs lesser least gapOf absOf onGrid steps unit ofUnits segmentsOf firstOf differ tooMany shortScratch unfitLine unfitSegment unfitCutoff offGridLine offGridSegment offGridCutoff segmentsDiffer separationConditions congestionConditions gapFrom leastGap ofBits round sub lt
+D-spent = refl
+
+pub D-profile : profileAnswer D f6 4 128 ≡ report f20 f10 f0 0 (Present f4) 4
+unfolding profileAnswer settled settle allPairs leastNonzero lengths total stretches congested closeOtherPairs pairOverlap peak closePairs visits cutoffOf cellsFrom some-of chosen fold pairs lesser least gapOf absOf onGrid steps unit ofUnits segmentsOf firstOf differ tooMany shortScratch unfitLine unfitSegment unfitCutoff offGridLine offGridSegment offGridCutoff segmentsDiffer separationConditions congestionConditions gapFrom leastGap ofBits round sub lt
+D-profile = refl
+
+pub D-congestion : congestionAnswer D f6 128 ≡ report f20 f10 f5 1 (Present f4) 4
+unfolding congestionAnswer allPairs leastNonzero lengths total stretches congested closeOtherPairs pairOverlap peak closePairs visits cutoffOf cellsFrom some-of chosen fold pairs lesser least gapOf absOf onGrid steps unit ofUnits segmentsOf firstOf differ tooMany shortScratch unfitLine unfitSegment unfitCutoff offGridLine offGridSegment offGridCutoff segmentsDiffer separationConditions congestionConditions gapFrom leastGap ofBits round sub lt
+D-congestion = refl
+
+-- the sweep of D, its visits counted event by event
+pub D-sweep : sweep f6 (segments D) ≡ allPairs f6 (segments D)
+unfolding sweep sweepWires ofOrientation oriented runs inOrder sortBy insertBy rowLe segmentsInOrder segmentRow keyOf key allPairs leastNonzero lengths total stretches congested closeOtherPairs pairOverlap peak closePairs visits cutoffOf cellsFrom some-of chosen fold pairs lesser least gapOf absOf steps unit ofUnits segmentsOf gapFrom leastGap ofBits toBits round sub lt
+D-sweep = refl
+
+-- half of D's wire is congested
+pub D-ratio : ratio f10 f20 ≡ float 0x3fe0_0000_0000_0000
+unfolding ratio clamp ofBits lt div round
+D-ratio = refl
+
+-- marked case (j): "gap 4, cutoff 4, two overlapping segments: congested 0, 2 visits"
+pub gap-equals-cutoff : densityAnswer D f4 2 128 ≡ report f20 f0 f0 0 Absent 2
+unfolding densityAnswer settled settle allPairs leastNonzero lengths total stretches congested closeOtherPairs pairOverlap peak closePairs visits cutoffOf cellsFrom some-of chosen fold pairs lesser least gapOf absOf onGrid steps unit ofUnits segmentsOf firstOf differ tooMany shortScratch unfitLine unfitSegment unfitCutoff offGridLine offGridSegment offGridCutoff segmentsDiffer separationConditions congestionConditions gapFrom leastGap ofBits round sub lt
+gap-equals-cutoff = refl
+
+-- marked case (k): "1/64 and 1,048,576 pass, 1/128 gives 6": a segment at 1,048,576 up to 1/32
+abbrev one-segment : Float → SegmentColumns
+one-segment start = segmentColumns (1 ∷ []) (1 ∷ []) (float 0x4130_0000_0000_0000 ∷ []) (start ∷ []) (float 0x3fa0_0000_0000_0000 ∷ [])
+
+abbrev f64th : Float
+f64th = float 0x3f90_0000_0000_0000
+
+pub on-the-grid : densityAnswer (one-segment f64th) f64th 0 96 ≡ report f64th f0 f0 0 Absent 0
+unfolding densityAnswer settled settle allPairs leastNonzero lengths total stretches congested closeOtherPairs pairOverlap peak closePairs visits cutoffOf cellsFrom some-of chosen fold pairs lesser least gapOf absOf onGrid steps unit ofUnits segmentsOf firstOf differ tooMany shortScratch unfitLine unfitSegment unfitCutoff offGridLine offGridSegment offGridCutoff segmentsDiffer separationConditions congestionConditions gapFrom leastGap ofBits round sub lt
+on-the-grid = refl
+
+pub off-the-grid : densityAnswer (one-segment (float 0x3f80_0000_0000_0000)) f64th 0 96 ≡ Refused OffGrid
+unfolding densityAnswer settled settle allPairs leastNonzero lengths total stretches congested closeOtherPairs pairOverlap peak closePairs visits cutoffOf cellsFrom some-of chosen fold pairs lesser least gapOf absOf onGrid steps unit ofUnits segmentsOf firstOf differ tooMany shortScratch unfitLine unfitSegment unfitCutoff offGridLine offGridSegment offGridCutoff segmentsDiffer separationConditions congestionConditions gapFrom leastGap ofBits round sub lt
+off-the-grid = refl
+
+-- marked case (l): "fixed -1 and -0, cutoff 1: not close"
+pub minus-zero : densityAnswer (segmentColumns (1 ∷ 2 ∷ []) (1 ∷ 1 ∷ []) (float 0xbff0_0000_0000_0000 ∷ float 0x8000_0000_0000_0000 ∷ []) (f0 ∷ f0 ∷ []) (f10 ∷ f10 ∷ [])) (float 0x3ff0_0000_0000_0000) 2 128 ≡ report f20 f0 f0 0 Absent 2
+unfolding densityAnswer settled settle allPairs leastNonzero lengths total stretches congested closeOtherPairs pairOverlap peak closePairs visits cutoffOf cellsFrom some-of chosen fold pairs lesser least gapOf absOf onGrid steps unit ofUnits segmentsOf firstOf differ tooMany shortScratch unfitLine unfitSegment unfitCutoff offGridLine offGridSegment offGridCutoff segmentsDiffer separationConditions congestionConditions gapFrom leastGap ofBits round sub lt
+minus-zero = refl
+
+-- "Cutoff 0 or less gives total length, zeros and an absent gap", and no visit: at 0, -0 and -4
+pub cutoff-zero : densityAnswer D f0 0 128 ≡ report f20 f0 f0 0 Absent 0
+unfolding densityAnswer settled settle allPairs leastNonzero lengths total stretches congested closeOtherPairs pairOverlap peak closePairs visits cutoffOf cellsFrom some-of chosen fold pairs lesser least gapOf absOf onGrid steps unit ofUnits segmentsOf firstOf differ tooMany shortScratch unfitLine unfitSegment unfitCutoff offGridLine offGridSegment offGridCutoff segmentsDiffer separationConditions congestionConditions gapFrom leastGap ofBits round sub lt
+cutoff-zero = refl
+
+pub cutoff-minus-zero : densityAnswer D (float 0x8000_0000_0000_0000) 0 128 ≡ report f20 f0 f0 0 Absent 0
+unfolding densityAnswer settled settle allPairs leastNonzero lengths total stretches congested closeOtherPairs pairOverlap peak closePairs visits cutoffOf cellsFrom some-of chosen fold pairs lesser least gapOf absOf onGrid steps unit ofUnits segmentsOf firstOf differ tooMany shortScratch unfitLine unfitSegment unfitCutoff offGridLine offGridSegment offGridCutoff segmentsDiffer separationConditions congestionConditions gapFrom leastGap ofBits round sub lt
+cutoff-minus-zero = refl
+
+pub cutoff-below-zero : densityAnswer D (float 0xc010_0000_0000_0000) 0 128 ≡ report f20 f0 f0 0 Absent 0
+unfolding densityAnswer settled settle allPairs leastNonzero lengths total stretches congested closeOtherPairs pairOverlap peak closePairs visits cutoffOf cellsFrom some-of chosen fold pairs lesser least gapOf absOf onGrid steps unit ofUnits segmentsOf firstOf differ tooMany shortScratch unfitLine unfitSegment unfitCutoff offGridLine offGridSegment offGridCutoff segmentsDiffer separationConditions congestionConditions gapFrom leastGap ofBits round sub lt
+cutoff-below-zero = refl
+
+-- "Congestion of an empty list has total +0"
+pub empty-list : densityAnswer (segmentColumns [] [] [] [] []) f6 0 64 ≡ report f0 f0 f0 0 Absent 0
+unfolding densityAnswer settled settle allPairs leastNonzero lengths total stretches congested closeOtherPairs pairOverlap peak closePairs visits cutoffOf cellsFrom some-of chosen fold pairs lesser least gapOf absOf onGrid steps unit ofUnits segmentsOf firstOf differ tooMany shortScratch unfitLine unfitSegment unfitCutoff offGridLine offGridSegment offGridCutoff segmentsDiffer separationConditions congestionConditions gapFrom leastGap ofBits round sub lt
+empty-list = refl
+
+-- ---- drawings in 64ths, by the definition and by the sweep
+abbrev flat : ℕ → ℕ → ℕ → ℕ → Wire
+flat n f a b = record { net = n; horizontal = true; fixed = f; start = a; end = b }
+
+-- two wires on either side of a third, not close to each other: only the count of the wire that started first rises to 2, at the start of another
+abbrev fork : List Wire
+fork = flat 1 64 0 640 ∷ flat 2 0 64 320 ∷ flat 3 128 192 512 ∷ []
+
+pub fork-figures : found 96 fork ≡ gathered 1216 1024 576 2 (some 64) 7
+unfolding lengths total stretches congested closeOtherPairs pairOverlap peak closePairs visits cellsFrom some-of chosen fold pairs lesser
+fork-figures = refl
+
+pub fork-sweep : sweepWires 96 fork ≡ gathered 1216 1024 576 2 (some 64) 7
+unfolding sweepWires ofOrientation oriented runs inOrder sortBy insertBy rowLe lengths total chosen fold lesser
+fork-sweep = refl
+
+-- two nets on one line and a third beside them, where one ends as another starts: the gap 0 is passed over, and the lone vertical wire costs nothing
+abbrev stack : List Wire
+stack = flat 1 0 0 256 ∷ flat 2 0 64 192 ∷ flat 3 64 128 384 ∷ flat 1 64 256 320 ∷ record { net = 9; horizontal = false; fixed = 0; start = 0; end = 64 } ∷ []
+
+pub stack-figures : found 128 stack ≡ gathered 768 576 384 2 (some 64) 12
+unfolding lengths total stretches congested closeOtherPairs pairOverlap peak closePairs visits cellsFrom some-of chosen fold pairs lesser
+stack-figures = refl
+
+pub stack-sweep : sweepWires 128 stack ≡ gathered 768 576 384 2 (some 64) 12
+unfolding sweepWires ofOrientation oriented runs inOrder sortBy insertBy rowLe lengths total chosen fold lesser
+stack-sweep = refl
+
+-- one net: its close pairs cost visits, and none of it is congested
+pub one-net : found 384 (flat 1 0 0 320 ∷ flat 1 64 0 320 ∷ []) ≡ gathered 640 0 0 0 none 4
+unfolding lengths total stretches congested closeOtherPairs pairOverlap peak closePairs visits cellsFrom some-of chosen fold pairs lesser
+one-net = refl

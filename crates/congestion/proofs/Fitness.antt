@@ -1,0 +1,113 @@
+-- What the checks of congestion leave: few segments on the grid, each with its start below its end. Assumes nothing.
+use mathlib.Core.Path.{_≡_, refl, sym, _∙_, subst}
+use mathlib.Core.List.{List, [], _∷_, map}
+use mathlib.Core.Bool.{false, not, _||_}
+use Prim.Native.Nat.{ℕ, _≤_, _<_}
+use native.Mathlib.Nat.{le-trans, le-of-eq}
+use lib.Dec.{T, ltb, ltb→lt}
+use lib.Ieee.{Float, lt}
+use lib.Ieee.Scale.{finite}
+use lib.ListN.{length, length-map}
+use borrow.Author.Tests.{ltb-false, not-false}
+use Rattle.laws.specs.Lists.{Mem, some-of}
+use Rattle.laws.proofs.Tests.{of-true, neither-left, neither-right}
+use Rattle.laws.proofs.ListLaws.{all-mem, none-all, mem-map}
+use Rattle.floats.specs.Values.{plusZero, canonicalZero}
+use Rattle.floats.specs.Grid.{onGrid, steps, unit}
+use Rattle.floats.proofs.Units.{lt-units}
+use Rattle.drawing.specs.Entries.{Segment, SegmentColumns, segments}
+use Rattle.drawing.specs.Refusals.{firstOf}
+use Rattle.drawing.specs.Conditions.{unfitLine, unfitSegment, unfitCutoff, offGridLine, offGridSegment, offGridCutoff}
+use Rattle.drawing.specs.Checks.{separationConditions, congestionConditions}
+use Rattle.drawing.specs.Lengths.{SegmentsAgree}
+use Rattle.drawing.specs.declared.refusal.Refusal.the-variants.{InvalidInput, OffGrid}
+use Rattle.drawing.specs.declared.refusal.Check.{Check}
+use Rattle.drawing.specs.declared.refusal.Check.the-variants.{Passed, Refused}
+use Rattle.drawing.proofs.EntryLaws.{length-segments}
+use Rattle.drawing.proofs.FirstRefusal.{then, first-append, passed-head, few, separation-agree}
+use Rattle.congestion.specs.Wires.{Wire, wireOf}
+use Rattle.congestion.proofs.Beginning.{Sound}
+
+-- a float that stands for a coordinate: on the grid, not -0
+pub record Stands (x : Float) (u : ℕ) : Type 0 where
+  pub grid : T (onGrid x)
+  pub plain : canonicalZero x ≡ x
+  pub is : unit x ≡ u
+
+pub zero-stands : Stands plusZero 67108864
+unfolding onGrid unit steps canonicalZero
+zero-stands = record { grid = tt; plain = refl; is = refl }
+
+-- a segment on the grid whose start is below its end
+pub record FitSegment (s : Segment) : Type 0 where
+  pub byte : s .orientation ≤ 1
+  pub fixed : T (onGrid (s .fixed))
+  pub start : T (onGrid (s .start))
+  pub end : T (onGrid (s .end))
+  pub rises : unit (s .start) < unit (s .end)
+
+pub record FitList (l : List Segment) : Type 0 where
+  pub few : length l ≤ 4096
+  pub each : (s : Segment) → Mem s l → FitSegment s
+
+pub sound-wires : (l : List Segment) → FitList l → Sound (map wireOf l)
+sound-wires l f = record {
+  few = le-trans (le-of-eq (length-map l wireOf)) (f .few);
+  ordered = λ w m. let r = mem-map wireOf l w m in subst (λ (v : Wire). v .start < v .end) (sym (r .2)) (f .each (r .0) (r .1) .rises);
+}
+
+-- ---- a drawing that meets no refusal before 7
+fit-segment : (s : Segment) → unfitSegment s ≡ false → offGridSegment s ≡ false → FitSegment s
+unfolding unfitSegment unfitLine offGridSegment offGridLine
+fit-segment s e g =
+    let a = not-false (onGrid (s .fixed)) (neither-left (not (onGrid (s .fixed))) (not (onGrid (s .start))) (neither-left (not (onGrid (s .fixed)) || not (onGrid (s .start))) (not (onGrid (s .end))) g)) in
+    let b = not-false (onGrid (s .start)) (neither-right (not (onGrid (s .fixed))) (not (onGrid (s .start))) (neither-left (not (onGrid (s .fixed)) || not (onGrid (s .start))) (not (onGrid (s .end))) g)) in
+    let d = not-false (onGrid (s .end)) (neither-right (not (onGrid (s .fixed)) || not (onGrid (s .start))) (not (onGrid (s .end))) g) in
+    let o = ltb-false 1 (s .orientation) (neither-left (ltb 1 (s .orientation)) (not (finite (s .fixed))) (neither-left (ltb 1 (s .orientation) || not (finite (s .fixed))) (not (finite (s .start))) (neither-left (ltb 1 (s .orientation) || not (finite (s .fixed)) || not (finite (s .start))) (not (finite (s .end))) (neither-left (ltb 1 (s .orientation) || not (finite (s .fixed)) || not (finite (s .start)) || not (finite (s .end))) (not (lt (s .start) (s .end))) e)))) in
+    let h = not-false (lt (s .start) (s .end)) (neither-right (ltb 1 (s .orientation) || not (finite (s .fixed)) || not (finite (s .start)) || not (finite (s .end))) (not (lt (s .start) (s .end))) e) in
+    record {
+      byte = o;
+      fixed = of-true (onGrid (s .fixed)) a;
+      start = of-true (onGrid (s .start)) b;
+      end = of-true (onGrid (s .end)) d;
+      rises = ltb→lt (unit (s .start)) (unit (s .end)) (subst T (lt-units (s .start) (s .end) (of-true (onGrid (s .start)) b) (of-true (onGrid (s .end)) d)) (of-true (lt (s .start) (s .end)) h));
+    }
+
+both-passed : (a b : Check) → then a b ≡ Passed → (a ≡ Passed) × (b ≡ Passed)
+both-passed Passed b e = (refl, e)
+both-passed (Refused r) b e = (e, absurd (subst is-refused e tt))
+  where
+    is-refused : Check → Type 0
+    is-refused Passed = ⊥
+    is-refused (Refused r) = Unit {0}
+
+module _ (s : SegmentColumns) (cutoff : Float) (words : ℕ) (passed : firstOf (congestionConditions s cutoff words) ≡ Passed) where
+  -- the conditions of separation come first
+  first-four : firstOf (separationConditions s words) ≡ Passed
+  unfolding congestionConditions
+  first-four = both-passed (firstOf (separationConditions s words)) _ (sym (first-append (separationConditions s words) _) ∙ passed) .0
+
+  -- then the cutoff, and the grid
+  last-three : firstOf ((unfitCutoff cutoff, InvalidInput) ∷ (some-of offGridSegment (segments s), OffGrid) ∷ (offGridCutoff cutoff, OffGrid) ∷ []) ≡ Passed
+  unfolding congestionConditions
+  last-three = both-passed (firstOf (separationConditions s words)) _ (sym (first-append (separationConditions s words) _) ∙ passed) .1
+
+  pub agree : SegmentsAgree s
+  agree = separation-agree s words first-four
+
+  pub fit-list : FitList (segments s)
+  unfolding separationConditions
+  fit-list =
+      let a = passed-head _ _ _ first-four in
+      let b = passed-head _ _ _ (a .1) in
+      let d = passed-head _ _ _ (b .1) in
+      let e = passed-head _ _ _ (d .1) in
+      let g = passed-head _ _ _ (passed-head _ _ _ last-three .1) in
+      record {
+        few = le-trans (le-of-eq (length-segments s agree)) (few (length (s .net)) (b .0));
+        each = λ x m. fit-segment x (all-mem (λ z. unfitSegment z ≡ false) (segments s) (none-all unfitSegment (segments s) (e .0)) x m) (all-mem (λ z. offGridSegment z ≡ false) (segments s) (none-all offGridSegment (segments s) (g .0)) x m);
+      }
+
+  pub fit-cutoff : T (onGrid cutoff)
+  unfolding offGridCutoff
+  fit-cutoff = of-true (onGrid cutoff) (not-false (onGrid cutoff) (passed-head _ _ _ (passed-head _ _ _ (passed-head _ _ _ last-three .1) .1) .0))

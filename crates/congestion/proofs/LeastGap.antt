@@ -1,0 +1,124 @@
+-- On the grid the least rounded gap is the least number of 64ths. Assumes nothing.
+use mathlib.Core.Path.{_≡_, refl, sym, ap, ap₂, _∙_}
+use mathlib.Core.Logic.{inl, inr}
+use mathlib.Core.List.{List, [], _∷_, map}
+use mathlib.Core.Option.{Option, none, some}
+use mathlib.Core.Bool.{Bool, true, false, not, _&&_, cond}
+use Prim.Native.Nat.{ℕ, _^_, _<_}
+use native.Mathlib.Omega.{arith}
+use lib.Dec.{T, ltb, eqb}
+use lib.Ieee.{Float, lt}
+use Rattle.laws.specs.Lists.{Mem, put, chosen, fold, pairs}
+use Rattle.laws.specs.Least.{lesser, least}
+use Rattle.laws.proofs.ListLaws.{mem-pairs}
+use Rattle.laws.proofs.Leasts.{Perhaps}
+use Rattle.laws.proofs.Folds.{fold-same, fold-map}
+use Rattle.floats.specs.Values.{gapOf}
+use Rattle.floats.specs.Grid.{onGrid, unit, ofUnits}
+use Rattle.floats.proofs.Units.{of-units-value, unit-bound, gap-units, lt-lengths}
+use Rattle.drawing.specs.Entries.{Segment}
+use Rattle.drawing.specs.Gaps.{gapFrom, leastGap, lesserGap}
+use Rattle.drawing.proofs.GapLaws.{gap-from-lesser}
+use Rattle.congestion.specs.Wires.{wireOf}
+use Rattle.congestion.specs.Figures.{apart, closeOther}
+use Rattle.congestion.specs.Profile.{gapped, leastNonzero}
+use Rattle.congestion.specs.Sweep.{nonzero, gap, gapOfUnits}
+use Rattle.congestion.proofs.FoldLaws.{fewest, both, pairs-map}
+use Rattle.congestion.proofs.Oriented.{leastUnits}
+
+-- a number of 64ths that floats hold exactly, where there is one
+abbrev pub Held : Option ℕ → Type 0
+Held o = Perhaps (λ n. n < 2 ^ 53) o
+
+pub held-lesser : (a b : Option ℕ) → Held a → Held b → Held (lesser ltb a b)
+unfolding lesser
+held-lesser none b p q = q
+held-lesser (some a) none p q = p
+held-lesser (some a) (some b) p q = pick (ltb b a)
+  where
+    pick : (t : Bool) → cond t b a < 2 ^ 53
+    pick true = q
+    pick false = p
+
+pub held-fold : {A : Type 0} (f : A → Option ℕ) (l : List A) → ((x : A) → Mem x l → Held (f x)) → Held (fold (lesser ltb) none f l)
+unfolding fold
+held-fold f [] h = tt
+held-fold f (x ∷ l) h = held-lesser (f x) (fold (lesser ltb) none f l) (h x (inl refl)) (held-fold f l (λ y m. h y (inr m)))
+
+-- ---- the lesser of two gaps that are so many 64ths
+abbrev asFloat : Option ℕ → Option Float
+asFloat none = none
+asFloat (some n) = some (ofUnits n)
+
+lt-units : (a b : ℕ) → a < 2 ^ 53 → b < 2 ^ 53 → lt (ofUnits a) (ofUnits b) ≡ ltb a b
+unfolding ofUnits
+lt-units a b p q = lt-lengths (ofUnits a) (ofUnits b) a b (of-units-value false a p) (of-units-value false b q)
+
+lesser-units : (a b : Option ℕ) → Held a → Held b → lesser lt (asFloat a) (asFloat b) ≡ asFloat (lesser ltb a b)
+unfolding lesser
+lesser-units none b p q = refl
+lesser-units (some a) none p q = refl
+lesser-units (some a) (some b) p q = ap (λ (t : Bool). some (cond t (ofUnits b) (ofUnits a))) (lt-units b a q p) ∙ go (ltb b a)
+  where
+    go : (t : Bool) → some (cond t (ofUnits b) (ofUnits a)) ≡ some (ofUnits (cond t b a))
+    go true = refl
+    go false = refl
+
+present : (o : Option ℕ) → gapFrom (asFloat o) ≡ gapOfUnits o
+unfolding gapFrom
+present none = refl
+present (some n) = refl
+
+pub lesser-gap : (a b : Option ℕ) → Held a → Held b → lesserGap (gapOfUnits a) (gapOfUnits b) ≡ gapOfUnits (lesser ltb a b)
+lesser-gap a b p q = sym (ap₂ lesserGap (present a) (present b)) ∙ sym (gap-from-lesser (asFloat a) (asFloat b)) ∙ ap gapFrom (lesser-units a b p q) ∙ present (lesser ltb a b)
+
+-- ---- the least of chosen gaps that are so many 64ths
+module _ {A : Type 0} (p : A → Bool) (g : A → Float) (n : A → ℕ) where
+  abbrev number : A → Option ℕ
+  number x = cond (p x) (some (n x)) none
+
+  held-number : (x : A) → n x < 2 ^ 53 → Held (number x)
+  held-number x h = go (p x)
+    where
+      go : (b : Bool) → Held (cond b (some (n x)) none)
+      go true = h
+      go false = tt
+
+  least-chosen : (l : List A) → ((x : A) → Mem x l → (g x ≡ ofUnits (n x)) × (n x < 2 ^ 53)) → least lt (chosen p g l) ≡ asFloat (fold (lesser ltb) none number l)
+  unfolding least chosen fold
+  least-chosen [] h = refl
+  least-chosen (x ∷ l) h = go (p x) (h x (inl refl)) (least-chosen l (λ y m. h y (inr m))) (held-fold number l (λ y m. held-number y (h y (inr m) .1)))
+    where
+      go : (b : Bool) → (g x ≡ ofUnits (n x)) × (n x < 2 ^ 53) → least lt (chosen p g l) ≡ asFloat (fold (lesser ltb) none number l) → Held (fold (lesser ltb) none number l)
+          → least lt (put b (g x) (chosen p g l)) ≡ asFloat (lesser ltb (cond b (some (n x)) none) (fold (lesser ltb) none number l))
+      go true e i k = ap₂ (λ (y : Float) (o : Option Float). lesser lt (some y) o) (e .0) i ∙ lesser-units (some (n x)) (fold (lesser ltb) none number l) (e .1) k
+      go false e i k = i ∙ ap asFloat (sym (fewest .idl (fold (lesser ltb) none number l)))
+
+  pub least-of-chosen : (l : List A) → ((x : A) → Mem x l → (g x ≡ ofUnits (n x)) × (n x < 2 ^ 53)) → leastGap (chosen p g l) ≡ gapOfUnits (fold (lesser ltb) none number l)
+  unfolding leastGap
+  least-of-chosen l h = ap gapFrom (least-chosen l h) ∙ present (fold (lesser ltb) none number l)
+
+-- the gap of two coordinates on the grid
+pub grid-gap : (x y : Float) → T (onGrid x) → T (onGrid y) → (gapOf x y ≡ ofUnits (apart (unit x) (unit y))) × (apart (unit x) (unit y) < 2 ^ 53)
+grid-gap x y g k = let a = unit-bound x g in let b = unit-bound y k in (gap-units x y g k, omega arith)
+
+-- a gap that is passed over where it is zero
+pub nonzero-one : (r z : Bool) (n : ℕ) → cond (r && not z) (some n) none ≡ cond r (nonzero z n) none
+nonzero-one true true n = refl
+nonzero-one true false n = refl
+nonzero-one false z n = refl
+
+pub held-gap : (b z : Bool) (n : ℕ) → n < 2 ^ 53 → Held (cond b (nonzero z n) none)
+held-gap true true n h = tt
+held-gap true false n h = h
+held-gap false z n h = tt
+
+-- ---- the least nonzero gap of a drawing
+pub least-gap : (c : ℕ) (l : List Segment) → ((s : Segment) → Mem s l → T (onGrid (s .fixed))) → leastNonzero c l ≡ gapOfUnits (leastUnits c (map wireOf l))
+unfolding leastNonzero
+least-gap c l grid =
+    least-of-chosen (λ p. gapped c (wireOf (p .0)) (wireOf (p .1))) (λ p. gapOf (p .0 .fixed) (p .1 .fixed)) (λ p. apart (unit (p .0 .fixed)) (unit (p .1 .fixed))) (pairs l)
+    (λ p m. let h = mem-pairs p l m in grid-gap (p .0 .fixed) (p .1 .fixed) (grid (p .0) (h .0)) (grid (p .1) (h .1)))
+    ∙ ap gapOfUnits
+    (fold-same fewest (λ p. cond (gapped c (wireOf (p .0)) (wireOf (p .1))) (some (apart (unit (p .0 .fixed)) (unit (p .1 .fixed)))) none) (λ p. cond (closeOther c (wireOf (p .0)) (wireOf (p .1))) (gap (wireOf (p .0)) (wireOf (p .1))) none) (pairs l) (λ p m. nonzero-one (closeOther c (wireOf (p .0)) (wireOf (p .1))) (eqb (unit (p .0 .fixed)) (unit (p .1 .fixed))) (apart (unit (p .0 .fixed)) (unit (p .1 .fixed))))
+    ∙ sym (ap (fold (lesser ltb) none (λ p. cond (closeOther c (p .0) (p .1)) (gap (p .0) (p .1)) none)) (pairs-map wireOf l) ∙ fold-map fewest (λ p. cond (closeOther c (p .0) (p .1)) (gap (p .0) (p .1)) none) (both wireOf) (pairs l)))

@@ -1,0 +1,28 @@
+-- The laws of the definitions. Those that other crates cite:
+pub mod Fitness
+pub mod Bounds
+pub mod SweepTheorem
+pub mod Answers
+pub mod Closeness
+pub mod RoundedSums
+pub mod RoundedDrawing
+pub mod Examples
+-- what they lean on: folds, cells and counts
+mod FoldLaws
+mod CellLaws
+mod Sets
+-- the sweep, event by event
+mod Tracking
+mod Moments
+mod Passing
+mod EventOrder
+mod Beginning
+mod Meetings
+mod Reaching
+-- its figures
+mod Oriented
+mod Orientations
+mod SweepFigures
+mod FiguresOrder
+mod LeastGap
+mod RoundedSweep

@@ -1,0 +1,78 @@
+-- Congestion over all pairs, in whole numbers of 1/64: c is the cutoff in these numbers, and the wires come in any order. No sweep and no allowance is in these definitions.
+use mathlib.Core.List.{List}
+use mathlib.Core.Bool.{Bool, true, false, not, _&&_, Bool·beq, cond}
+use Prim.Native.Nat.{ℕ, _+_, _-_, _*_, min, max}
+use lib.Dec.{ltb, eqb}
+use Rattle.laws.specs.Lists.{some-of, keep, fold, sum, count, pairs}
+use Rattle.congestion.specs.Wires.{Wire}
+use Rattle.congestion.specs.Cells.{extent, cells, covers}
+
+-- the gap of two coordinates
+abbrev pub apart : ℕ → ℕ → ℕ
+apart a b = max a b - min a b
+
+-- "same orientation, .. fixed gap below the cutoff"
+abbrev pub near : ℕ → Wire → Wire → Bool
+near c s t = Bool·beq (s .horizontal) (t .horizontal) && ltb (apart (s .fixed) (t .fixed)) c
+
+-- "overlap is positive (larger start < smaller end)"
+abbrev pub overlaps : Wire → Wire → Bool
+overlaps s t = ltb (max (s .start) (t .start)) (min (s .end) (t .end))
+
+abbrev pub overlap : Wire → Wire → ℕ
+overlap s t = min (s .end) (t .end) - max (s .start) (t .start)
+
+-- "Close: same orientation, positive overlap, fixed gap below the cutoff"
+abbrev pub close : ℕ → Wire → Wire → Bool
+close c s t = near c s t && overlaps s t
+
+-- "different-net"
+abbrev pub other : Wire → Wire → Bool
+other s t = not (eqb (s .net) (t .net))
+
+-- t is "a close different-net segment" of s
+abbrev pub closeOther : ℕ → Wire → Wire → Bool
+closeOther c s t = close c s t && other s t
+
+-- "total length"
+unfoldable pub total : List Wire → ℕ
+total l = sum extent l
+
+-- of one segment, the length of its "stretches with a close different-net segment": the cells that it shares with one
+unfoldable pub stretches : ℕ → List Wire → Wire → ℕ
+stretches c l s = count (λ k. some-of (λ t. closeOther c s t && covers k t) l) (cells s)
+
+-- "summed length of each segment's stretches with a close different-net segment"
+unfoldable pub congested : ℕ → List Wire → ℕ
+congested c l = sum (stretches c l) l
+
+-- "close different-net pairs"
+unfoldable pub closeOtherPairs : ℕ → List Wire → List (Wire × Wire)
+closeOtherPairs c l = keep (λ p. closeOther c (p .0) (p .1)) (pairs l)
+
+-- "summed overlap of close different-net pairs"
+unfoldable pub pairOverlap : ℕ → List Wire → ℕ
+pairOverlap c l = sum (λ p. overlap (p .0) (p .1)) (closeOtherPairs c l)
+
+-- how many "different-net segments" are "close to one segment on one stretch", here on the cell k of s
+abbrev pub neighborsOn : ℕ → List Wire → Wire → ℕ → ℕ
+neighborsOn c l s k = count (λ t. closeOther c s t && covers k t) l
+
+-- "the peak, the most different-net segments close to one segment on one stretch"
+unfoldable pub peak : ℕ → List Wire → ℕ
+peak c l = fold max 0 (λ s. fold max 0 (neighborsOn c l s) (cells s)) l
+
+-- "the close pairs of all nets, equal nets included", how many
+unfoldable pub closePairs : ℕ → List Wire → ℕ
+closePairs c l = count (λ p. close c (p .0) (p .1)) (pairs l)
+
+-- the segments of one orientation, how many
+abbrev pub inOrientation : Bool → List Wire → ℕ
+inOrientation h l = count (λ s. Bool·beq h (s .horizontal)) l
+
+abbrev pub atLeastTwo : ℕ → ℕ
+atLeastTwo n = cond (ltb n 2) 0 n
+
+-- "segments in orientations holding at least two, plus twice the close pairs of all nets, equal nets included; 0 if the cutoff is 0 or less"
+unfoldable pub visits : ℕ → List Wire → ℕ
+visits c l = cond (eqb c 0) 0 (atLeastTwo (inOrientation true l) + atLeastTwo (inOrientation false l) + 2 * closePairs c l)

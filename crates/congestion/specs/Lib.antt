@@ -1,0 +1,10 @@
+-- The definitions, a file for each notion.
+pub mod Wires
+pub mod Cells
+pub mod Figures
+pub mod Profile
+pub mod Sweep
+pub mod Rounded
+pub mod RoundedSweep
+pub mod Answer
+pub mod Ratio

@@ -1,0 +1,32 @@
+-- Closeness and the sums of lengths with IEEE 754's rounded steps.
+use mathlib.Core.List.{List, [], _∷_, map}
+use mathlib.Core.Bool.{Bool, _&&_}
+use Prim.Native.Nat.{ℕ}
+use lib.Dec.{eqb}
+use lib.Ieee.{Float, binary64, add, sub, lt}
+use Rattle.laws.specs.Lists.{chosen, pairs}
+use Rattle.floats.specs.Values.{plusZero, canonicalZero, lesserOf, greaterOf, gapOf}
+use Rattle.drawing.specs.Entries.{Segment}
+use Rattle.congestion.specs.Wires.{wireOf}
+use Rattle.congestion.specs.Figures.{closeOther}
+
+-- "Close: same orientation, positive overlap, fixed gap below the cutoff", by comparisons of floats
+unfoldable pub closeFloats : Float → Segment → Segment → Bool
+closeFloats cutoff s t = eqb (s .orientation) (t .orientation) && lt (gapOf (s .fixed) (t .fixed)) cutoff && lt (greaterOf (s .start) (t .start)) (lesserOf (s .end) (t .end))
+
+-- a sum from a float on, one rounded addition after the other
+unfoldable pub runningSum : Float → List Float → Float
+runningSum x [] = x
+runningSum x (y ∷ l) = runningSum (add binary64 x y) l
+
+-- "Congestion turns -0 into +0 first": the length from one coordinate to another, one rounded subtraction
+abbrev pub span : Float → Float → Float
+span from to = sub binary64 (canonicalZero to) (canonicalZero from)
+
+-- "total length": the lengths of the segments in the list's order
+unfoldable pub roundedTotal : List Segment → Float
+roundedTotal l = runningSum plusZero (map (λ s. span (s .start) (s .end)) l)
+
+-- "summed overlap of close different-net pairs": each from the larger start to the smaller end
+unfoldable pub roundedOverlap : ℕ → List Segment → Float
+roundedOverlap c l = runningSum plusZero (chosen (λ p. closeOther c (wireOf (p .0)) (wireOf (p .1))) (λ p. span (greaterOf (p .0 .start) (p .1 .start)) (lesserOf (p .0 .end) (p .1 .end))) (pairs l))

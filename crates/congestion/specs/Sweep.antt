@@ -1,0 +1,188 @@
+-- The Rust's sweep with no limit, over wires: a state for each event, and the visits that each event costs.
+use mathlib.Core.List.{List, [], _∷_, map}
+use mathlib.Core.Option.{Option, none, some}
+use mathlib.Core.Bool.{Bool, true, false, not, _&&_, Bool·beq, cond}
+use Prim.Native.Nat.{ℕ, suc, _+_, _-_, _*_, max}
+use lib.Dec.{ltb, eqb}
+use lib.Ieee.{Float}
+use lib.ListN.{length}
+use Rattle.laws.specs.Lists.{keep, bit, fold, count}
+use Rattle.laws.specs.Rows.{rowLe}
+use Rattle.laws.specs.Sort.{sortBy}
+use Rattle.laws.specs.Least.{lesser}
+use Rattle.laws.specs.Charged.{Charged, free, after, runs}
+use Rattle.floats.specs.Grid.{ofUnits}
+use Rattle.drawing.specs.Entries.{Segment}
+use Rattle.drawing.specs.Orders.{segmentsInOrder}
+use Rattle.drawing.specs.declared.gap.Gap.{Gap}
+use Rattle.drawing.specs.declared.gap.Gap.the-variants.{Absent, Present}
+use Rattle.congestion.specs.declared.report.ParallelCongestion.{ParallelCongestion}
+use Rattle.congestion.specs.Wires.{Wire, wireOf, cutoffOf}
+use Rattle.congestion.specs.Figures.{apart, other, total}
+use Rattle.congestion.specs.Profile.{lengths}
+
+-- a wire with its index in the list of its orientation
+pub record Item : Type 0 where
+  pub wire : Wire
+  pub index : ℕ
+
+abbrev pub numbered : ℕ → List Wire → List Item
+numbered n [] = []
+numbered n (s ∷ l) = record { wire = s; index = n } ∷ numbered (suc n) l
+
+-- the end or the start of a wire
+pub record Event : Type 0 where
+  pub ends : Bool
+  pub item : Item
+
+abbrev pub at : Event → ℕ
+at e = cond (e .ends) (e .item .wire .end) (e .item .wire .start)
+
+-- `(coordinate, 0 for an end and 1 for a start, index)`, in dictionary order: ends come before starts at one coordinate
+abbrev pub eventRow : Event → List ℕ
+eventRow e = at e ∷ cond (e .ends) 0 1 ∷ e .item .index ∷ []
+
+-- both events of each wire
+abbrev pub events : List Item → List Event
+events [] = []
+events (i ∷ l) = record { ends = true; item = i } ∷ record { ends = false; item = i } ∷ events l
+
+-- `events.sort_unstable()`
+unfoldable pub inOrder : List Event → List Event
+inOrder l = sortBy (λ a b. rowLe (eventRow a) (eventRow b)) l
+
+-- what the sweep remembers of one wire: whether it is active, and its `close_neighbor_counts`
+pub record Row : Type 0 where
+  pub item : Item
+  pub active : Bool
+  pub neighbors : ℕ
+
+-- `Excluded(query.fixed - cutoff), Excluded(query.fixed + cutoff)`
+abbrev pub inRange : ℕ → Wire → Wire → Bool
+inRange c s t = ltb (s .fixed) (t .fixed + c) && ltb (t .fixed) (s .fixed + c)
+
+-- an active wire in the range costs a visit
+abbrev pub visited : ℕ → Wire → Row → Bool
+visited c s r = r .active && inRange c s (r .item .wire)
+
+-- it is a neighbor where its net differs
+abbrev pub neighbor : ℕ → Wire → Row → Bool
+neighbor c s r = r .active && (inRange c s (r .item .wire) && other s (r .item .wire))
+
+abbrev pub same : Item → Item → Bool
+same i j = eqb (i .index) (j .index)
+
+-- what a start of an item with n neighbors, and what an end, does to a row: that of the item itself, that of a neighbor, any other
+abbrev pub risen : Bool → Bool → ℕ → Row → Row
+risen true b n r = record { item = r .item; active = true; neighbors = n }
+risen false true n r = record { item = r .item; active = r .active; neighbors = r .neighbors + 1 }
+risen false false n r = r
+
+abbrev pub fallen : Bool → Bool → Row → Row
+fallen true b r = record { item = r .item; active = false; neighbors = 0 }
+fallen false true r = record { item = r .item; active = r .active; neighbors = r .neighbors - 1 }
+fallen false false r = r
+
+-- the Rust's variables, under its names
+pub record State : Type 0 where
+  pub rows : List Row
+  pub congestedActive : ℕ
+  pub closePairs : ℕ
+  pub previous : ℕ
+  pub congestedLength : ℕ
+  pub pairOverlapLength : ℕ
+  pub peakCloseNeighbors : ℕ
+  pub minimumPositive : Option ℕ
+
+-- the gap of two wires, where it is not zero
+abbrev pub nonzero : Bool → ℕ → Option ℕ
+nonzero true g = none
+nonzero false g = some g
+
+abbrev pub gap : Wire → Wire → Option ℕ
+gap s t = nonzero (eqb (s .fixed) (t .fixed)) (apart (s .fixed) (t .fixed))
+
+-- an event of item i in a state
+module _ (c : ℕ) (i : Item) (st : State) where
+  -- `neighbors.len()`
+  abbrev pub neighbors : ℕ
+  neighbors = count (neighbor c (i .wire)) (st .rows)
+
+  -- the least nonzero gap to a neighbor
+  abbrev pub leastHere : Option ℕ
+  leastHere = fold (lesser ltb) none (λ r. cond (neighbor c (i .wire) r) (gap (i .wire) (r .item .wire)) none) (st .rows)
+
+  -- 1 where the item's own count is not 0
+  abbrev pub wasCongested : ℕ
+  wasCongested = count (λ r. same i (r .item) && not (eqb (r .neighbors) 0)) (st .rows)
+
+  -- the greatest count that a start makes: a neighbor's, raised by one, or the item's own
+  abbrev pub highest : ℕ
+  highest = max (fold max 0 (λ r. cond (neighbor c (i .wire) r) (r .neighbors + 1) 0) (st .rows)) neighbors
+
+  -- its start and its end at the coordinate x
+  abbrev pub atStart : ℕ → State
+  atStart x = record {
+    rows = map (λ r. risen (same i (r .item)) (neighbor c (i .wire) r) neighbors r) (st .rows);
+    congestedActive = st .congestedActive + bit (not (eqb neighbors 0)) + count (λ r. neighbor c (i .wire) r && eqb (r .neighbors) 0) (st .rows);
+    closePairs = st .closePairs + neighbors;
+    previous = x;
+    congestedLength = st .congestedLength + st .congestedActive * (x - st .previous);
+    pairOverlapLength = st .pairOverlapLength + st .closePairs * (x - st .previous);
+    peakCloseNeighbors = max (st .peakCloseNeighbors) highest;
+    minimumPositive = lesser ltb (st .minimumPositive) leastHere;
+  }
+
+  abbrev pub atEnd : ℕ → State
+  atEnd x = record {
+    rows = map (λ r. fallen (same i (r .item)) (neighbor c (i .wire) r) r) (st .rows);
+    congestedActive = st .congestedActive - wasCongested - count (λ r. neighbor c (i .wire) r && eqb (r .neighbors) 1) (st .rows);
+    closePairs = st .closePairs - neighbors;
+    previous = x;
+    congestedLength = st .congestedLength + st .congestedActive * (x - st .previous);
+    pairOverlapLength = st .pairOverlapLength + st .closePairs * (x - st .previous);
+    peakCloseNeighbors = st .peakCloseNeighbors;
+    minimumPositive = lesser ltb (st .minimumPositive) leastHere;
+  }
+
+-- one event: each active wire in the range costs one visit
+abbrev pub step : ℕ → State → Event → Charged State
+step c st e = record { value = cond (e .ends) (atEnd c (e .item) st (at e)) (atStart c (e .item) st (at e)); cost = count (visited c (e .item .wire)) (st .rows) }
+
+-- `events.first().map_or(0.0, ..)`: 2 ^ 26 is the unit of 0
+abbrev pub firstAt : List Event → ℕ
+firstAt [] = 67108864
+firstAt (e ∷ l) = at e
+
+-- before the first event: nothing is active, and `previous` is the first coordinate
+abbrev pub begin : List Item → State
+begin l = record { rows = map (λ i. record { item = i; active = false; neighbors = 0 }) l; congestedActive = 0; closePairs = 0; previous = firstAt (inOrder (events l)); congestedLength = 0; pairOverlapLength = 0; peakCloseNeighbors = 0; minimumPositive = none }
+
+-- `congested_length_for_orientation`
+unfoldable pub oriented : ℕ → List Wire → Charged State
+oriented c l = let i = numbered 0 l in runs (step c) (begin i) (inOrder (events i))
+
+-- the wires of one orientation; `oriented.len() >= 2` before anything is done
+abbrev pub only : Bool → List Wire → List Wire
+only h l = keep (λ s. Bool·beq h (s .horizontal)) l
+
+unfoldable pub ofOrientation : ℕ → Bool → List Wire → Charged State
+ofOrientation c h l = cond (ltb (length (only h l)) 2) (free (begin [])) (oriented c (only h l))
+
+-- the gap of so many 64ths
+abbrev pub gapOfUnits : Option ℕ → Gap
+gapOfUnits none = Absent
+gapOfUnits (some n) = Present (ofUnits n)
+
+-- `measure_parallel_profile_bounded` with no limit; on an empty list, where the Rust returns early too, all is 0
+unfoldable pub sweepWires : ℕ → List Wire → Charged (ParallelCongestion × Gap)
+sweepWires c l =
+    cond (eqb c 0) (free (lengths (total l) 0 0 0, Absent))
+    (after (ofOrientation c true l) (λ h. after (ofOrientation c false l) (λ v. free (
+      lengths (total l) (h .congestedLength + v .congestedLength) (h .pairOverlapLength + v .pairOverlapLength) (max (h .peakCloseNeighbors) (v .peakCloseNeighbors)),
+      gapOfUnits (lesser ltb (h .minimumPositive) (v .minimumPositive)),
+    ))))
+
+-- "Each measure walks as if its segments came in the order net, orientation byte, fixed, start, end"
+unfoldable pub sweep : Float → List Segment → Charged (ParallelCongestion × Gap)
+sweep cutoff l = sweepWires (cutoffOf cutoff) (map wireOf (segmentsInOrder l))

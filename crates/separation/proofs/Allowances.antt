@@ -1,0 +1,197 @@
+-- Searches, `set` and the steps of the sweep within an allowance, node by node: what code that pays for each visit comes to. Assumes nothing.
+use mathlib.Core.Path.{_≡_, refl, _∙_}
+use mathlib.Core.Logic.{_⊎_, inl, inr}
+use mathlib.Core.Bool.{Bool, true, false, _&&_}
+use mathlib.Core.List.{List, [], _∷_}
+use mathlib.Core.Option.{Option, none, some}
+use Prim.Native.Nat.{ℕ, zero, suc, _+_, _*_, _^_, _≤_, _<_}
+use native.Mathlib.Omega.{arith}
+use borrow.Author.Tests.{lt-ltb, le-ltb}
+use lib.Dec.{ltb}
+use lib.ListN.{length}
+use Rattle.laws.specs.Charged.{Charged, spent, left, within, free, visit, after, runs, onward}
+use Rattle.laws.proofs.Runs.{within-free, within-after, visit-spent, visit-paid, onward-spent, onward-left}
+use Rattle.drawing.specs.Entries.{Segment}
+use Rattle.separation.specs.declared.tree.Search.the-variants.{Found, Empty, Spent}
+use Rattle.separation.specs.Rows.{Row, oriented, lines, index, levels, events}
+use Rattle.separation.specs.Searches.{otherIn, leaf, orElse, node, rightmost, leftmost, setRun, searchOf}
+use Rattle.separation.specs.Walk.{nothing, lesserFigures, Sweep, ownLine, otherLine, remove, startsAt, endsAt, step, sweep, along, walk}
+
+-- ---- "a search answers found, empty or spent"
+pub answer-spent : searchOf spent ≡ Spent
+unfolding searchOf
+answer-spent = refl
+
+pub answer-found : (i m : ℕ) → searchOf (left (some i) m) ≡ Found i
+unfolding searchOf
+answer-found i m = refl
+
+pub answer-empty : (m : ℕ) → searchOf (left none m) ≡ Empty
+unfolding searchOf
+answer-empty m = refl
+
+-- ---- a leaf and a node, with nothing left and with one visit at least
+leaf-spent : (t : Bool) (s : ℕ) → within 0 (leaf t s) ≡ spent
+leaf-spent true s = visit-spent (free (some s))
+leaf-spent false s = visit-spent (free none)
+
+leaf-found : (m s : ℕ) → within (suc m) (leaf true s) ≡ left (some s) m
+leaf-found m s = visit-paid m (free (some s)) ∙ within-free m (some s)
+
+no-both : (a : Bool) → (a && false) ≡ false
+no-both true = refl
+no-both false = refl
+
+empty-paid : (m : ℕ) → within {A = Option ℕ} (suc m) (visit (free none)) ≡ left none m
+empty-paid m = visit-paid m (free none) ∙ within-free m none
+
+module _ (one two : Charged (Option ℕ)) where
+  node-spent : (t : Bool) → within 0 (node t one two) ≡ spent
+  node-spent true = visit-spent (after one (λ r. orElse r two))
+  node-spent false = visit-spent (free none)
+
+  -- the first child's search, and what its answer leads to
+  node-on : (m : ℕ) → within (suc m) (node true one two) ≡ onward (within m one) (λ v r. within r (orElse v two))
+  node-on m = visit-paid m (after one (λ r. orElse r two)) ∙ within-after m one (λ r. orElse r two)
+
+  pub first-spent : (m : ℕ) → within m one ≡ spent → within (suc m) (node true one two) ≡ spent
+  first-spent m e = node-on m ∙ rw e (onward-spent (λ v r. within r (orElse v two)))
+
+  pub first-found : (m i r : ℕ) → within m one ≡ left (some i) r → within (suc m) (node true one two) ≡ left (some i) r
+  first-found m i r e = node-on m ∙ rw e (onward-left (some i) r (λ v r. within r (orElse v two)) ∙ within-free r (some i))
+
+  pub first-empty : (m r : ℕ) → within m one ≡ left none r → within (suc m) (node true one two) ≡ within r two
+  first-empty m r e = node-on m ∙ rw e (onward-left none r (λ v r. within r (orElse v two)))
+
+-- ---- the two searches from node k of h levels whose first leaf is s
+module _ (has : ℕ → ℕ → ℕ → Bool) (q : ℕ) where
+  pub right-spent : (h k s : ℕ) → within 0 (rightmost has q h k s) ≡ spent
+  unfolding rightmost
+  right-spent zero k s = leaf-spent (ltb s q && has k s (s + 1)) s
+  right-spent (suc h) k s = node-spent (rightmost has q h (2 * k + 1) (s + 2 ^ h)) (rightmost has q h (2 * k) s) (ltb s q && has k s (s + 2 ^ suc h))
+
+  -- outside of the query, or without another net
+  pub right-shut : (m h k s : ℕ) → (q ≤ s) ⊎ (has k s (s + 2 ^ h) ≡ false) → within (suc m) (rightmost has q h k s) ≡ left none m
+  unfolding rightmost
+  right-shut m zero k s (inl g) = rw (le-ltb s q g) (empty-paid m)
+  right-shut m zero k s (inr e) = rw (e, no-both (ltb s q)) (empty-paid m)
+  right-shut m (suc h) k s (inl g) = rw (le-ltb s q g) (empty-paid m)
+  right-shut m (suc h) k s (inr e) = rw (e, no-both (ltb s q)) (empty-paid m)
+
+  pub right-leaf : (m k s : ℕ) → s < q → has k s (s + 1) ≡ true → within (suc m) (rightmost has q 0 k s) ≡ left (some s) m
+  unfolding rightmost
+  right-leaf m k s g e = rw (lt-ltb s q g, e) (leaf-found m s)
+
+  pub right-open : (h k s : ℕ) → s < q → has k s (s + 2 ^ suc h) ≡ true → rightmost has q (suc h) k s ≡ node true (rightmost has q h (2 * k + 1) (s + 2 ^ h)) (rightmost has q h (2 * k) s)
+  unfolding rightmost
+  right-open h k s g e = rw (lt-ltb s q g, e)
+
+  pub left-spent : (h k s : ℕ) → within 0 (leftmost has q h k s) ≡ spent
+  unfolding leftmost
+  left-spent zero k s = leaf-spent (ltb q (s + 1) && has k s (s + 1)) s
+  left-spent (suc h) k s = node-spent (leftmost has q h (2 * k) s) (leftmost has q h (2 * k + 1) (s + 2 ^ h)) (ltb q (s + 2 ^ suc h) && has k s (s + 2 ^ suc h))
+
+  pub left-shut : (m h k s : ℕ) → (s + 2 ^ h ≤ q) ⊎ (has k s (s + 2 ^ h) ≡ false) → within (suc m) (leftmost has q h k s) ≡ left none m
+  unfolding leftmost
+  left-shut m zero k s (inl g) = rw (le-ltb q (s + 1) g) (empty-paid m)
+  left-shut m zero k s (inr e) = rw (e, no-both (ltb q (s + 1))) (empty-paid m)
+  left-shut m (suc h) k s (inl g) = rw (le-ltb q (s + 2 ^ suc h) g) (empty-paid m)
+  left-shut m (suc h) k s (inr e) = rw (e, no-both (ltb q (s + 2 ^ suc h))) (empty-paid m)
+
+  pub left-leaf : (m k s : ℕ) → q < s + 1 → has k s (s + 1) ≡ true → within (suc m) (leftmost has q 0 k s) ≡ left (some s) m
+  unfolding leftmost
+  left-leaf m k s g e = rw (lt-ltb q (s + 1) g, e) (leaf-found m s)
+
+  pub left-open : (h k s : ℕ) → q < s + 2 ^ suc h → has k s (s + 2 ^ suc h) ≡ true → leftmost has q (suc h) k s ≡ node true (leftmost has q h (2 * k) s) (leftmost has q h (2 * k + 1) (s + 2 ^ h))
+  unfolding leftmost
+  left-open h k s g e = rw (lt-ltb q (s + 2 ^ suc h) g, e)
+
+-- ---- `set`: the nodes from a leaf up, h of them above it
+pub set-spent : (h : ℕ) → within 0 (setRun h) ≡ spent
+unfolding setRun
+set-spent zero = visit-spent (free tt)
+set-spent (suc h) = visit-spent (setRun h)
+
+pub set-last : (m : ℕ) → within (suc m) (setRun 0) ≡ left tt m
+unfolding setRun
+set-last m = visit-paid m (free tt) ∙ within-free m tt
+
+pub set-more : (m h : ℕ) → within (suc m) (setRun (suc h)) ≡ within m (setRun h)
+unfolding setRun
+set-more m h = visit-paid m (setRun h)
+
+-- ---- a run whose value is only read
+then-read : {A B : Type 0} (m : ℕ) (c : Charged A) (f : A → B) → within m (after c (λ a. free (f a))) ≡ onward (within m c) (λ a r. left (f a) r)
+then-read m c f = within-after m c (λ a. free (f a)) ∙ (λ i. onward (within m c) (λ a r. within-free r (f a) i))
+
+-- ---- the sweep's steps: a start's own line, its two searches and its `set`, each within what the one before it left
+pub end-within : (h m : ℕ) (s : Sweep) (x : Row) → within m (endsAt h s x) ≡ onward (within m (setRun h)) (λ done r. left (record { active = remove x (s .active); met = s .met }) r)
+unfolding endsAt
+end-within h m s x = then-read m (setRun h) (λ done. record { active = remove x (s .active); met = s .met })
+
+module _ (ls : List ℕ) (h : ℕ) (s : Sweep) (x : Row) where
+  abbrev place : ℕ
+  place = index ls (x .line)
+
+  abbrev has : ℕ → ℕ → Bool
+  has = otherIn ls (s .active) (x .net)
+
+  -- where a start leaves the sweep
+  abbrev pub started : Bool → Option ℕ → Option ℕ → Sweep
+  started own below above = record { active = x ∷ s .active; met = otherLine ls (x .line) above (otherLine ls (x .line) below (ownLine own (s .met))) }
+
+  -- the runs that follow `has_other_at`, each with what is known by then
+  abbrev last : Bool → Option ℕ → Option ℕ → Charged Sweep
+  last own below above = after (setRun h) (λ done. free (started own below above))
+
+  abbrev second : Bool → Option ℕ → Charged Sweep
+  second own below = after (leftmost (λ k. has) (suc place) h 1 0) (λ above. last own below above)
+
+  abbrev first : Bool → Charged Sweep
+  first own = after (rightmost (λ k. has) place h 1 0) (λ below. second own below)
+
+  pub start-spent : within 0 (startsAt ls h s x) ≡ spent
+  unfolding startsAt
+  start-spent = within-after 0 (visit (free (has place (suc place)))) first ∙ rw (visit-spent (free (has place (suc place)))) (onward-spent (λ own r. within r (first own)))
+
+  pub start-within : (m : ℕ) → within (suc m) (startsAt ls h s x) ≡ onward (within m (rightmost (λ k. has) place h 1 0)) (λ below r. onward (within r (leftmost (λ k. has) (suc place) h 1 0)) (λ above r. onward (within r (setRun h)) (λ done r. left (started (has place (suc place)) below above) r)))
+  unfolding startsAt
+  start-within m =
+      within-after (suc m) (visit (free own)) first
+      ∙ rw (visit-paid m (free own), within-free m own) (onward-left own m (λ b r. within r (first b)))
+      ∙ within-after m (rightmost (λ k. has) place h 1 0) (second own)
+      ∙ (λ i. onward (within m (rightmost (λ k. has) place h 1 0)) (λ below r. on-second below r i))
+    where
+      own : Bool
+      own = has place (suc place)
+
+      on-last : (below above : Option ℕ) (r : ℕ) → within r (last own below above) ≡ onward (within r (setRun h)) (λ done r. left (started own below above) r)
+      on-last below above r = then-read r (setRun h) (λ done. started own below above)
+
+      on-second : (below : Option ℕ) (r : ℕ) → within r (second own below) ≡ onward (within r (leftmost (λ k. has) (suc place) h 1 0)) (λ above r. onward (within r (setRun h)) (λ done r. left (started own below above) r))
+      on-second below r =
+          within-after r (leftmost (λ k. has) (suc place) h 1 0) (last own below)
+          ∙ (λ i. onward (within r (leftmost (λ k. has) (suc place) h 1 0)) (λ above r. on-last below above r i))
+
+-- ---- a sweep, an orientation and the walk
+pub sweep-within : (m : ℕ) (l : List Row) → within m (sweep l) ≡ onward (within m (runs (step (lines l) (levels (length (lines l)))) (record { active = []; met = nothing }) (events l))) (λ s r. left (s .met) r)
+unfolding sweep
+sweep-within m l = then-read m (runs (step (lines l) (levels (length (lines l)))) (record { active = []; met = nothing }) (events l)) (λ s. s .met)
+
+pub along-few : (m : ℕ) (l : List Row) → length l < 2 → within m (along l) ≡ left nothing m
+unfolding along
+along-few m [] h = within-free m nothing
+along-few m (r ∷ []) h = within-free m nothing
+along-few m (r ∷ t ∷ l) h = absurd (omega arith)
+
+pub along-more : (l : List Row) → 2 ≤ length l → along l ≡ sweep l
+unfolding along
+along-more [] h = absurd (omega arith)
+along-more (r ∷ []) h = absurd (omega arith)
+along-more (r ∷ t ∷ l) h = refl
+
+pub walk-within : (m : ℕ) (l : List Segment) → within m (walk l) ≡ onward (within m (along (oriented 1 l))) (λ f r. onward (within r (along (oriented 0 l))) (λ g r. left (lesserFigures f g) r))
+unfolding walk
+walk-within m l =
+    within-after m (along (oriented 1 l)) (λ f. after (along (oriented 0 l)) (λ g. free (lesserFigures f g)))
+    ∙ (λ i. onward (within m (along (oriented 1 l))) (λ f r. then-read r (along (oriented 0 l)) (lesserFigures f) i))

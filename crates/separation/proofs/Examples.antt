@@ -1,0 +1,88 @@
+-- The marked cases of separation, by computing the definitions. Assumes nothing.
+use mathlib.Core.Path.{_≡_, refl}
+use mathlib.Core.List.{[], _∷_}
+use Prim.Native.Nat.{ℕ}
+use lib.Count.{trailingZeros}
+use mathlib.Core.Bool.{false}
+use lib.Ieee.{Float, inf, binary64, ofBits, ofFields, toBits, round, units, odd, size, span, climb, neg, sum, add, sub, lt, eq}
+use Rattle.laws.specs.Lists.{some-of, chosen, pairs}
+use Rattle.laws.specs.Rows.{rowLe}
+use Rattle.laws.specs.Sort.{insertBy, sortBy}
+use Rattle.laws.specs.Least.{lesser, least}
+use Rattle.laws.specs.Charged.{runs, settle}
+use Rattle.floats.specs.Values.{plusZero, canonicalZero, lesserOf, greaterOf, absOf, gapOf}
+use Rattle.floats.specs.TotalOrder.{key, keyOf, patternAt, floatAt}
+use Rattle.drawing.specs.declared.gap.Gap.{Gap}
+use Rattle.drawing.specs.declared.gap.Gap.the-variants.{Absent, Present}
+use Rattle.drawing.specs.declared.refusal.Refusal.the-variants.{WorkLimitExceeded}
+use Rattle.drawing.specs.Entries.{SegmentColumns, segmentColumns, segmentsOf}
+use Rattle.drawing.specs.Orders.{segmentRow, segmentsInOrder}
+use Rattle.drawing.specs.Gaps.{gapFrom, leastGap, lesserGap}
+use Rattle.drawing.specs.Refusals.{numberOf, firstOf}
+use Rattle.drawing.specs.Conditions.{differ, tooMany, shortScratch, unfitLine, unfitSegment}
+use Rattle.drawing.specs.Checks.{segmentsDiffer, separationConditions}
+use Rattle.separation.specs.declared.report.SeparationAnswer.the-variants.{Refused}
+use Rattle.separation.specs.Figures.{fixedOf, startOf, endOf, overlapping, counted, gapBetween, gaps, nonzero, leastOf, figures}
+use Rattle.separation.specs.Rows.{rowOf, words, oriented, distinct, lines, index, levels, moment, eventsFrom, events}
+use Rattle.separation.specs.Searches.{otherIn, rightmost, leftmost, setRun}
+use Rattle.separation.specs.Walk.{nothing, lesserFigures, same, remove, startsAt, endsAt, step, sweep, along, walk, visitCount}
+use Rattle.separation.specs.Answer.{accepted, allPairs, separation, resultOf}
+
+abbrev float : ℕ → Float
+float b = ofBits binary64 b
+
+-- two horizontal segments of the nets given, each by the bits of fixed, start and end
+abbrev two : ℕ → ℕ → (ℕ × ℕ × ℕ) → (ℕ × ℕ × ℕ) → SegmentColumns
+two m n a b = segmentColumns (m ∷ n ∷ []) (1 ∷ 1 ∷ []) (float (a .0) ∷ float (b .0) ∷ []) (float (a .1) ∷ float (b .1) ∷ []) (float (a .2) ∷ float (b .2) ∷ [])
+
+abbrev alone : SegmentColumns
+alone = segmentColumns (1 ∷ []) (1 ∷ []) (float 0 ∷ []) (float 0 ∷ []) (float 0x4024_0000_0000_0000 ∷ [])
+
+-- "Drawing D: net 1 horizontal at 0 from 0 to 10; net 2 horizontal at 4 from 5 to 15"
+abbrev D : SegmentColumns
+D = two 1 2 (0, 0, 0x4024_0000_0000_0000) (0x4010_0000_0000_0000, 0x4014_0000_0000_0000, 0x402e_0000_0000_0000)
+
+-- 0 to 5 at 0 and 5 to 9 at 4
+abbrev touching : SegmentColumns
+touching = two 1 2 (0, 0, 0x4014_0000_0000_0000) (0x4010_0000_0000_0000, 0x4014_0000_0000_0000, 0x4022_0000_0000_0000)
+
+-- 0 to 10 and 5 to 9, both at 4
+abbrev level : SegmentColumns
+level = two 1 2 (0x4010_0000_0000_0000, 0, 0x4024_0000_0000_0000) (0x4010_0000_0000_0000, 0x4014_0000_0000_0000, 0x4022_0000_0000_0000)
+
+-- the same at +0 and at -0: "Zeros become +0."
+abbrev zeros : SegmentColumns
+zeros = two 1 2 (0, 0, 0x4024_0000_0000_0000) (0x8000_0000_0000_0000, 0x4014_0000_0000_0000, 0x4022_0000_0000_0000)
+
+-- 0 to 10 at 0 and 5 to 9 at 1, of one net
+abbrev related : SegmentColumns
+related = two 1 1 (0, 0, 0x4024_0000_0000_0000) (0x3ff0_0000_0000_0000, 0x4014_0000_0000_0000, 0x4022_0000_0000_0000)
+
+-- the same at the largest float and at its negative, of two nets: "An overflowing gap is +infinity, a present value."
+abbrev far : SegmentColumns
+far = two 1 2 (0x7fef_ffff_ffff_ffff, 0, 0x4024_0000_0000_0000) (0xffef_ffff_ffff_ffff, 0x4014_0000_0000_0000, 0x4022_0000_0000_0000)
+
+abbrev four : Gap
+four = Present (float 0x4010_0000_0000_0000)
+
+-- columns, allowance and words of scratch
+pub record Marked : Type 0 where
+  -- (a) "one segment, allowance 0: separation absent, 0 visits"
+  pub a : separation alone 0 96 ≡ accepted nothing 0
+  -- (b) "D's separation accepted at 16, refused at 15"
+  pub b-accepted : separation D 16 128 ≡ accepted (record { least = four; leastNonzero = four }) 16
+  pub b-refused : separation D 15 128 ≡ Refused WorkLimitExceeded
+  -- (d) "0 to 5 and 5 to 9, nets 1 and 2: absent"
+  pub d : separation touching 1000 128 ≡ accepted nothing 14
+  -- (e) "equal fixed, overlapping, two nets: least 0, nonzero absent"
+  pub e : separation level 1000 128 ≡ accepted (record { least = Present plusZero; leastNonzero = Absent }) 10
+  pub e-zeros : separation zeros 1000 128 ≡ accepted (record { least = Present plusZero; leastNonzero = Absent }) 10
+  -- (f) "one net, gap 1: absent"
+  pub f : separation related 1000 128 ≡ accepted nothing 14
+  pub overflow : separation far 1000 128 ≡ accepted (record { least = Present (inf false); leastNonzero = Present (inf false) }) 16
+  -- a refusal's number and values, one word of scratch too few
+  pub short : resultOf (separation D 16 127) ≡ (4, record { minimum = Absent; «minimum_positive» = Absent; visits = 0 })
+
+pub marked : Marked
+unfolding ofBits ofFields toBits round units odd size span climb neg sum add sub lt eq trailingZeros some-of chosen pairs rowLe insertBy sortBy lesser least runs settle canonicalZero lesserOf greaterOf absOf gapOf key keyOf patternAt floatAt segmentsOf segmentRow segmentsInOrder gapFrom leastGap lesserGap numberOf firstOf differ tooMany shortScratch unfitLine unfitSegment segmentsDiffer separationConditions fixedOf startOf endOf overlapping counted gapBetween gaps nonzero leastOf figures rowOf words oriented distinct lines index levels moment eventsFrom events otherIn rightmost leftmost setRun lesserFigures same remove startsAt endsAt step sweep along walk visitCount allPairs separation resultOf
+marked = record { a = refl; b-accepted = refl; b-refused = refl; d = refl; e = refl; e-zeros = refl; f = refl; overflow = refl; short = refl }

@@ -1,0 +1,19 @@
+-- The laws of the definitions, a file for each notion.
+pub mod Summaries
+pub mod Searches
+pub mod Lines
+pub mod Meets
+pub mod ActiveRows
+pub mod Sweeps
+pub mod Costs
+pub mod Places
+pub mod Running
+pub mod Fit
+pub mod WalkFigures
+pub mod AnyOrder
+pub mod Answers
+pub mod Examples
+-- what code that pays for each visit and stores summaries leans on
+pub mod Allowances
+pub mod Trees
+pub mod NetCounts

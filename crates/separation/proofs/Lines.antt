@@ -1,0 +1,180 @@
+-- The different fixed values rise, each at its index; and what it means that another net is active on a range of them. Assumes nothing.
+use mathlib.Core.Path.{_≡_, refl, sym, ap, _∙_}
+use mathlib.Core.Logic.{_⊎_, inl, inr}
+use mathlib.Core.List.{List, [], _∷_, map}
+use mathlib.Core.Bool.{Bool, true, false, not, _&&_}
+use Prim.Native.Nat.{ℕ, suc, _-_, _+_, _*_, _^_, _≤_, _<_}
+use native.Mathlib.Nat.{pow-succ'}
+use native.Mathlib.Omega.{arith}
+use borrow.Author.Tests.{lt-ltb, le-ltb, ltb-true, leb-true, le-leb, eqb-true, eqb-false, ne-eqb, not-true, not-false}
+use lib.Dec.{ltb, leb, eqb}
+use lib.ListN.{length, getD}
+use lib.Ieee.Digits.{size-lt, size-le}
+use lib.Pow.{pow-pos, pow-mono}
+use lib.Count.{leadingZeros, leading-length}
+use lib.Ieee.{size}
+use Rattle.laws.specs.Lists.{Mem, put}
+use Rattle.laws.specs.Rows.{rowLe}
+use Rattle.laws.specs.Sort.{Sorted}
+use Rattle.laws.proofs.Tests.{clash, and-left, and-right, and-both, le-or-lt}
+use Rattle.laws.proofs.ListLaws.{mem-map, map-mem, some-mem, mem-some}
+use Rattle.laws.proofs.RowLaws.{row-more}
+use Rattle.separation.specs.Rows.{Row, words, rowsInOrder, differs, distinct, lines, index, levels}
+use Rattle.separation.specs.Searches.{otherIn}
+
+-- ---- the next power of two
+pub levels-enough : (n : ℕ) → n ≤ 2 ^ levels n
+unfolding levels
+levels-enough n = omega (arith, size-lt (n - 1))
+
+pub levels-least : (n k : ℕ) → n ≤ 2 ^ k → levels n ≤ k
+unfolding levels
+levels-least n k h = size-le (n - 1) k (omega (arith, pow-pos k))
+
+-- "leading_zeros of count minus one gives levels"
+pub levels-zeros : (n : ℕ) → n ≤ 2 ^ 64 → 64 - leadingZeros 64 (n - 1) ≡ levels n
+unfolding levels
+levels-zeros n h =
+    let g = leading-length 64 (n - 1) (omega arith) in
+    let low : size (n - 1) ≤ g .0 = size-le (n - 1) (g .0) (g .2) in
+    let high : g .0 ≤ size (n - 1) = elim (le-or-lt (g .0) (size (n - 1))) [ inl k ↦ k | inr k ↦ absurd (over (size (n - 1)) (g .0) (n - 1) (pow-succ' 2 (size (n - 1))) (pow-mono k) (size-lt (n - 1)) (g .3)) ] in
+    omega (arith, g .1)
+  where
+    over : (z m a : ℕ) → 2 ^ suc z ≡ 2 * 2 ^ z → 2 ^ suc z ≤ 2 ^ m → a < 2 ^ z → 2 ^ m ≤ 2 * a + 1 → ⊥
+    over z m a e p q r = omega arith
+
+-- ---- rows in order have first words in order
+pub first-word : (x y : ℕ) (a b : List ℕ) → rowLe (x ∷ a) (y ∷ b) ≡ true → x ≤ y
+first-word x y a b e = elim (le-or-lt x y) [ inl h ↦ h | inr h ↦ clash (rowLe (x ∷ a) (y ∷ b)) e (row-more x y a b h) ]
+
+lines-in-order : (l : List Row) → Sorted rowsInOrder l → Sorted leb (map (λ (r : Row). r .line) l)
+unfolding words
+lines-in-order [] s = tt
+lines-in-order (r ∷ l) s = (λ p m. let g = mem-map (λ (t : Row). t .line) l p m in le-leb (r .line) p (rw (g .2) (first-word (r .line) (g .0 .line) _ _ (s .0 (g .0) (g .1)))), lines-in-order l (s .1))
+
+-- ---- of values in order the different ones rise
+abbrev pub Rising : List ℕ → Type 0
+Rising [] = Unit {0}
+Rising (q ∷ l) = ((p : ℕ) → Mem p l → q < p) × Rising l
+
+distinct-mem : (z : ℕ) (l : List ℕ) → Mem z (distinct l) → Mem z l
+unfolding distinct
+distinct-mem z [] m = m
+distinct-mem z (p ∷ l) m = go (differs p l) m (distinct-mem z l)
+  where
+    go : (b : Bool) → Mem z (put b p (distinct l)) → (Mem z (distinct l) → Mem z l) → Mem z (p ∷ l)
+    go true (inl e) h = inl e
+    go true (inr n) h = inr (h n)
+    go false n h = inr (h n)
+
+mem-distinct : (z : ℕ) (l : List ℕ) → Mem z l → Mem z (distinct l)
+unfolding distinct
+mem-distinct z (p ∷ l) m = go (differs p l) refl m (mem-distinct z l)
+  where
+    next : (l : List ℕ) → differs p l ≡ false → z ≡ p → Mem z l
+    next [] e k = clash true refl e
+    next (q ∷ l) e k = inl (k ∙ eqb-true p q (not-false (eqb p q) e))
+
+    go : (b : Bool) → differs p l ≡ b → Mem z (p ∷ l) → (Mem z l → Mem z (distinct l)) → Mem z (put b p (distinct l))
+    go true e (inl k) h = inl k
+    go true e (inr n) h = inr (h n)
+    go false e (inl k) h = h (next l e k)
+    go false e (inr n) h = h n
+
+distinct-rising : (l : List ℕ) → Sorted leb l → Rising (distinct l)
+unfolding distinct
+distinct-rising [] s = tt
+distinct-rising (p ∷ l) s = go (differs p l) refl (distinct-rising l (s .1))
+  where
+    under : (l : List ℕ) → Sorted leb (p ∷ l) → differs p l ≡ true → (z : ℕ) → Mem z l → p < z
+    under (q ∷ l) s e z m =
+        let h = leb-true p q (s .0 q (inl refl)) in
+        let n = eqb-false p q (not-true (eqb p q) e) in
+        above h n m
+      where
+        above : p ≤ q → (p ≡ q → ⊥) → Mem z (q ∷ l) → p < z
+        above h n (inl k) = omega arith
+        above h n (inr m) = let g = leb-true q z (s .1 .0 z m) in omega arith
+
+    go : (b : Bool) → differs p l ≡ b → Rising (distinct l) → Rising (put b p (distinct l))
+    go true e h = (λ z m. under l s e z (distinct-mem z l m), h)
+    go false e h = h
+
+pub lines-rising : (l : List Row) → Sorted rowsInOrder l → Rising (lines l)
+unfolding lines
+lines-rising l s = distinct-rising (map (λ (r : Row). r .line) l) (lines-in-order l s)
+
+pub line-mem : (r : Row) (l : List Row) → Mem r l → Mem (r .line) (lines l)
+unfolding lines
+line-mem r l m = mem-distinct (r .line) (map (λ (t : Row). t .line) l) (map-mem (λ (t : Row). t .line) l r m)
+
+-- ---- the index of a value among rising ones
+index-past : (q p : ℕ) (l : List ℕ) → q < p → index (q ∷ l) p ≡ suc (index l p)
+unfolding index
+index-past q p l h = rw (lt-ltb q p h)
+
+index-here : (q p : ℕ) (l : List ℕ) → p ≤ q → index (q ∷ l) p ≡ 0
+unfolding index
+index-here q p l h = rw (le-ltb q p h)
+
+later : (q p : ℕ) (l : List ℕ) → q < p → Mem p (q ∷ l) → Mem p l
+later q p l h (inl e) = absurd (omega arith)
+later q p l h (inr n) = n
+
+first-one : (q p : ℕ) (l : List ℕ) → Rising (q ∷ l) → p ≤ q → Mem p (q ∷ l) → p ≡ q
+first-one q p l r h (inl e) = e
+first-one q p l r h (inr n) = absurd (omega (arith, r .0 p n))
+
+pub index-lt : (ls : List ℕ) (p : ℕ) → Mem p ls → index ls p < length ls
+index-lt (q ∷ l) p m = elim (le-or-lt p q) [
+  | inl h ↦ omega (arith, index-here q p l h)
+  | inr h ↦ omega (arith, index-past q p l h, index-lt l p (later q p l h m))
+]
+
+pub at-index : (ls : List ℕ) (p : ℕ) → Rising ls → Mem p ls → getD ls (index ls p) 0 ≡ p
+at-index (q ∷ l) p r m = elim (le-or-lt p q) [
+  | inl h ↦ rw (index-here q p l h) (sym (first-one q p l r h m))
+  | inr h ↦ rw (index-past q p l h) (at-index l p (r .1) (later q p l h m))
+]
+
+-- a value below another one has an index below the other's
+pub index-strict : (ls : List ℕ) (p t : ℕ) → Rising ls → Mem p ls → p < t → index ls p < index ls t
+index-strict (q ∷ l) p t r m k = elim (le-or-lt p q) [
+  | inl h ↦ let e = first-one q p l r h m in omega (arith, index-here q p l h, index-past q t l (omega arith))
+  | inr h ↦ omega (arith, index-past q p l h, index-past q t l (omega arith), index-strict l p t (r .1) (later q p l h m) k)
+]
+
+pub index-back : (ls : List ℕ) (p t : ℕ) → Rising ls → Mem t ls → index ls p ≤ index ls t → p ≤ t
+index-back ls p t r m h = elim (le-or-lt p t) [ inl k ↦ k | inr k ↦ absurd (omega (arith, index-strict ls t p r m k)) ]
+
+-- ---- another net on the lines from a up to b
+module _ (ls : List ℕ) (active : List Row) (n : ℕ) where
+  abbrev pub OtherAt : ℕ → ℕ → Row → Type 0
+  OtherAt a b r = (r .net ≡ n → ⊥) × (a ≤ index ls (r .line)) × (index ls (r .line) < b)
+
+  pub other→ : (a b : ℕ) → otherIn ls active n a b ≡ true → (r : Row) × Mem r active × OtherAt a b r
+  unfolding otherIn
+  other→ a b t =
+      let g = some-mem (λ (r : Row). not (eqb (r .net) n) && (leb a (index ls (r .line)) && ltb (index ls (r .line)) b)) active t in
+      let i = index ls (g .0 .line) in
+      let x = not (eqb (g .0 .net) n) in
+      let y = and-right x (leb a i && ltb i b) (g .2) in
+      (g .0, g .1, (eqb-false (g .0 .net) n (not-true (eqb (g .0 .net) n) (and-left x (leb a i && ltb i b) (g .2))), leb-true a i (and-left (leb a i) (ltb i b) y), ltb-true i b (and-right (leb a i) (ltb i b) y)))
+
+  pub →other : (a b : ℕ) (r : Row) → Mem r active → OtherAt a b r → otherIn ls active n a b ≡ true
+  unfolding otherIn
+  →other a b r m o =
+      let i = index ls (r .line) in
+      mem-some (λ (t : Row). not (eqb (t .net) n) && (leb a (index ls (t .line)) && ltb (index ls (t .line)) b)) r active m
+      (and-both (not (eqb (r .net) n)) (leb a i && ltb i b) (ap not (ne-eqb (r .net) n (o .0))) (and-both (leb a i) (ltb i b) (le-leb a i (o .1)) (lt-ltb i b (o .2))))
+
+  pub other-splits : (a b c : ℕ) → otherIn ls active n a c ≡ true → (otherIn ls active n a b ≡ true) ⊎ (otherIn ls active n b c ≡ true)
+  other-splits a b c t =
+      let g = other→ a c t in
+      elim (le-or-lt b (index ls (g .0 .line))) [
+        | inl h ↦ inr (→other b c (g .0) (g .1) (g .2 .0, h, g .2 .2))
+        | inr h ↦ inl (→other a b (g .0) (g .1) (g .2 .0, g .2 .1, h))
+      ]
+
+  pub other-widen : (a b c d : ℕ) → c ≤ a → b ≤ d → otherIn ls active n a b ≡ true → otherIn ls active n c d ≡ true
+  other-widen a b c d h k t = let g = other→ a b t in →other c d (g .0) (g .1) (g .2 .0, omega (arith, g .2 .1), omega (arith, g .2 .2))

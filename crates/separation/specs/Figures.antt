@@ -1,0 +1,52 @@
+-- The figures of separation over all pairs of segments: no tree, no sweep, no order and no allowance.
+use mathlib.Core.Bool.{Bool, not, _&&_}
+use mathlib.Core.List.{List}
+use lib.Dec.{eqb}
+use lib.Ieee.{Float, lt, eq}
+use Rattle.laws.specs.Lists.{chosen, keep, pairs}
+use Rattle.floats.specs.Values.{plusZero, canonicalZero, lesserOf, greaterOf, gapOf}
+use Rattle.drawing.specs.declared.gap.Gap.{Gap}
+use Rattle.drawing.specs.Entries.{Segment}
+use Rattle.drawing.specs.Gaps.{leastGap}
+
+-- a segment's coordinates as this measure takes them: "Zeros become +0."
+unfoldable pub fixedOf : Segment → Float
+fixedOf s = canonicalZero (s .fixed)
+
+unfoldable pub startOf : Segment → Float
+startOf s = canonicalZero (s .start)
+
+-- where a segment stops counting: at its end. Figures and walk read the end here only.
+unfoldable pub endOf : Segment → Float
+endOf s = canonicalZero (s .end)
+
+-- "whose overlap is positive (larger start < smaller end)"
+unfoldable pub overlapping : Segment → Segment → Bool
+overlapping a b = lt (greaterOf (startOf a) (startOf b)) (lesserOf (endOf a) (endOf b))
+
+-- "same-orientation, different-net pairs whose overlap is positive"
+unfoldable pub counted : Segment × Segment → Bool
+counted p = eqb (p .0 .orientation) (p .1 .orientation) && (not (eqb (p .0 .net) (p .1 .net)) && overlapping (p .0) (p .1))
+
+-- "the .. rounded gap of fixed coordinates": one rounded subtraction, its sign dropped. "An overflowing gap is +infinity, a present value."
+unfoldable pub gapBetween : Segment × Segment → Float
+gapBetween p = gapOf (fixedOf (p .0)) (fixedOf (p .1))
+
+-- the gap of each pair that counts
+unfoldable pub gaps : List Segment → List Float
+gaps l = chosen counted gapBetween (pairs l)
+
+unfoldable pub nonzero : Float → Bool
+nonzero x = not (eq x plusZero)
+
+pub record Figures : Type 0 where
+  pub least : Gap
+  pub leastNonzero : Gap
+
+-- the least of some gaps, and the least nonzero one
+unfoldable pub leastOf : List Float → Figures
+leastOf l = record { least = leastGap l; leastNonzero = leastGap (keep nonzero l) }
+
+-- "the least rounded gap of fixed coordinates; and the least nonzero one. Each is absent if there is no such pair."
+unfoldable pub figures : List Segment → Figures
+figures l = leastOf (gaps l)

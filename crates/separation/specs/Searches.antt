@@ -1,0 +1,58 @@
+-- The tree of active nets: its searches and its `set`, each with the nodes that it touches. "Every node touched by a search or a `set` costs one visit".
+-- A tree of h levels has 2 to the power h leaves, one for each line. Its root has number 1, and the children of node k have 2 k and 2 k + 1; a node over h levels whose first leaf is s stands for the leaves from s up to s + 2 ^ h.
+use mathlib.Core.Bool.{Bool, true, false, not, _&&_}
+use mathlib.Core.List.{List}
+use mathlib.Core.Option.{Option, none, some}
+use Prim.Native.Nat.{ℕ, zero, suc, _+_, _*_, _^_}
+use lib.Dec.{leb, ltb, eqb}
+use Rattle.laws.specs.Lists.{some-of}
+use Rattle.laws.specs.Charged.{Charged, Outcome, spent, left, free, visit, after}
+use Rattle.separation.specs.declared.tree.Search.{Search}
+use Rattle.separation.specs.declared.tree.Search.the-variants.{Found, Empty, Spent}
+use Rattle.separation.specs.Rows.{Row, index}
+
+-- some active segment of another net than n lies on a line from a up to b: what the Rust's summary of two different nets decides for every net (`summary-decides` in proofs/Summaries.antt)
+unfoldable pub otherIn : List ℕ → List Row → ℕ → ℕ → ℕ → Bool
+otherIn ls active n a b = some-of (λ r. not (eqb (r .net) n) && (leb a (index ls (r .line)) && ltb (index ls (r .line)) b)) active
+
+-- a leaf s that is touched: found where it is wanted
+abbrev pub leaf : Bool → ℕ → Charged (Option ℕ)
+leaf true s = visit (free (some s))
+leaf false s = visit (free none)
+
+-- the second child is searched where the first one's search is empty
+abbrev pub orElse : Option ℕ → Charged (Option ℕ) → Charged (Option ℕ)
+orElse (some i) two = free (some i)
+orElse none two = two
+
+-- a node that is touched: its children are searched where a wanted leaf may be below it
+abbrev pub node : Bool → Charged (Option ℕ) → Charged (Option ℕ) → Charged (Option ℕ)
+node true one two = visit (after one (λ r. orElse r two))
+node false one two = visit (free none)
+
+-- `search_rightmost` from node k: the last leaf below q for which `has` holds. `has` is asked with a node's number, its first leaf and its end.
+unfoldable pub rightmost : (ℕ → ℕ → ℕ → Bool) → ℕ → ℕ → ℕ → ℕ → Charged (Option ℕ)
+rightmost has q zero k s = leaf (ltb s q && has k s (s + 1)) s
+rightmost has q (suc h) k s =
+    let high = rightmost has q h (2 * k + 1) (s + 2 ^ h) in
+    let low = rightmost has q h (2 * k) s in
+    node (ltb s q && has k s (s + 2 ^ suc h)) high low
+
+-- `search_leftmost` from node k: the first leaf from q on for which `has` holds
+unfoldable pub leftmost : (ℕ → ℕ → ℕ → Bool) → ℕ → ℕ → ℕ → ℕ → Charged (Option ℕ)
+leftmost has q zero k s = leaf (ltb q (s + 1) && has k s (s + 1)) s
+leftmost has q (suc h) k s =
+    let low = leftmost has q h (2 * k) s in
+    let high = leftmost has q h (2 * k + 1) (s + 2 ^ h) in
+    node (ltb q (s + 2 ^ suc h) && has k s (s + 2 ^ suc h)) low high
+
+-- `set`: a leaf, and each node above it up to the root
+unfoldable pub setRun : ℕ → Charged (Unit {0})
+setRun zero = visit (free tt)
+setRun (suc h) = visit (setRun h)
+
+-- "a search answers found, empty or spent": what its run within an allowance comes to
+unfoldable pub searchOf : Outcome (Option ℕ) → Search
+searchOf spent = Spent
+searchOf (left (some i) m) = Found i
+searchOf (left none m) = Empty

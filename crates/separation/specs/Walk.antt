@@ -1,0 +1,85 @@
+-- The Rust's walk with no limit: the figures that it finds, at the cost of its visits. It takes nothing from an allowance or a scratch.
+use mathlib.Core.Bool.{Bool, true, false, _&&_, cond}
+use mathlib.Core.List.{List, [], _∷_}
+use mathlib.Core.Option.{Option, none, some}
+use Prim.Native.Nat.{ℕ, suc}
+use lib.ListN.{length, getD}
+use lib.Dec.{eqb}
+use Rattle.laws.specs.Charged.{Charged, free, visit, after, runs}
+use Rattle.floats.specs.Values.{plusZero, gapOf}
+use Rattle.floats.specs.TotalOrder.{floatAt}
+use Rattle.drawing.specs.declared.gap.Gap.the-variants.{Absent, Present}
+use Rattle.drawing.specs.Entries.{Segment}
+use Rattle.drawing.specs.Gaps.{lesserGap}
+use Rattle.separation.specs.Figures.{Figures}
+use Rattle.separation.specs.Rows.{Row, oriented, lines, index, levels, Event, ends, starts, events}
+use Rattle.separation.specs.Searches.{otherIn, rightmost, leftmost, setRun}
+
+abbrev pub nothing : Figures
+nothing = record { least = Absent; leastNonzero = Absent }
+
+-- `minimum_option` of each figure
+unfoldable pub lesserFigures : Figures → Figures → Figures
+lesserFigures f g = record { least = lesserGap (f .least) (g .least); leastNonzero = lesserGap (f .leastNonzero) (g .leastNonzero) }
+
+-- where the sweep stands: the active segments, and the figures of what it has met
+pub record Sweep : Type 0 where
+  pub active : List Row
+  pub met : Figures
+
+-- two rows are equal word by word
+unfoldable pub same : Row → Row → Bool
+same a b = (eqb (a .net) (b .net) && eqb (a .line) (b .line)) && (eqb (a .start) (b .start) && eqb (a .end) (b .end))
+
+-- the rows with one less that equals x
+unfoldable pub remove : Row → List Row → List Row
+remove x [] = []
+remove x (a ∷ l) = let r = remove x l in cond (same x a) l (a ∷ r)
+
+-- another net on the segment's own line: the gap is 0
+abbrev pub ownLine : Bool → Figures → Figures
+ownLine true f = record { least = Present plusZero; leastNonzero = f .leastNonzero }
+ownLine false f = f
+
+-- another net on the line that a search found
+abbrev pub otherLine : List ℕ → ℕ → Option ℕ → Figures → Figures
+otherLine ls line none f = f
+otherLine ls line (some i) f = let g = Present (gapOf (floatAt (getD ls i 0)) (floatAt line)) in lesserFigures f (record { least = g; leastNonzero = g })
+
+-- a segment starts: is another net on its own line (`has_other_at`), which is the nearest line below with another net, which the nearest above; then its line's `set`. "Every node touched by a search or a `set` costs one visit, and so does each `has_other_at`."
+unfoldable pub startsAt : List ℕ → ℕ → Sweep → Row → Charged Sweep
+startsAt ls h s x =
+    let i = index ls (x .line) in
+    let has = otherIn ls (s .active) (x .net) in
+    after (visit (free (has i (suc i)))) (λ own.
+    after (rightmost (λ k. has) i h 1 0) (λ below.
+    after (leftmost (λ k. has) (suc i) h 1 0) (λ above.
+    after (setRun h) (λ done. free (record { active = x ∷ s .active; met = otherLine ls (x .line) above (otherLine ls (x .line) below (ownLine own (s .met))) })))))
+
+-- a segment ends: its line's `set`
+unfoldable pub endsAt : ℕ → Sweep → Row → Charged Sweep
+endsAt h s x = after (setRun h) (λ done. free (record { active = remove x (s .active); met = s .met }))
+
+unfoldable pub step : List ℕ → ℕ → Sweep → Event → Charged Sweep
+step ls h s (ends i x) = endsAt h s x
+step ls h s (starts i x) = startsAt ls h s x
+
+-- the sweep over one orientation's segments in order, from no active segment and absent figures
+unfoldable pub sweep : List Row → Charged Figures
+sweep l =
+    let ls = lines l in
+    after (runs (step ls (levels (length ls))) (record { active = []; met = nothing }) (events l)) (λ s. free (s .met))
+
+-- "An orientation with fewer than two segments costs nothing."
+unfoldable pub along : List Row → Charged Figures
+along [] = free nothing
+along (r ∷ []) = free nothing
+along (r ∷ t ∷ l) = sweep (r ∷ t ∷ l)
+
+-- horizontal first, then vertical
+unfoldable pub walk : List Segment → Charged Figures
+walk l = after (along (oriented 1 l)) (λ f. after (along (oriented 0 l)) (λ g. free (lesserFigures f g)))
+
+-- "Clearance and separation: the visits of the Rust's walk with no limit, its lists ordered as the departures say."
+unfoldable pub visitCount : List Segment → ℕ
+visitCount l = walk l .cost
