@@ -1,4 +1,5 @@
-//! Finds the reference, readability.rs, and hands its place to the compiler.
+//! Finds the reference, readability.rs, and hands its place to the compiler;
+//! links the port where its library has been made.
 //!
 //! The variable READABILITY_RS names it; without the variable it is looked for
 //! beside the project, where the papers lie. A relative path counts from the
@@ -8,11 +9,16 @@ use std::{env, path::Path, process::ExitCode};
 
 const DEFAULT: &str = "../shared/docs/src/crates/schemweave/src/readability.rs";
 
+/// Where `rt staticlib exports` writes, from the project's root.
+const PORT: &str = "target/staticlib";
+
 fn main() -> ExitCode {
     println!("cargo:rerun-if-env-changed=READABILITY_RS");
     let package = env::var("CARGO_MANIFEST_DIR").expect("cargo names the package's folder");
+    let root = Path::new(&package).join("../..");
+    link_port(&root.join(PORT));
     let named = env::var("READABILITY_RS").unwrap_or_else(|_| DEFAULT.to_string());
-    let place = Path::new(&package).join("../..").join(named);
+    let place = root.join(named);
     match place.canonicalize() {
         Ok(place) => {
             println!("cargo:rerun-if-changed={}", place.display());
@@ -24,5 +30,18 @@ fn main() -> ExitCode {
             eprintln!("set READABILITY_RS to its path");
             ExitCode::FAILURE
         }
+    }
+}
+
+/// Without the library the program still compares the reference with all
+/// pairs; the parts that call the port are left out.
+fn link_port(folder: &Path) {
+    println!("cargo:rustc-check-cfg=cfg(port)");
+    let library = folder.join("libexports.a");
+    println!("cargo:rerun-if-changed={}", library.display());
+    if library.is_file() {
+        println!("cargo:rustc-cfg=port");
+        println!("cargo:rustc-link-search=native={}", folder.display());
+        println!("cargo:rustc-link-lib=static=exports");
     }
 }

@@ -131,6 +131,11 @@ impl Tally {
                 self.refused[place]
             );
         }
+        if cfg!(port) {
+            println!("the port: clearance is called on every drawing");
+        } else {
+            println!("the port: not linked");
+        }
         if let Some((drawing, differences)) = &self.smallest {
             println!("first to differ: {}", self.first_to_differ.join(", "));
             println!("the smallest that differs:");

@@ -1,8 +1,11 @@
 //! One drawing examined: everything in which the reference differs from all
-//! pairs, or from what else document 01 says of it.
+//! pairs, or from what else document 01 says of it, and in which the port
+//! differs from the reference.
 
 use std::fmt::Debug;
 
+#[cfg(port)]
+use crate::against_port;
 use crate::{
     drawing::Drawing,
     file,
@@ -66,6 +69,7 @@ impl Examined {
                 Ok(Err(_)) => {}
                 Err(fault) => found.texts.push(fault.to_string()),
             }
+            compare_port(measure, answer, self, &reordered, &mut found);
         }
         found.prefix = "file";
         compare_file(&self.drawing, &mut found);
@@ -172,6 +176,31 @@ fn compare_sister_calls(report: &Report, examined: &Examined, found: &mut Differ
         examined.fed.run_without_limit(),
         Run::Done(congestion.figures_without_limit()),
     );
+}
+
+/// The port answers as the reference does. Only clearance is ported so far.
+#[cfg(port)]
+fn compare_port(
+    measure: Measure,
+    answer: &Result<Answer, Fault>,
+    examined: &Examined,
+    reordered: &Drawing,
+    found: &mut Differences,
+) {
+    if let (Measure::Clearance, Ok(answer)) = (measure, answer) {
+        let differences = against_port::differences(&examined.drawing, reordered, answer);
+        found.texts.extend(differences);
+    }
+}
+
+#[cfg(not(port))]
+fn compare_port(
+    _measure: Measure,
+    _answer: &Result<Answer, Fault>,
+    _examined: &Examined,
+    _reordered: &Drawing,
+    _found: &mut Differences,
+) {
 }
 
 fn expected_run(report: &Report, limit: u64) -> Run {

@@ -1,6 +1,11 @@
 //! The oracle: runs the reference beside an independent all-pairs computation
-//! and gives the sheets that a port must print.
+//! and gives the sheets that a port must print. Where the port's library is
+//! linked, the port's own answers are held against them.
 
+#[cfg(port)]
+mod against_port;
+#[cfg(port)]
+mod bench;
 mod check;
 mod drawing;
 mod examine;
@@ -10,6 +15,8 @@ mod listing;
 mod maker;
 mod marked;
 mod pairs;
+#[cfg(port)]
+mod port;
 mod random;
 mod reference;
 mod refusals;
@@ -59,7 +66,8 @@ usage: oracle COMMAND
   shrink             the smallest part of the drawing on standard input that
                      still differs, if it does
   drawing-d          the file of drawing D
-  sample SEED COUNT  a sample of COUNT files with the Rust's sheets";
+  sample SEED COUNT  a sample of COUNT files with the Rust's sheets
+  bench RUNS         the times of the Rust and of the port, best of RUNS";
 
 fn main() -> ExitCode {
     let words: Vec<String> = env::args().skip(1).collect();
@@ -92,6 +100,7 @@ fn run(words: &[&str]) -> Result<ExitCode, String> {
             let sample = sample::sample(number(seed)?, count).map_err(|fault| fault.to_string())?;
             output(&sample)
         }
+        ["bench", runs] => bench_runs(number(runs)?),
         _ => Err(USAGE.to_string()),
     }
 }
@@ -112,6 +121,17 @@ fn shrink_input() -> Result<ExitCode, String> {
         }
         None => output(b"no difference\n"),
     }
+}
+
+#[cfg(port)]
+fn bench_runs(runs: u64) -> Result<ExitCode, String> {
+    bench::bench(runs)?;
+    Ok(ExitCode::SUCCESS)
+}
+
+#[cfg(not(port))]
+fn bench_runs(_runs: u64) -> Result<ExitCode, String> {
+    Err("the port is not linked: run `rt staticlib exports` and build again".to_string())
 }
 
 fn number(word: &str) -> Result<u64, String> {

@@ -139,7 +139,8 @@ fn scratch_short(taken: &Lent) -> bool {
     taken.scratch_words < scratch_need(taken.segment_columns[0], taken.node_columns[0])
 }
 
-fn scratch_need(segments: usize, nodes: usize) -> usize {
+/// The least words of scratch that a call must be lent.
+pub fn scratch_need(segments: usize, nodes: usize) -> usize {
     32 * (segments + nodes) + 64
 }
 

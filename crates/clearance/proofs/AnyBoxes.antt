@@ -1,0 +1,85 @@
+-- The distance of any two boxes, whatever floats they hold, is a number that is not negative and not -0: `<` compares two such as totalOrder does. Assumes nothing.
+use mathlib.Core.Path.{_≡_, refl, sym, ap, _∙_}
+use mathlib.Core.Logic.{inl, inr}
+use mathlib.Core.Bool.{Bool, true, false, not, cond}
+use Prim.Native.Nat.{ℕ, _+_, _-_, _*_, _≤_, _<_}
+use native.Mathlib.Nat.{le-of-lt, le-of-eq}
+use native.Mathlib.Omega.{arith}
+use borrow.Author.Tests.{ltb-true, ltb-false, le-ltb}
+use lib.Ieee.{Float, nan, inf, fin, binary64, up, down, round, sum, add, neg, sub, lt, below, fits, isNan}
+use Rattle.laws.proofs.Tests.{decide, clash, of-true}
+use Rattle.floats.specs.TotalOrder.{keyOf}
+use Rattle.floats.specs.Values.{greaterOf}
+use Rattle.floats.proofs.Rank.{mag, sgn}
+use Rattle.floats.proofs.Rounding.{round-num, round-shape}
+use Rattle.floats.proofs.Gaps.{Good, zero-good, good-one, good-lt}
+use Rattle.floats.proofs.NumberKeys.{key-lt}
+use Rattle.clearance.specs.declared.aabb.Aabb.{Aabb}
+use Rattle.clearance.specs.Boxes.{axisGap, distance}
+
+-- ---- a float less one that is below it
+round-good : (a c : ℕ) → Good (round binary64 false a c)
+round-good a c = record { num = round-num binary64 false a c; plus = round-shape binary64 false a c .0 }
+
+-- of two fractions, the one above less the one below
+sum-good : (s t : Bool) (a b c : ℕ) → below t b s a ≡ true → Good (sum binary64 s a (not t) b c)
+unfolding sum
+sum-good false false a b c h = rw (le-ltb a b (omega (arith, ltb-true b a h))) (round-good (a - b) c)
+sum-good false true a b c h = round-good (a + b) c
+sum-good true true a b c h = rw h (round-good (b - a) c)
+sum-good true false a b c h = clash false h refl
+
+infinite-good : Good (inf false)
+unfolding fits isNan sgn
+infinite-good = record { num = (tt, tt); plus = refl }
+
+above-good : (x y : Float) → lt y x ≡ true → Good (sub binary64 x y)
+unfolding lt sub add neg
+above-good nan nan h = clash false h refl
+above-good nan (inf t) h = clash false h refl
+above-good nan (fin t n d) h = clash false h refl
+above-good (inf s) nan h = clash false h refl
+above-good (inf false) (inf false) h = clash false h refl
+above-good (inf false) (inf true) h = infinite-good
+above-good (inf true) (inf false) h = clash false h refl
+above-good (inf true) (inf true) h = clash false h refl
+above-good (inf false) (fin t n d) h = infinite-good
+above-good (inf true) (fin t n d) h = clash false h refl
+above-good (fin s m e) nan h = clash false h refl
+above-good (fin s m e) (inf false) h = clash false h refl
+above-good (fin s m e) (inf true) h = infinite-good
+above-good (fin s m e) (fin t n d) h = sum-good s t (m * up e * down d) (n * up d * down e) (down e * down d) h
+
+-- ---- distances
+axis-good : (a b c d : Float) → Good (axisGap a b c d)
+unfolding axisGap
+axis-good a b c d = elim (decide (lt b c)) [
+  | inl e ↦ rw e (above-good c b e)
+  | inr e ↦ rw e (elim (decide (lt d a)) [ inl g ↦ rw g (above-good a d g) | inr g ↦ rw g zero-good ])
+]
+
+pick-good : (b : Bool) (x y : Float) → Good x → Good y → Good (cond b x y)
+pick-good true x y p q = p
+pick-good false x y p q = q
+
+greater-good : (x y : Float) → Good x → Good y → Good (greaterOf x y)
+unfolding greaterOf
+greater-good x y p q = pick-good (lt x y) y x q p
+
+pub any-distance-good : (p q : Aabb) → Good (distance p q)
+unfolding distance
+any-distance-good p q = greater-good _ _ (axis-good (p .left) (p .right) (q .left) (q .right)) (axis-good (p .top) (p .bottom) (q .top) (q .bottom))
+
+-- ---- two of them compared
+module _ (x y : Float) (p : Good x) (q : Good y) where
+  pub nearer-key : lt y x ≡ true → keyOf y < keyOf x
+  nearer-key h = key-lt y x (q .num) (p .num) (of-true (lt y x) h)
+
+  pub no-nearer-key : lt y x ≡ false → keyOf x ≤ keyOf y
+  no-nearer-key h = elim (decide (lt x y)) [
+    | inl e ↦ le-of-lt (key-lt x y (p .num) (q .num) (of-true (lt x y) e))
+    | inr e ↦ le-of-eq (ap keyOf (good-one x y p q (same (mag binary64 x) (mag binary64 y) (ltb-false _ _ (sym (good-lt x y p q) ∙ e)) (ltb-false _ _ (sym (good-lt y x q p) ∙ h)))))
+  ]
+    where
+      same : (m n : ℕ) → n ≤ m → m ≤ n → m ≡ n
+      same m n h k = omega arith

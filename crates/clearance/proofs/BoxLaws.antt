@@ -1,0 +1,207 @@
+-- Boxes of fit entries, and: the distance to a box is not larger than the distance to a box inside it. Assumes nothing.
+use mathlib.Core.Path.{_≡_, sym, ap, _∙_}
+use mathlib.Core.Logic.{inl, inr}
+use mathlib.Core.Bool.{Bool, true, false, cond}
+use Prim.Native.Nat.{ℕ, _-_, _≤_, _<_, min, max}
+use native.Mathlib.Nat.{le-refl, le-trans, le-of-lt}
+use native.Mathlib.Omega.{arith}
+use lib.Dec.{eqb}
+use lib.Ieee.{Float, binary64, sub, lt}
+use borrow.Author.Tests.{ltb-false}
+use Rattle.laws.proofs.Tests.{decide, of-true, cond-true, cond-false}
+use Rattle.floats.specs.Values.{lesserOf, greaterOf}
+use Rattle.floats.proofs.Rank.{mag, rank, Num, Fin, fin-num, lt-rank, lt→, distance as apart}
+use Rattle.floats.proofs.Rounding.{rnd, rnd-mono, rnd-zero}
+use Rattle.floats.proofs.Difference.{sub-mag}
+use Rattle.floats.proofs.Gaps.{Good, zero-good, zero-mag, sub-good}
+use Rattle.floats.proofs.Extremes.{greater}
+use Rattle.drawing.specs.Entries.{Segment, Node}
+use Rattle.clearance.specs.declared.aabb.Aabb.{Aabb}
+use Rattle.clearance.specs.Boxes.{fromNode, fromSegment, nodeBox, segmentBox, union, axisGap, distance}
+use Rattle.clearance.proofs.Fit.{FitSegment, FitNode, Line, line-of, across-of, down-of}
+use Rattle.clearance.proofs.Growth.{grows}
+
+-- the place of a float in the order of the values
+abbrev pub at : Float → ℕ
+at x = rank binary64 x
+
+-- a float that is not below another
+pub not-below : (x y : Float) → Num binary64 x → Num binary64 y → lt x y ≡ false → at y ≤ at x
+not-below x y p q e = ltb-false (at x) (at y) (sym (lt-rank binary64 x y p q) ∙ e)
+
+below : (x y : Float) → Fin binary64 x → Fin binary64 y → lt x y ≡ true → at x < at y
+below x y p q e = lt→ binary64 x y (fin-num binary64 x p) (fin-num binary64 y q) (of-true (lt x y) e)
+
+-- ---- the lesser and the greater of two
+picked : (b : Bool) (x y : Float) → Fin binary64 x → Fin binary64 y → Fin binary64 (cond b y x)
+picked true x y p q = q
+picked false x y p q = p
+
+module _ (x y : Float) (p : Fin binary64 x) (q : Fin binary64 y) where
+  lesser-fin : Fin binary64 (lesserOf x y)
+  unfolding lesserOf
+  lesser-fin = picked (lt y x) x y p q
+
+  greater-fin : Fin binary64 (greaterOf x y)
+  unfolding greaterOf
+  greater-fin = picked (lt x y) x y p q
+
+  pub lesser-at : at (lesserOf x y) ≡ min (at x) (at y)
+  unfolding lesserOf
+  lesser-at = elim (decide (lt y x)) [
+    | inl e ↦ let h = below y x q p e in ap at (cond-true (lt y x) y x e) ∙ omega arith
+    | inr e ↦ let h = not-below y x (fin-num binary64 y q) (fin-num binary64 x p) e in ap at (cond-false (lt y x) y x e) ∙ omega arith
+  ]
+
+  pub greater-at : at (greaterOf x y) ≡ max (at x) (at y)
+  unfolding greaterOf
+  greater-at = elim (decide (lt x y)) [
+    | inl e ↦ let h = below x y p q e in ap at (cond-true (lt x y) y x e) ∙ omega arith
+    | inr e ↦ let h = not-below x y (fin-num binary64 x p) (fin-num binary64 y q) e in ap at (cond-false (lt x y) y x e) ∙ omega arith
+  ]
+
+-- ---- along one axis: from a to b, both finite
+pub record Span (a b : Float) : Type 0 where
+  pub low : Fin binary64 a
+  pub high : Fin binary64 b
+  pub rising : at a ≤ at b
+
+-- a..b lies in c..d
+pub record Inside (a b c d : Float) : Type 0 where
+  pub low : at c ≤ at a
+  pub high : at b ≤ at d
+
+-- two spans and the least one around both
+module _ (a b c d : Float) (p : Span a b) (q : Span c d) where
+  join : Span (lesserOf a c) (greaterOf b d)
+  join = record {
+    low = lesser-fin a c (p .low) (q .low);
+    high = greater-fin b d (p .high) (q .high);
+    rising = omega (arith, lesser-at a c (p .low) (q .low), greater-at b d (p .high) (q .high), p .rising);
+  }
+
+  join-first : Inside a b (lesserOf a c) (greaterOf b d)
+  join-first = record { low = omega (arith, lesser-at a c (p .low) (q .low)); high = omega (arith, greater-at b d (p .high) (q .high)) }
+
+  join-second : Inside c d (lesserOf a c) (greaterOf b d)
+  join-second = record { low = omega (arith, lesser-at a c (p .low) (q .low)); high = omega (arith, greater-at b d (p .high) (q .high)) }
+
+  join-least : (u v : Float) → Inside a b u v → Inside c d u v → Inside (lesserOf a c) (greaterOf b d) u v
+  join-least u v h k = record { low = omega (arith, lesser-at a c (p .low) (q .low), h .low, k .low); high = omega (arith, greater-at b d (p .high) (q .high), h .high, k .high) }
+
+-- what the gap of two spans is before rounding, in units of the format's smallest value: `-` stops at 0
+abbrev between : Float → Float → Float → Float → ℕ
+between a b c d = max (at c - at b) (at a - at d)
+
+-- one rounded subtraction
+difference : (x y : Float) (n : ℕ) → Fin binary64 x → Fin binary64 y → lt y x ≡ true → at x - at y ≡ n → Good (sub binary64 x y) × (mag binary64 (sub binary64 x y) ≡ rnd binary64 n)
+difference x y n h k e g = (sub-good x y h k (of-true (lt y x) e), sub-mag binary64 x y h k ∙ ap (rnd binary64) (over (at x) (at y) (below y x k h e) ∙ g))
+  where
+    over : (m n : ℕ) → n < m → apart m n ≡ m - n
+    over m n h = omega arith
+
+module _ (a b c d : Float) (p : Span a b) (q : Span c d) where
+  axis-gap-is : Good (axisGap a b c d) × (mag binary64 (axisGap a b c d) ≡ rnd binary64 (between a b c d))
+  unfolding axisGap
+  axis-gap-is = elim (decide (lt b c)) [
+    | inl e ↦ let h = below b c (p .high) (q .low) e in rw e (difference c b (between a b c d) (q .low) (p .high) e (omega (arith, p .rising, q .rising)))
+    | inr e ↦ let h = not-below b c (fin-num binary64 b (p .high)) (fin-num binary64 c (q .low)) e in elim (decide (lt d a)) [
+      | inl g ↦ let k = below d a (q .high) (p .low) g in rw (e, g) (difference a d (between a b c d) (p .low) (q .high) g (omega arith))
+      | inr g ↦
+          let k = not-below d a (fin-num binary64 d (q .high)) (fin-num binary64 a (p .low)) g in
+          let z : between a b c d ≡ 0 = omega arith in
+          rw (e, g) (zero-good, zero-mag ∙ sym (ap (rnd binary64) z ∙ rnd-zero binary64))
+    ]
+  ]
+
+  pub axis-gap-good : Good (axisGap a b c d)
+  axis-gap-good = axis-gap-is .0
+
+  pub axis-gap-mag : mag binary64 (axisGap a b c d) ≡ rnd binary64 (between a b c d)
+  axis-gap-mag = axis-gap-is .1
+
+-- a wider span is not further away
+axis-gap-wider : (a b c d u v : Float) → Span a b → Span c d → Span u v → Inside c d u v → mag binary64 (axisGap a b u v) ≤ mag binary64 (axisGap a b c d)
+axis-gap-wider a b c d u v p q r w =
+    rw (axis-gap-mag a b u v p r, axis-gap-mag a b c d p q) (rnd-mono binary64 (between a b u v) (between a b c d) (omega (arith, w .low, w .high)))
+
+-- ---- boxes
+pub record FitBox (b : Aabb) : Type 0 where
+  pub across : Span (b .left) (b .right)
+  pub down : Span (b .top) (b .bottom)
+
+-- b lies in u
+pub record Within (b u : Aabb) : Type 0 where
+  pub across : Inside (b .left) (b .right) (u .left) (u .right)
+  pub down : Inside (b .top) (b .bottom) (u .top) (u .bottom)
+
+pub within-self : (b : Aabb) → Within b b
+within-self b = record { across = record { low = le-refl (at (b .left)); high = le-refl (at (b .right)) }; down = record { low = le-refl (at (b .top)); high = le-refl (at (b .bottom)) } }
+
+pub within-trans : (a b c : Aabb) → Within a b → Within b c → Within a c
+within-trans a b c h k = record {
+  across = record { low = le-trans (k .across .low) (h .across .low); high = le-trans (h .across .high) (k .across .high) };
+  down = record { low = le-trans (k .down .low) (h .down .low); high = le-trans (h .down .high) (k .down .high) };
+}
+
+pub fit-node : (n : Node) → FitNode n → FitBox (nodeBox n)
+unfolding nodeBox fromNode
+fit-node n p =
+    let a = across-of n p in
+    let d = down-of n p in
+    record {
+      across = record { low = a .corner-fin; high = a .edge-fin; rising = grows binary64 (n .x) (n .width) (a .corner-fin) (a .extent-fin) (a .positive) };
+      down = record { low = d .corner-fin; high = d .edge-fin; rising = grows binary64 (n .y) (n .height) (d .corner-fin) (d .extent-fin) (d .positive) };
+    }
+
+pub fit-segment : (s : Segment) → FitSegment s → FitBox (segmentBox s)
+unfolding segmentBox fromSegment
+fit-segment s p = go (eqb (s .orientation) 1)
+  where
+    l : Line (s .fixed) (s .start) (s .end)
+    l = line-of s p
+
+    along : Span (s .start) (s .end)
+    along = record { low = l .start-fin; high = l .end-fin; rising = le-of-lt (lt→ binary64 (s .start) (s .end) (fin-num binary64 (s .start) (l .start-fin)) (fin-num binary64 (s .end) (l .end-fin)) (l .rising)) }
+
+    crossing : Span (s .fixed) (s .fixed)
+    crossing = record { low = l .fixed-fin; high = l .fixed-fin; rising = le-refl (at (s .fixed)) }
+
+    go : (b : Bool) → FitBox (fromSegment b (s .fixed) (s .start) (s .end))
+    go true = record { across = along; down = crossing }
+    go false = record { across = crossing; down = along }
+
+module _ (b c : Aabb) (p : FitBox b) (q : FitBox c) where
+  pub fit-union : FitBox (union b c)
+  unfolding union
+  fit-union = record { across = join (b .left) (b .right) (c .left) (c .right) (p .across) (q .across); down = join (b .top) (b .bottom) (c .top) (c .bottom) (p .down) (q .down) }
+
+  pub union-first : Within b (union b c)
+  unfolding union
+  union-first = record { across = join-first (b .left) (b .right) (c .left) (c .right) (p .across) (q .across); down = join-first (b .top) (b .bottom) (c .top) (c .bottom) (p .down) (q .down) }
+
+  pub union-second : Within c (union b c)
+  unfolding union
+  union-second = record { across = join-second (b .left) (b .right) (c .left) (c .right) (p .across) (q .across); down = join-second (b .top) (b .bottom) (c .top) (c .bottom) (p .down) (q .down) }
+
+  pub union-least : (u : Aabb) → Within b u → Within c u → Within (union b c) u
+  unfolding union
+  union-least u h k = record {
+    across = join-least (b .left) (b .right) (c .left) (c .right) (p .across) (q .across) (u .left) (u .right) (h .across) (k .across);
+    down = join-least (b .top) (b .bottom) (c .top) (c .bottom) (p .down) (q .down) (u .top) (u .bottom) (h .down) (k .down);
+  }
+
+  pub distance-good : Good (distance b c)
+  unfolding distance
+  distance-good = greater .good _ _ (axis-gap-good (b .left) (b .right) (c .left) (c .right) (p .across) (q .across)) (axis-gap-good (b .top) (b .bottom) (c .top) (c .bottom) (p .down) (q .down))
+
+  distance-mag : mag binary64 (distance b c) ≡ max (mag binary64 (axisGap (b .left) (b .right) (c .left) (c .right))) (mag binary64 (axisGap (b .top) (b .bottom) (c .top) (c .bottom)))
+  unfolding distance
+  distance-mag = greater .size _ _ (axis-gap-good (b .left) (b .right) (c .left) (c .right) (p .across) (q .across)) (axis-gap-good (b .top) (b .bottom) (c .top) (c .bottom) (p .down) (q .down))
+
+-- "monotone rounding justifies pruning"
+pub distance-within : (s b u : Aabb) → FitBox s → FitBox b → FitBox u → Within b u → mag binary64 (distance s u) ≤ mag binary64 (distance s b)
+distance-within s b u p q r w =
+    let x = axis-gap-wider (s .left) (s .right) (b .left) (b .right) (u .left) (u .right) (p .across) (q .across) (r .across) (w .across) in
+    let y = axis-gap-wider (s .top) (s .bottom) (b .top) (b .bottom) (u .top) (u .bottom) (p .down) (q .down) (r .down) (w .down) in
+    omega (arith, distance-mag s u p r, distance-mag s b p q)

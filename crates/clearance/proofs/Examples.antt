@@ -1,0 +1,85 @@
+-- Document 01's marked cases of clearance, by computing the definitions. Assumes nothing.
+use mathlib.Core.Path.{_≡_, refl}
+use mathlib.Core.List.{[], _∷_}
+use Prim.Native.Nat.{ℕ}
+use lib.Ieee.{Float, binary64, ofBits, toBits, add, sub, lt}
+use Rattle.laws.specs.Lists.{some-of, chosen, fold, cross}
+use Rattle.laws.specs.Rows.{rowLe}
+use Rattle.laws.specs.Sort.{insertBy, sortBy}
+use Rattle.laws.specs.Least.{lesser, least}
+use Rattle.laws.specs.Charged.{runs, settle}
+use Rattle.floats.specs.TotalOrder.{key, keyOf}
+use Rattle.floats.specs.Values.{lesserOf, greaterOf}
+use Rattle.drawing.specs.declared.gap.Gap.{Gap}
+use Rattle.drawing.specs.declared.gap.Gap.the-variants.{Absent, Present}
+use Rattle.drawing.specs.Entries.{SegmentColumns, NodeColumns, ExemptionColumns, segmentColumns, nodeColumns, exemptionColumns, segmentsOf, nodesOf, exemptionsOf}
+use Rattle.drawing.specs.Gaps.{gapFrom, leastGap, lesserGap}
+use Rattle.drawing.specs.Orders.{segmentRow, nodeRow, segmentsInOrder, nodesInOrder}
+use Rattle.drawing.specs.Refusals.{numberOf, firstOf}
+use Rattle.drawing.specs.Conditions.{differ, tooMany, shortScratch, unfitLine, unfitSegment, unfitExtent, unfitNode, unfitThreshold}
+use Rattle.drawing.specs.Checks.{segmentsDiffer, nodesDiffer, exemptionsDiffer, listConditions, entryConditions, clearanceConditions}
+use Rattle.clearance.specs.Boxes.{fromNode, fromSegment, nodeBox, segmentBox, union, axisGap, distance}
+use Rattle.clearance.specs.Figures.{exempt, distances, figures}
+use Rattle.clearance.specs.Tree.{indexed, indexedRow, indexedInOrder, horizontalWider, hull, boundsOf, build, treeOf}
+use Rattle.clearance.specs.Walk.{contributes, withPair, walk, walkAll, visitCount}
+use Rattle.clearance.specs.Answer.{accepted, allPairs, unless, answer, Result, acceptedResult, refusedResult, result}
+
+abbrev zero : Float
+zero = ofBits binary64 0
+
+abbrev one : Float
+one = ofBits binary64 0x3ff0_0000_0000_0000
+
+abbrev two : Float
+two = ofBits binary64 0x4000_0000_0000_0000
+
+abbrev three : Float
+three = ofBits binary64 0x4008_0000_0000_0000
+
+abbrev four : Float
+four = ofBits binary64 0x4010_0000_0000_0000
+
+abbrev five : Float
+five = ofBits binary64 0x4014_0000_0000_0000
+
+abbrev ten : Float
+ten = ofBits binary64 0x4024_0000_0000_0000
+
+abbrev fifteen : Float
+fifteen = ofBits binary64 0x402e_0000_0000_0000
+
+abbrev minus-one : Float
+minus-one = ofBits binary64 0xbff0_0000_0000_0000
+
+-- "Drawing D: net 1 horizontal at 0 from 0 to 10; net 2 horizontal at 4 from 5 to 15; node 7 with x 2, y 1, width 3, height 2; exemption net 2, node 7; threshold 2"
+abbrev d-segments : SegmentColumns
+d-segments = segmentColumns (1 ∷ 2 ∷ []) (1 ∷ 1 ∷ []) (zero ∷ four ∷ []) (zero ∷ five ∷ []) (ten ∷ fifteen ∷ [])
+
+abbrev d-nodes : NodeColumns
+d-nodes = nodeColumns (7 ∷ []) (two ∷ []) (one ∷ []) (three ∷ []) (two ∷ [])
+
+abbrev d-exemptions : ExemptionColumns
+d-exemptions = exemptionColumns (2 ∷ []) (7 ∷ [])
+
+-- what a reader finds in the answer; the scratch has 32 (2 + 1) + 64 words
+abbrev measured : SegmentColumns → NodeColumns → ExemptionColumns → Float → ℕ → Result
+measured s n e threshold allowance = result (answer s n e threshold allowance 160)
+
+abbrev report : Gap → ℕ → ℕ → Result
+report g v n = acceptedResult (record { least = g; violations = v }) n
+
+-- "clearance 3ff0000000000000 1 2", and the spent allowance below 2
+pub record Marked : Type 0 where
+  pub d : measured d-segments d-nodes d-exemptions two 1000 ≡ report (Present one) 1 2
+  pub d-at-2 : measured d-segments d-nodes d-exemptions two 2 ≡ report (Present one) 1 2
+  pub d-at-1 : measured d-segments d-nodes d-exemptions two 1 ≡ refusedResult 7
+  -- (g) "distance 2, threshold 2: no violation": D's first segment, and D's node one further away
+  pub g : measured (segmentColumns (1 ∷ []) (1 ∷ []) (zero ∷ []) (zero ∷ []) (ten ∷ [])) (nodeColumns (7 ∷ []) (two ∷ []) (two ∷ []) (three ∷ []) (two ∷ [])) d-exemptions two 1000 ≡ report (Present two) 0 1
+  -- (h) "no nodes, threshold -1: 5"
+  pub h : measured d-segments (nodeColumns [] [] [] [] []) d-exemptions minus-one 1000 ≡ refusedResult 5
+  -- (i) "no segments, threshold 0: absent, 0, 0"
+  pub i : measured (segmentColumns [] [] [] [] []) d-nodes d-exemptions zero 0 ≡ report Absent 0 0
+
+pub marked : Marked
+unfolding ofBits toBits add sub lt some-of chosen fold cross rowLe insertBy sortBy lesser least runs settle key keyOf lesserOf greaterOf segmentsOf nodesOf exemptionsOf gapFrom leastGap lesserGap segmentRow nodeRow segmentsInOrder nodesInOrder numberOf firstOf differ tooMany shortScratch unfitLine unfitSegment unfitExtent unfitNode unfitThreshold segmentsDiffer nodesDiffer exemptionsDiffer listConditions entryConditions clearanceConditions fromNode fromSegment nodeBox segmentBox union axisGap distance exempt distances figures indexed indexedRow indexedInOrder horizontalWider hull boundsOf build treeOf contributes withPair walk walkAll visitCount accepted allPairs unless answer result
+marked = record { d = refl; d-at-2 = refl; d-at-1 = refl; g = refl; h = refl; i = refl }

@@ -1,0 +1,12 @@
+-- `clearance::aabb::Aabb::from_node` meets its contract: the code is the definition. Assumes nothing.
+use mathlib.Core.Path.{refl}
+use Rattle.clearance.specs.Boxes.{fromNode}
+use Rattle.clearance.proofs.aabb.Aabb.from_node.Statement.{statement}
+use Rattle.clearance.proofs.aabb.Aabb.from_node.Tie as tie
+
+returns : tie.Need-returns
+unfolding fromNode
+returns c = refl
+
+pub from-node-spec : {M : Type 1} → statement M
+from-node-spec = tie.close (tie.spec returns)

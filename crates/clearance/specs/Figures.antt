@@ -1,0 +1,27 @@
+-- The clearance figures over all pairs of a segment and a node (document 01, 'Figures over all pairs').
+use mathlib.Core.Bool.{Bool, not, _&&_}
+use mathlib.Core.List.{List}
+use Prim.Native.Nat.{ℕ}
+use lib.Dec.{eqb}
+use lib.Ieee.{Float, lt}
+use Rattle.laws.specs.Lists.{some-of, chosen, count, cross}
+use Rattle.drawing.specs.declared.gap.Gap.{Gap}
+use Rattle.drawing.specs.Entries.{Segment, Node, Exemption}
+use Rattle.drawing.specs.Gaps.{leastGap}
+use Rattle.clearance.specs.Boxes.{nodeBox, segmentBox, distance}
+
+-- a segment of the net and a node of the id are exempt: "An exemption covers every node of that id."
+unfoldable pub exempt : List Exemption → ℕ → ℕ → Bool
+exempt ex net id = some-of (λ e. eqb (e .net) net && eqb (e .node) id) ex
+
+-- the distances of the "segment and node pairs not exempt"
+unfoldable pub distances : List Exemption → List Segment → List Node → List Float
+distances ex ss ns = chosen (λ p. not (exempt ex (p .0 .net) (p .1 .id))) (λ p. distance (segmentBox (p .0)) (nodeBox (p .1))) (cross ss ns)
+
+pub record Figures : Type 0 where
+  pub least : Gap
+  pub violations : ℕ
+
+-- "least distance .., absent if there is none; violations are those pairs whose distance is strictly below the threshold"
+unfoldable pub figures : List Exemption → Float → List Segment → List Node → Figures
+figures ex threshold ss ns = record { least = leastGap (distances ex ss ns); violations = count (λ d. lt d threshold) (distances ex ss ns) }

@@ -1,0 +1,107 @@
+// Exemptions that can be looked up fast. Each is packed into one word, the net in the upper half; the words stand in ascending order in a slice that the caller lends, so that those of one net stand together and are found by halving.
+ghost use mathlib.Core.Path.{_≡_};
+ghost use mathlib.Core.List.{List};
+ghost use Prim.Native.Nat.{ℕ, _≤_};
+ghost use lib.ListN.{length};
+ghost use Rattle.drawing.specs.Entries.{Exemption, exemptionColumns};
+ghost use Rattle.drawing.specs.Lengths.{ExemptionsAgree};
+ghost use Rattle.clearance.specs.Figures.{exempt};
+ghost use Rattle.clearance.specs.Exempting.{word, wordAt, nodeOf, Ascending, Rising, Gathered, Bound, Own, InReach, Listed};
+use sorting::sort_indices;
+
+// 2 to the power 32: the upper half of a word is the net.
+const HALF: u64 = 4294967296;
+
+// The places of one net's exemptions: from `from` on, and before `to`.
+pub(crate) struct Range {
+    pub from: usize,
+    pub to: usize,
+}
+
+fn pack(net: u32, node: u32) -> u64
+    ensures { λ r. ⌜ r ≡ word net node ⌝ }
+{
+    net as u64 * HALF + node as u64
+}
+
+// Packs the exemptions into the first words and puts them in ascending order.
+pub(crate) fn gather(words: &mut [u64], exempt_net: &[u32], exempt_node: &[u32])
+    requires { ⌜ ExemptionsAgree (exemptionColumns (now «exempt_net») (now «exempt_node»)) × (length (now «exempt_net») ≤ length (now words)) ⌝ }
+    ensures { λ _. ⌜ Gathered (exemptionColumns (now («exempt_net» .entry)) (now («exempt_node» .entry))) (now (words .entry)) (now (words .exit)) ⌝ }
+{
+    let k = exempt_net.len();
+    let mut i = 0;
+    while i < k {
+        words[i] = pack(exempt_net[i], exempt_node[i]);
+        i += 1;
+    }
+    sort_indices(words, k, k, 0);
+}
+
+// The first place from a on, and before b, whose word is at least v; b where there is none. It is one of the n places from `at` on, or the place behind them.
+pub(crate) fn first_at_least(words: &[u64], a: usize, b: usize, v: u64) -> usize
+    requires { ⌜ (a ≤ b) × (b ≤ length (now words)) × Ascending (wordAt (now words)) a b ⌝ }
+    ensures { λ r. ⌜ Bound (wordAt (now (words .entry))) a b v r ⌝ }
+{
+    let mut at = a;
+    let mut n = b - a;
+    while 0 < n {
+        let rest = n / 2;
+        let half = n - rest;
+        if words[at + half - 1] < v {
+            at += half;
+        }
+        n = rest;
+    }
+    at
+}
+
+// The same for the nodes of the words. `below` is 1 where the node looked at is below id, and 0 where it is not: a comparison here would become a branch, guessed wrong half of the time.
+fn first_node(words: &[u64], a: usize, b: usize, id: u32) -> usize
+    requires { ⌜ (a ≤ b) × (b ≤ length (now words)) × Ascending (nodeOf (now words)) a b ⌝ }
+    ensures { λ r. ⌜ Bound (nodeOf (now (words .entry))) a b id r ⌝ }
+{
+    let limit = id as u64 + (HALF - 1);
+    let mut at = a;
+    let mut n = b - a;
+    while 0 < n {
+        let rest = n / 2;
+        let half = n - rest;
+        let below = (limit - words[at + half - 1] % HALF) / HALF;
+        at += half * below as usize;
+        n = rest;
+    }
+    at
+}
+
+// The places of that net's exemptions among the first k words.
+pub(crate) fn range_of(words: &[u64], k: usize, net: u32) -> Range
+    requires { ⌜ Rising (now words) k ⌝ }
+    ensures { λ r. ⌜ Own (now (words .entry)) k net r ⌝ }
+{
+    let from = first_at_least(words, 0, k, net as u64 * HALF);
+    // the words of the last net reach up to the last of all words
+    if net == 4294967295 {
+        return Range { from: from, to: k };
+    }
+    let to = first_at_least(words, from, k, (net as u64 + 1) * HALF);
+    Range { from: from, to: to }
+}
+
+// Whether a node of that id is exempt for the net whose exemptions stand in the range.
+pub(crate) fn is_exempt(words: &[u64], range: Range, id: u32) -> bool
+    requires { ⌜ InReach (now words) range ⌝ }
+    ensures { λ r. ⌜ ((ex : List Exemption) (net : ℕ) → Listed (now (words .entry)) ex net range → r ≡ exempt ex net id) ⌝ }
+{
+    let from = range.from;
+    let to = range.to;
+    if from == to {
+        return false;
+    }
+    let at = first_node(words, from, to, id);
+    if at < to {
+        words[at] % HALF == id as u64
+    } else {
+        false
+    }
+}

@@ -1,0 +1,153 @@
+// The clearance measure by columns.
+ghost use mathlib.Core.Path.{_≡_};
+ghost use Prim.Native.Nat.{_≤_};
+ghost use lib.ListN.{length};
+ghost use Rattle.laws.specs.Charged.{within};
+ghost use Rattle.drawing.specs.declared.refusal.Check.the-variants.{Passed};
+ghost use Rattle.drawing.specs.Refusals.{firstOf};
+ghost use Rattle.drawing.specs.Entries.{segmentColumns, nodeColumns, exemptionColumns, segments, nodes, exemptions};
+ghost use Rattle.drawing.specs.Checks.{clearanceConditions};
+ghost use Rattle.clearance.specs.Walk.{walkAll};
+ghost use Rattle.clearance.specs.Walking.{walkedOf, Remains, Answers};
+ghost use Rattle.clearance.specs.Answer.{answer, scratchAfter};
+use crate::exempt::gather;
+use crate::prepare::prepare_nodes;
+use crate::report::ClearanceAnswer;
+use crate::report::EdgeNodeClearance;
+use crate::tables::order_segments;
+use crate::walk::Walked;
+use crate::walk::Walking;
+use crate::walk_all::walk_all;
+use drawing::Check;
+use drawing::Gap;
+use drawing::Refusal;
+use drawing::check_clearance;
+use drawing::clear;
+
+// The walks of all segments of a fit drawing. The scratch holds 6 words for each segment, for their order, and behind them 20 for each node, for the tree.
+fn walk_drawing(
+    net: &[u32],
+    orientation: &[u8],
+    fixed: &[f64],
+    start: &[f64],
+    end: &[f64],
+    id: &[u32],
+    x: &[f64],
+    y: &[f64],
+    width: &[f64],
+    height: &[f64],
+    exempt_net: &[u32],
+    exempt_node: &[u32],
+    threshold: f64,
+    allowance: usize,
+    scratch: &mut [u64],
+) -> Walked
+    requires { ⌜ firstOf (clearanceConditions (segmentColumns (now net) (now orientation) (now fixed) (now start) (now end)) (nodeColumns (now id) (now x) (now y) (now width) (now height)) (exemptionColumns (now «exempt_net») (now «exempt_node»)) threshold (length (now scratch))) ≡ Passed ⌝ }
+    ensures { λ r. ⌜ r ≡ walkedOf (within allowance (walkAll (exemptions (exemptionColumns (now («exempt_net» .entry)) (now («exempt_node» .entry)))) threshold (segments (segmentColumns (now (net .entry)) (now (orientation .entry)) (now (fixed .entry)) (now (start .entry)) (now (end .entry)))) (nodes (nodeColumns (now (id .entry)) (now (x .entry)) (now (y .entry)) (now (width .entry)) (now (height .entry)))))) ⌝ }
+{
+    let m = id.len();
+    if m == 0 {
+        return Walked::Went(Walking {
+            least: Gap::Absent,
+            violations: 0,
+            left: allowance,
+        });
+    }
+    let mut packed = [0; 4096];
+    gather(&mut packed, exempt_net, exempt_node);
+    order_segments(scratch, net, orientation, fixed, start, end);
+    let first = 6 * net.len();
+    prepare_nodes(&mut scratch[first..], id, x, y, width, height);
+    walk_all(
+        &scratch[first + 11 * m..],
+        m,
+        &scratch[0..],
+        net,
+        orientation,
+        fixed,
+        start,
+        end,
+        threshold,
+        &packed,
+        exempt_net.len(),
+        allowance,
+    )
+}
+
+// The visits used are those that are no longer left.
+fn answer_of(walked: Walked, allowance: usize) -> ClearanceAnswer
+    requires { ⌜ Remains walked allowance ⌝ }
+    ensures { λ r. ⌜ Answers walked allowance r ⌝ }
+{
+    let Walked::Went(state) = walked else {
+        return ClearanceAnswer::Refused(Refusal::WorkLimitExceeded);
+    };
+    let least = state.least;
+    let visits = allowance - state.left;
+    ClearanceAnswer::Report(EdgeNodeClearance {
+        minimum_clearance: least,
+        violations: state.violations,
+        visits: visits,
+    })
+}
+
+pub fn measure_edge_node_clearance_bounded(
+    net: &[u32],
+    orientation: &[u8],
+    fixed: &[f64],
+    start: &[f64],
+    end: &[f64],
+    id: &[u32],
+    x: &[f64],
+    y: &[f64],
+    width: &[f64],
+    height: &[f64],
+    exempt_net: &[u32],
+    exempt_node: &[u32],
+    threshold: f64,
+    allowance: usize,
+    scratch: &mut [u64],
+) -> ClearanceAnswer
+    ensures { λ r. ⌜ r ≡ answer (segmentColumns (now (net .entry)) (now (orientation .entry)) (now (fixed .entry)) (now (start .entry)) (now (end .entry))) (nodeColumns (now (id .entry)) (now (x .entry)) (now (y .entry)) (now (width .entry)) (now (height .entry))) (exemptionColumns (now («exempt_net» .entry)) (now («exempt_node» .entry))) threshold allowance (length (now (scratch .entry))) ⌝ }
+    ensures { λ _. ⌜ now (scratch .exit) ≡ scratchAfter (firstOf (clearanceConditions (segmentColumns (now (net .entry)) (now (orientation .entry)) (now (fixed .entry)) (now (start .entry)) (now (end .entry))) (nodeColumns (now (id .entry)) (now (x .entry)) (now (y .entry)) (now (width .entry)) (now (height .entry))) (exemptionColumns (now («exempt_net» .entry)) (now («exempt_node» .entry))) threshold (length (now (scratch .entry))))) (now (scratch .entry)) ⌝ }
+{
+    let words = scratch.len();
+    let check = check_clearance(
+        net,
+        orientation,
+        fixed,
+        start,
+        end,
+        id,
+        x,
+        y,
+        width,
+        height,
+        exempt_net,
+        exempt_node,
+        threshold,
+        words,
+    );
+    if let Check::Refused(why) = check {
+        return ClearanceAnswer::Refused(why);
+    }
+    let walked = walk_drawing(
+        net,
+        orientation,
+        fixed,
+        start,
+        end,
+        id,
+        x,
+        y,
+        width,
+        height,
+        exempt_net,
+        exempt_node,
+        threshold,
+        allowance,
+        scratch,
+    );
+    clear(scratch);
+    answer_of(walked, allowance)
+}

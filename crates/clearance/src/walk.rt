@@ -1,0 +1,200 @@
+// The walk of one segment over the stored tree, within what is left of the allowance.
+ghost use mathlib.Core.Path.{_≡_};
+ghost use mathlib.Core.List.{List};
+ghost use Prim.Native.Nat.{ℕ, _+_, _*_, _^_, _≤_, _<_};
+ghost use lib.ListN.{length};
+ghost use Rattle.laws.specs.Charged.{within, free, visit};
+ghost use Rattle.drawing.specs.Entries.{Exemption};
+ghost use Rattle.clearance.specs.Figures.{exempt};
+ghost use Rattle.clearance.specs.Tree.{boundsOf};
+ghost use Rattle.clearance.specs.Stored.{leafAt, storedTree};
+ghost use Rattle.clearance.specs.Walk.{contributes, withPair};
+ghost use Rattle.clearance.specs.Walking.{soFar, walkedOf, Part, Walkable, Exempting, Walks};
+ghost use Rattle.clearance.specs.Exempting.{InReach, Listed};
+use crate::aabb::Aabb;
+use crate::exempt::Range;
+use crate::exempt::is_exempt;
+use crate::stored::box_from;
+use drawing::Gap;
+use drawing::minimum_option;
+
+// The figures so far, and how many visits are left.
+pub(crate) struct Walking {
+    pub least: Gap,
+    pub violations: usize,
+    pub left: usize,
+}
+
+// The walk stops where a visit is due and none is left.
+pub(crate) enum Walked {
+    Spent,
+    Went(Walking),
+}
+
+// The box around the n leaves from leaf i on.
+pub(crate) fn bounds_of(words: &[u64], i: usize, n: usize) -> Aabb
+    requires { ⌜ Part (now words) i n ⌝ }
+    ensures { λ r. ⌜ ((k : ℕ) → n ≤ k → r ≡ boundsOf (storedTree k (now (words .entry)) i n)) ⌝ }
+{
+    if n == 1 {
+        box_from(words, 9 * i)
+    } else {
+        box_from(words, 9 * (i + n / 2) + 4)
+    }
+}
+
+// Whether a part whose box is at this distance may still change the figures.
+fn clearance_subtree_can_contribute(lower: f64, threshold: f64, least: Gap) -> bool
+    ensures { λ r. ⌜ r ≡ contributes lower threshold least ⌝ }
+{
+    match least {
+        Gap::Absent => true,
+        Gap::Present(minimum) => if lower < threshold {
+            true
+        } else {
+            lower < minimum
+        },
+    }
+}
+
+// Whether a leaf's id is exempt for the net of the range. Ids have 32 bits, and a word may have more.
+fn leaf_exempt(packed: &[u64], range: Range, id: u64) -> bool
+    requires { ⌜ InReach (now packed) range ⌝ }
+    ensures { λ r. ⌜ ((ex : List Exemption) (net : ℕ) → Listed (now (packed .entry)) ex net range → r ≡ exempt ex net id) ⌝ }
+{
+    if id < 4294967296 {
+        is_exempt(packed, range, id as u32)
+    } else {
+        false
+    }
+}
+
+// The visit of leaf i, at the given distance: charged first, then counted unless the pair is exempt.
+fn visit_leaf(
+    words: &[u64],
+    i: usize,
+    distance: f64,
+    threshold: f64,
+    packed: &[u64],
+    range: Range,
+    state: Walking,
+) -> Walked
+    requires { ⌜ Part (now words) i 1 ⌝ }
+    requires { ⌜ InReach (now packed) range ⌝ }
+    requires { ⌜ state .violations + state .left < 2 ^ 64 ⌝ }
+    ensures { λ r. ⌜ ((ex : List Exemption) (net : ℕ) → Listed (now (packed .entry)) ex net range → r ≡ walkedOf (within (state .left) (visit (free (withPair (exempt ex net (leafAt (now (words .entry)) i .id)) threshold distance (soFar state)))))) ⌝ }
+{
+    if state.left == 0 {
+        return Walked::Spent;
+    }
+    let left = state.left - 1;
+    let least = state.least;
+    if leaf_exempt(packed, range, words[9 * i + 8]) {
+        return Walked::Went(Walking {
+            least: least,
+            violations: state.violations,
+            left: left,
+        });
+    }
+    let least = minimum_option(least, Gap::Present(distance));
+    if distance < threshold {
+        Walked::Went(Walking {
+            least: least,
+            violations: state.violations + 1,
+            left: left,
+        })
+    } else {
+        Walked::Went(Walking {
+            least: least,
+            violations: state.violations,
+            left: left,
+        })
+    }
+}
+
+// The walk of a segment with the given box, whose net has the exemptions of the range, over the n leaves from leaf i on, whose box is at distance `lower`: the nearer half first, the left one on a tie.
+pub(crate) fn visit_segment_candidates(
+    words: &[u64],
+    i: usize,
+    n: usize,
+    lower: f64,
+    bounds: Aabb,
+    net: u32,
+    threshold: f64,
+    packed: &[u64],
+    range: Range,
+    state: Walking,
+) -> Walked
+    requires { ⌜ Walkable (now words) i n lower bounds net state ⌝ }
+    requires { ⌜ Exempting (now packed) net range ⌝ }
+    ensures { λ r. ⌜ ((ex : List Exemption) → Listed (now (packed .entry)) ex net range → Walks ex threshold (now (words .entry)) i n bounds net state r) ⌝ }
+{
+    let least = state.least;
+    if !clearance_subtree_can_contribute(lower, threshold, least) {
+        return Walked::Went(state);
+    }
+    if n == 1 {
+        return visit_leaf(words, i, lower, threshold, packed, range, state);
+    }
+    let half = n / 2;
+    let middle = i + half;
+    let left = bounds.distance(bounds_of(words, i, half));
+    let right = bounds.distance(bounds_of(words, middle, n - half));
+    if right < left {
+        let first = visit_segment_candidates(
+            words,
+            middle,
+            n - half,
+            right,
+            bounds,
+            net,
+            threshold,
+            packed,
+            range,
+            state,
+        );
+        let Walked::Went(next) = first else {
+            return Walked::Spent;
+        };
+        visit_segment_candidates(
+            words,
+            i,
+            half,
+            left,
+            bounds,
+            net,
+            threshold,
+            packed,
+            range,
+            next,
+        )
+    } else {
+        let first = visit_segment_candidates(
+            words,
+            i,
+            half,
+            left,
+            bounds,
+            net,
+            threshold,
+            packed,
+            range,
+            state,
+        );
+        let Walked::Went(next) = first else {
+            return Walked::Spent;
+        };
+        visit_segment_candidates(
+            words,
+            middle,
+            n - half,
+            right,
+            bounds,
+            net,
+            threshold,
+            packed,
+            range,
+            next,
+        )
+    }
+}
