@@ -5,10 +5,7 @@
 //! included. What each side is given stands ready before: records for the
 //! reference, columns and scratch for the port.
 
-use std::{
-    hint::black_box,
-    time::{Duration, Instant},
-};
+use std::{hint::black_box, time::Instant};
 
 use crate::{
     drawing::{Allowances, Drawing, Exemption, Node, Segment, HORIZONTAL, VERTICAL},
@@ -76,55 +73,68 @@ const KINDS: [Kind; 6] = [
     },
 ];
 
-/// Prints a line for each kind: visits, the best time of each side, and the
-/// port's time over the reference's. Fails where the two answers differ.
+/// Prints a line for each kind: visits, the best time of each side, the port's
+/// best over the reference's, and the median of that ratio over the runs, which
+/// a busy machine disturbs less. Fails where the two answers differ.
 pub fn bench(runs: u64) -> Result<(), String> {
     println!(
-        "{:<26}{:>12}{:>12}{:>12}{:>8}",
-        "clearance", "visits", "Rust ms", "port ms", "ratio"
+        "{:<26}{:>10}{:>10}{:>10}{:>8}{:>8}",
+        "clearance", "visits", "Rust ms", "port ms", "ratio", "median"
     );
     for kind in KINDS {
         let drawing = drawing(&kind, &mut Random::new(1));
-        let (told, times) = times(&drawing, runs).map_err(|told| {
+        let (visits, times) = times(&drawing, runs).map_err(|told| {
             format!("{}: the port tells {told:?}, the Rust otherwise", kind.name)
         })?;
-        let [rust, port] = times.map(|time| time.as_secs_f64() * 1_000.0);
+        let [rust, port] = best(&times);
         println!(
-            "{:<26}{:>12}{rust:>12.3}{port:>12.3}{:>8.3}",
+            "{:<26}{visits:>10}{rust:>10.3}{port:>10.3}{:>8.3}{:>8.3}",
             kind.name,
-            told.words[3],
-            port / rust
+            port / rust,
+            median_ratio(&times)
         );
     }
     Ok(())
 }
 
-/// The port's answer and the best times, the reference's first. The two take
-/// turns, so that a slower machine for a while is one for both.
-fn times(drawing: &Drawing, runs: u64) -> Result<(Told, [Duration; 2]), Told> {
+/// The visits, and for each run the milliseconds of the reference and of the
+/// port. The two take turns, so that a machine that is slow for a while is slow
+/// for both.
+fn times(drawing: &Drawing, runs: u64) -> Result<(u64, Vec<[f64; 2]>), Told> {
     let fed = Fed::as_given(drawing);
     let columns = Columns::of(drawing);
     let mut scratch = vec![0; scratch_need(drawing.segments.len(), drawing.nodes.len())];
-    let mut best = [Duration::MAX; 2];
-    let mut told = None;
+    let mut visits = 0;
+    let mut times = Vec::new();
     for _ in 0..runs.max(1) {
-        let (by_reference, time) = timed(|| fed.run(Measure::Clearance, u64::MAX));
-        best[0] = best[0].min(time);
-        let (by_port, time) =
+        let (by_reference, rust) = timed(|| fed.run(Measure::Clearance, u64::MAX));
+        let (by_port, port) =
             timed(|| run_clearance(&columns, drawing.threshold, u64::MAX, &mut scratch));
-        best[1] = best[1].min(time);
         if !agree(&by_reference, &by_port) {
             return Err(by_port);
         }
-        told = Some(by_port);
+        visits = by_port.words[3];
+        times.push([rust, port]);
     }
-    Ok((told.expect("there is at least one run"), best))
+    Ok((visits, times))
 }
 
-fn timed<T>(call: impl FnOnce() -> T) -> (T, Duration) {
+fn best(times: &[[f64; 2]]) -> [f64; 2] {
+    times.iter().fold([f64::INFINITY; 2], |best, time| {
+        [best[0].min(time[0]), best[1].min(time[1])]
+    })
+}
+
+fn median_ratio(times: &[[f64; 2]]) -> f64 {
+    let mut ratios: Vec<f64> = times.iter().map(|[rust, port]| port / rust).collect();
+    ratios.sort_by(f64::total_cmp);
+    ratios[ratios.len() / 2]
+}
+
+fn timed<T>(call: impl FnOnce() -> T) -> (T, f64) {
     let start = Instant::now();
     let answer = black_box(call());
-    (answer, start.elapsed())
+    (answer, start.elapsed().as_secs_f64() * 1_000.0)
 }
 
 /// The figures are the same; the reference does not tell its visits.
