@@ -1,9 +1,9 @@
--- Boxes of fit entries, and: the distance to a box is not larger than the distance to a box inside it. Assumes nothing.
+-- Boxes of fit entries, and: the distance to a box is not larger than the distance to a box inside it, so boxes that lie in each other are equally far away. Assumes nothing.
 use mathlib.Core.Path.{_≡_, sym, ap, _∙_}
 use mathlib.Core.Logic.{inl, inr}
 use mathlib.Core.Bool.{Bool, true, false, cond}
 use Prim.Native.Nat.{ℕ, _-_, _≤_, _<_, min, max}
-use native.Mathlib.Nat.{le-refl, le-trans, le-of-lt}
+use native.Mathlib.Nat.{le-refl, le-trans, le-antisymm, le-of-lt}
 use native.Mathlib.Omega.{arith}
 use lib.Dec.{eqb}
 use lib.Ieee.{Float, binary64, sub, lt}
@@ -13,7 +13,7 @@ use Rattle.floats.specs.Values.{lesserOf, greaterOf}
 use Rattle.floats.proofs.Rank.{mag, rank, Num, Fin, fin-num, lt-rank, lt→, distance as apart}
 use Rattle.floats.proofs.Rounding.{rnd, rnd-mono, rnd-zero}
 use Rattle.floats.proofs.Difference.{sub-mag}
-use Rattle.floats.proofs.Gaps.{Good, zero-good, zero-mag, sub-good}
+use Rattle.floats.proofs.Gaps.{Good, zero-good, zero-mag, sub-good, good-one}
 use Rattle.floats.proofs.Extremes.{greater}
 use Rattle.drawing.specs.Entries.{Segment, Node}
 use Rattle.clearance.specs.declared.aabb.Aabb.{Aabb}
@@ -205,3 +205,12 @@ distance-within s b u p q r w =
     let x = axis-gap-wider (s .left) (s .right) (b .left) (b .right) (u .left) (u .right) (p .across) (q .across) (r .across) (w .across) in
     let y = axis-gap-wider (s .top) (s .bottom) (b .top) (b .bottom) (u .top) (u .bottom) (p .down) (q .down) (r .down) (w .down) in
     omega (arith, distance-mag s u p r, distance-mag s b p q)
+
+-- boxes that lie in each other differ at most in the signs of zeros
+pub record Alike (b c : Aabb) : Type 0 where
+  pub into : Within b c
+  pub back : Within c b
+
+-- no distance shows that: a distance is never -0
+pub distance-alike : (s b c : Aabb) → FitBox s → FitBox b → FitBox c → Alike b c → distance s b ≡ distance s c
+distance-alike s b c p q r h = good-one (distance s b) (distance s c) (distance-good s b p q) (distance-good s c p r) (le-antisymm (distance-within s c b p r q (h .back)) (distance-within s b c p q r (h .into)))

@@ -1,4 +1,4 @@
--- The tree of a list of nodes is the tree over its leaf order. Assumes nothing.
+-- The tree of a list of nodes, with the union of the children's boxes at each branch, is the tree over its leaf order. Assumes nothing.
 use mathlib.Core.Path.{_≡_, refl, sym, ap, ap₂, subst, _∙_}
 use mathlib.Core.Bool.{Bool, true, false, cond}
 use mathlib.Core.List.{List, [], _∷_, _++_, map, map-append}
@@ -13,10 +13,10 @@ use Rattle.laws.proofs.Perms.{perm-length, perm-all, perm-sym, perm-map}
 use Rattle.sorting.proofs.Entries.{sorted-entries}
 use Rattle.floats.proofs.NumberKeys.{key-of-one}
 use Rattle.drawing.specs.Entries.{NodeColumns}
-use Rattle.clearance.specs.Boxes.{union}
-use Rattle.clearance.specs.Tree.{IndexedNode, indexedRow, indexedInOrder, Tree, branch, boundsOf, build}
+use Rattle.clearance.specs.Tree.{IndexedNode, indexedRow, indexedInOrder, Tree, build}
 use Rattle.clearance.specs.LeafOrder.{indexedAt, boxFrom, horizontalPart, along, leafOrder, treeOver}
 use Rattle.clearance.proofs.TreeLaws.{FitIndexed}
+use Rattle.clearance.proofs.UnionTrees.{joined, rejoined}
 use Rattle.clearance.proofs.LeafOrders.{order-short, order-long, order-perm, along-perm}
 
 -- the two tables hold the rows of the nodes along either axis
@@ -71,10 +71,7 @@ map-drop f (suc h) [] = refl
 map-drop f (suc h) (x ∷ l) = map-drop f h l
 
 -- ---- trees
--- a branch over two trees, and over the two parts of a list
-abbrev pub joined : Tree → Tree → Tree
-joined l r = branch (union (boundsOf l) (boundsOf r)) l r
-
+-- a branch over the two parts of a list
 abbrev pub over : (List IndexedNode → Tree) → ℕ → List IndexedNode → Tree
 over f h l = joined (f (take h l)) (f (drop h l))
 
@@ -84,6 +81,10 @@ unfolding treeOver
 tree-two k [] h = absurd (omega arith)
 tree-two k (n ∷ []) h = absurd (omega arith)
 tree-two k (n ∷ m ∷ l) h = refl
+
+-- the tree of a list as it is stored
+abbrev stored : ℕ → List IndexedNode → Tree
+stored k l = rejoined (build k l)
 
 -- ---- places in order along the wider axis are the nodes in order along it
 module _ (c : NodeColumns) (kx ky : List ℕ) (tabled : Tabled c kx ky) where
@@ -143,10 +144,10 @@ module _ (c : NodeColumns) (kx ky : List ℕ) (tabled : Tabled c kx ky) where
     abbrev half : ℕ
     half = length whole / 2
 
-    pub halves : build k (map (indexedAt c) (take half inLine)) ≡ treeOver k (map (indexedAt c) (leafOrder k c kx ky (take half inLine)))
-        → build k (map (indexedAt c) (drop half inLine)) ≡ treeOver k (map (indexedAt c) (leafOrder k c kx ky (drop half inLine)))
-        → build (suc k) (map (indexedAt c) whole) ≡ treeOver (suc k) (map (indexedAt c) (leafOrder (suc k) c kx ky whole))
-    unfolding build horizontalPart boxFrom
+    pub halves : stored k (map (indexedAt c) (take half inLine)) ≡ treeOver k (map (indexedAt c) (leafOrder k c kx ky (take half inLine)))
+        → stored k (map (indexedAt c) (drop half inLine)) ≡ treeOver k (map (indexedAt c) (leafOrder k c kx ky (drop half inLine)))
+        → stored (suc k) (map (indexedAt c) whole) ≡ treeOver (suc k) (map (indexedAt c) (leafOrder (suc k) c kx ky whole))
+    unfolding build rejoined horizontalPart boxFrom
     halves first second =
         let e = indexedAt c in
         let P = leafOrder k c kx ky (take half inLine) in
@@ -156,15 +157,15 @@ module _ (c : NodeColumns) (kx ky : List ℕ) (tabled : Tabled c kx ky) where
         let lm : length (map e inLine) ≡ length whole = length-map inLine e ∙ len in
         let lo : map e (leafOrder (suc k) c kx ky whole) ≡ map e P ++ map e Q = ap (map e) (order-long k c kx ky whole (omega arith)) ∙ map-append e P Q in
         let ll : length (map e P ++ map e Q) ≡ length whole = sym (ap length lo) ∙ length-map (leafOrder (suc k) c kx ky whole) e ∙ perm-length (order-perm (suc k) c kx ky whole) in
-        ap (λ (r : List IndexedNode). over (build k) (length r / 2) r) (sym (along-nodes whole p q))
-        ∙ ap (λ (n : ℕ). over (build k) (n / 2) (map e inLine)) lm
-        ∙ ap₂ joined (ap (build k) (map-take e half inLine) ∙ first) (ap (build k) (map-drop e half inLine) ∙ second)
+        ap (λ (r : List IndexedNode). over (stored k) (length r / 2) r) (sym (along-nodes whole p q))
+        ∙ ap (λ (n : ℕ). over (stored k) (n / 2) (map e inLine)) lm
+        ∙ ap₂ joined (ap (stored k) (map-take e half inLine) ∙ first) (ap (stored k) (map-drop e half inLine) ∙ second)
         ∙ sym (ap (treeOver (suc k)) lo ∙ tree-two k (map e P ++ map e Q) (omega arith)
         ∙ ap (λ (n : ℕ). over (treeOver k) (n / 2) (map e P ++ map e Q)) ll
         ∙ ap₂ (λ (x y : List IndexedNode). joined (treeOver k x) (treeOver k y)) (take-at (map e P) (map e Q) half lp) (drop-at (map e P) (map e Q) half lp))
 
-  pub build-over : (k : ℕ) (l : List ℕ) → length l ≤ k → Small l → Fitting l → build k (map (indexedAt c) l) ≡ treeOver k (map (indexedAt c) (leafOrder k c kx ky l))
-  unfolding build treeOver
+  pub build-over : (k : ℕ) (l : List ℕ) → length l ≤ k → Small l → Fitting l → rejoined (build k (map (indexedAt c) l)) ≡ treeOver k (map (indexedAt c) (leafOrder k c kx ky l))
+  unfolding build rejoined treeOver
   build-over zero [] h p q = refl
   build-over zero (i ∷ l) h p q = absurd (not-suc-le-zero h)
   build-over (suc k) [] h p q = ap (λ (z : List ℕ). treeOver (suc k) (map (indexedAt c) z)) (sym (order-short (suc k) c kx ky [] (omega arith)))

@@ -12,6 +12,7 @@ pub mod AllPairs
 pub mod AnyOrder
 pub mod Answers
 pub mod WithinAllowance
+pub mod UnionTrees
 pub mod LeafOrders
 pub mod LeafTrees
 pub mod NodeOrder

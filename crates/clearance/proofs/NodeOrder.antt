@@ -1,4 +1,4 @@
--- The order in which the nodes come to the tree decides nothing: code may build the tree from the nodes as they are given. Assumes nothing.
+-- The order in which the nodes come to the tree decides nothing in the tree as it is stored: code may build it from the nodes as they are given. Assumes nothing.
 use mathlib.Core.Path.{_≡_, refl, sym, ap, _∙_}
 use mathlib.Core.Logic.{inl, inr}
 use mathlib.Core.Bool.{Bool, true, false}
@@ -28,19 +28,15 @@ use Rattle.drawing.proofs.ListOrders.{nodes-in-order-perm}
 use Rattle.clearance.specs.declared.aabb.Aabb.{Aabb}
 use Rattle.clearance.specs.Tree.{IndexedNode, indexed, indexedRow, indexedInOrder, horizontalWider, hull, build, treeOf}
 use Rattle.clearance.proofs.Fit.{FitNode}
-use Rattle.clearance.proofs.BoxLaws.{at, Span, Within}
+use Rattle.clearance.proofs.BoxLaws.{at, Span, Alike}
 use Rattle.clearance.proofs.Spans.{Whole, whole-node, whole-union, width-good, height-good}
-use Rattle.clearance.proofs.LeafTrees.{joined}
-use Rattle.clearance.proofs.TreeLaws.{FitIndexed, In, hull-holds, hull-least}
+use Rattle.clearance.proofs.TreeLaws.{FitIndexed, around-alike, around-perm, hull-around}
+use Rattle.clearance.proofs.UnionTrees.{joined, rejoined}
 
 abbrev pub WholeIndexed : IndexedNode → Type 0
 WholeIndexed n = Whole (n .bounds)
 
--- ---- boxes that lie in each other differ at most in the signs of zeros: they have the same wider axis
-pub record Alike (b c : Aabb) : Type 0 where
-  pub into : Within b c
-  pub back : Within c b
-
+-- ---- boxes that lie in each other have the same wider axis
 span-alike : (a b c d : Float) → Span a b → Span c d → Good (sub binary64 b a) → Good (sub binary64 d c) → at a ≡ at c → at b ≡ at d → sub binary64 b a ≡ sub binary64 d c
 span-alike a b c d p q g h u v =
     good-one (sub binary64 b a) (sub binary64 d c) g h
@@ -64,10 +60,8 @@ hull-whole b (n ∷ l) p h = hull-whole _ l (whole-union b (n .bounds) p (h .0))
 fits-of : (l : List IndexedNode) → All WholeIndexed l → All FitIndexed l
 fits-of l h = all-map (λ n w. w .fit) l h
 
-hull-into : (x y : IndexedNode) (l r : List IndexedNode) → Perm (x ∷ l) (y ∷ r) → All WholeIndexed (x ∷ l) → All WholeIndexed (y ∷ r) → Within (hull (x .bounds) l) (hull (y .bounds) r)
-hull-into x y l r p h k =
-    let held : All (In (hull (y .bounds) r)) (x ∷ l) = perm-all _ (perm-sym p) (hull-holds y r (fits-of (y ∷ r) k)) in
-    hull-least (hull (y .bounds) r) (x .bounds) l (h .0 .fit) (fits-of l (h .1)) (held .0 .within) (all-map (λ n i. i .within) l (held .1))
+hull-alike : (x y : IndexedNode) (l r : List IndexedNode) → Perm (x ∷ l) (y ∷ r) → All FitIndexed (x ∷ l) → All FitIndexed (y ∷ r) → Alike (hull (x .bounds) l) (hull (y .bounds) r)
+hull-alike x y l r p h k = around-alike _ _ (y ∷ r) (around-perm _ p (hull-around x l h)) (hull-around y r k)
 
 -- ---- nodes of one row are one node, so every order of the nodes has one order along an axis
 held-one : (m n : IndexedNode) → FitIndexed m → FitIndexed n → keyOf (m .bounds .left) ≡ keyOf (n .bounds .left) → keyOf (m .bounds .right) ≡ keyOf (n .bounds .right)
@@ -88,17 +82,17 @@ pub indexed-one-order : (horizontal : Bool) {l r : List IndexedNode} → Perm l 
 unfolding indexedInOrder
 indexed-one-order h p k = sort-same (λ a b. rowLe (indexedRow h a) (indexedRow h b)) (by-rows (indexedRow h)) FitIndexed (λ a b x y u v. row-one h a b x y (row-antisym (indexedRow h a) (indexedRow h b) u v)) p k
 
--- ---- a tree over nodes in any order
-pub build-any-nodes : (k : ℕ) {l r : List IndexedNode} → Perm l r → All WholeIndexed l → build k l ≡ build k r
-unfolding build
+-- ---- a tree over nodes in any order: the boxes that the Rust folds are only alike, those of the leaves and so their unions are the same
+pub build-any-nodes : (k : ℕ) {l r : List IndexedNode} → Perm l r → All WholeIndexed l → rejoined (build k l) ≡ rejoined (build k r)
+unfolding build rejoined
 build-any-nodes k {l} {r} p h = go k l r p h
   where
-    go : (k : ℕ) (l r : List IndexedNode) → Perm l r → All WholeIndexed l → build k l ≡ build k r
+    go : (k : ℕ) (l r : List IndexedNode) → Perm l r → All WholeIndexed l → rejoined (build k l) ≡ rejoined (build k r)
     go zero l r p h = refl
     go (suc k) [] [] p h = refl
     go (suc k) [] (y ∷ r) p h = absurd (omega (arith, perm-length p))
     go (suc k) (x ∷ l) [] p h = absurd (omega (arith, perm-length p))
-    go (suc k) (x ∷ []) (y ∷ []) p h = elim (perm-mem x p (inl refl)) [ inl e ↦ ap (λ (z : IndexedNode). build (suc k) (z ∷ [])) e | inr m ↦ absurd m ]
+    go (suc k) (x ∷ []) (y ∷ []) p h = elim (perm-mem x p (inl refl)) [ inl e ↦ ap (λ (z : IndexedNode). rejoined (build (suc k) (z ∷ []))) e | inr m ↦ absurd m ]
     go (suc k) (x ∷ []) (y ∷ z ∷ r) p h = absurd (omega (arith, perm-length p))
     go (suc k) (x ∷ w ∷ l) (y ∷ []) p h = absurd (omega (arith, perm-length p))
     go (suc k) (x ∷ w ∷ l) (y ∷ z ∷ r) p h =
@@ -107,17 +101,17 @@ build-any-nodes k {l} {r} p h = go k l r p h
         let h′ : All WholeIndexed (y ∷ z ∷ r) = perm-all WholeIndexed p h in
         let wb = hull-whole (x .bounds) (w ∷ l) (h .0) (h .1) in
         let wc = hull-whole (y .bounds) (z ∷ r) (h′ .0) (h′ .1) in
-        let same : Alike b c = record { into = hull-into x y (w ∷ l) (z ∷ r) p h h′; back = hull-into y x (z ∷ r) (w ∷ l) (perm-sym p) h′ h } in
+        let same = hull-alike x y (w ∷ l) (z ∷ r) p (fits-of (x ∷ w ∷ l) h) (fits-of (y ∷ z ∷ r) h′) in
         let row : indexedInOrder (horizontalWider b) (x ∷ w ∷ l) ≡ indexedInOrder (horizontalWider c) (y ∷ z ∷ r) =
         indexed-one-order (horizontalWider b) p (fits-of (x ∷ w ∷ l) h) ∙ ap (λ (o : Bool). indexedInOrder o (y ∷ z ∷ r)) (wider-alike b c wb wc same) in
-        ap (λ (q : List IndexedNode). joined (build k (take (length q / 2) q)) (build k (drop (length q / 2) q))) row
+        ap (λ (q : List IndexedNode). joined (rejoined (build k (take (length q / 2) q))) (rejoined (build k (drop (length q / 2) q)))) row
 
 whole-indexed : (ns : List Node) → All FitNode ns → All WholeIndexed (map indexed ns)
 unfolding indexed
 whole-indexed [] h = tt
 whole-indexed (n ∷ ns) h = (whole-node n (h .0), whole-indexed ns (h .1))
 
-pub tree-any-nodes : (ns : List Node) → All FitNode ns → {l : List IndexedNode} → Perm l (map indexed ns) → treeOf ns ≡ build (length ns) l
+pub tree-any-nodes : (ns : List Node) → All FitNode ns → {l : List IndexedNode} → Perm l (map indexed ns) → rejoined (treeOf ns) ≡ rejoined (build (length ns) l)
 unfolding treeOf
 tree-any-nodes ns h {l} q =
     let given = perm-map indexed (nodes-in-order-perm ns) in

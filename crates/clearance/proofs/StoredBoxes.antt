@@ -15,7 +15,8 @@ use Rattle.clearance.specs.declared.aabb.Aabb.{Aabb}
 use Rattle.clearance.specs.Boxes.{union}
 use Rattle.clearance.specs.Tree.{IndexedNode, bare, leaf, branch, boundsOf}
 use Rattle.clearance.specs.LeafOrder.{treeOver}
-use Rattle.clearance.proofs.LeafTrees.{joined, over, tree-two}
+use Rattle.clearance.proofs.UnionTrees.{joined}
+use Rattle.clearance.proofs.LeafTrees.{over, tree-two}
 use Rattle.clearance.specs.Stored.{boxAt, leafAt, splitAt, storedTree, leavesFrom, BoxPut, Outside, SplitsPut}
 
 -- ---- four words put

@@ -1,6 +1,6 @@
--- The tree holds the nodes of its list, each once, and the boxes of its branches hold the nodes below them. Assumes nothing.
-use mathlib.Core.Path.{_∙_}
-use mathlib.Core.List.{List, [], _∷_, _++_, map}
+-- The tree holds the nodes of its list, each once, and the box of a branch is the least one around the nodes below it. Assumes nothing.
+use mathlib.Core.Path.{sym, subst, _∙_}
+use mathlib.Core.List.{List, [], _∷_, _++_, append-assoc, append-nil, map}
 use Prim.Native.Nat.{ℕ, zero, suc, _/_, _≤_}
 use native.Mathlib.Nat.{le-refl, le-of-eq, not-suc-le-zero}
 use native.Mathlib.Omega.{arith}
@@ -21,7 +21,7 @@ use Rattle.clearance.specs.declared.aabb.Aabb.{Aabb}
 use Rattle.clearance.specs.Boxes.{union}
 use Rattle.clearance.specs.Tree.{IndexedNode, indexed, indexedRow, indexedInOrder, horizontalWider, hull, Tree, bare, leaf, branch, boundsOf, build, treeOf}
 use Rattle.clearance.proofs.Fit.{FitNode}
-use Rattle.clearance.proofs.BoxLaws.{at, Span, FitBox, Within, within-self, within-trans, fit-node, fit-union, union-first, union-second, union-least}
+use Rattle.clearance.proofs.BoxLaws.{at, Span, FitBox, Within, within-self, within-trans, fit-node, fit-union, union-first, union-second, union-least, Alike}
 
 abbrev pub FitIndexed : IndexedNode → Type 0
 FitIndexed n = FitBox (n .bounds)
@@ -31,42 +31,50 @@ leaves bare = []
 leaves (leaf n) = n ∷ []
 leaves (branch b l r) = leaves l ++ leaves r
 
--- ---- the hull of a box and the boxes of a list holds them all
+-- ---- the least box around the nodes of a list
 -- a fit node in a box
 pub record In (b : Aabb) (n : IndexedNode) : Type 0 where
   pub fit : FitIndexed n
   pub within : Within (n .bounds) b
 
-hull-fit : (b : Aabb) (l : List IndexedNode) → FitBox b → All FitIndexed l → FitBox (hull b l)
-unfolding hull
-hull-fit b [] p h = p
-hull-fit b (n ∷ l) p h = hull-fit (union b (n .bounds)) l (fit-union b (n .bounds) p (h .0)) (h .1)
+-- b is fit, holds the nodes and lies in every box that holds them
+pub record Around (b : Aabb) (l : List IndexedNode) : Type 0 where
+  pub fit : FitBox b
+  pub holds : All (In b) l
+  pub least : (u : Aabb) → All (In u) l → Within b u
 
-hull-first : (b : Aabb) (l : List IndexedNode) → FitBox b → All FitIndexed l → Within b (hull b l)
-unfolding hull
-hull-first b [] p h = within-self b
-hull-first b (n ∷ l) p h =
-    let u = union b (n .bounds) in
-    within-trans b u (hull u l) (union-first b (n .bounds) p (h .0)) (hull-first u l (fit-union b (n .bounds) p (h .0)) (h .1))
+pub around-alike : (b c : Aabb) (l : List IndexedNode) → Around b l → Around c l → Alike b c
+around-alike b c l p q = record { into = p .least c (q .holds); back = q .least b (p .holds) }
 
-hull-rest : (b : Aabb) (l : List IndexedNode) → FitBox b → All FitIndexed l → All (In (hull b l)) l
-unfolding hull
-hull-rest b [] p h = tt
-hull-rest b (n ∷ l) p h =
-    let u = union b (n .bounds) in
-    let f = fit-union b (n .bounds) p (h .0) in (
-      record { fit = h .0; within = within-trans (n .bounds) u (hull u l) (union-second b (n .bounds) p (h .0)) (hull-first u l f (h .1)) },
-      hull-rest u l f (h .1),
-    )
+pub around-perm : (b : Aabb) {l r : List IndexedNode} → Perm l r → Around b l → Around b r
+around-perm b p a = record { fit = a .fit; holds = perm-all (In b) p (a .holds); least = λ u h. a .least u (perm-all (In u) (perm-sym p) h) }
 
-pub hull-holds : (n : IndexedNode) (l : List IndexedNode) → All FitIndexed (n ∷ l) → All (In (hull (n .bounds) l)) (n ∷ l)
-hull-holds n l h = (record { fit = h .0; within = hull-first (n .bounds) l (h .0) (h .1) }, hull-rest (n .bounds) l (h .0) (h .1))
+pub around-node : (n : IndexedNode) → FitIndexed n → Around (n .bounds) (n ∷ [])
+around-node n h = record { fit = h; holds = (record { fit = h; within = within-self (n .bounds) }, tt); least = λ u i. i .0 .within }
 
--- and it lies in every box that holds them
-pub hull-least : (u b : Aabb) (l : List IndexedNode) → FitBox b → All FitIndexed l → Within b u → All (λ n. Within (n .bounds) u) l → Within (hull b l) u
+in-wider : (b u : Aabb) (l : List IndexedNode) → Within b u → All (In b) l → All (In u) l
+in-wider b u l w h = all-map (λ n i. record { fit = i .fit; within = within-trans (n .bounds) b u (i .within) w }) l h
+
+pub around-union : (b c : Aabb) (l r : List IndexedNode) → Around b l → Around c r → Around (union b c) (l ++ r)
+around-union b c l r p q =
+    let u = union b c in
+    record {
+      fit = fit-union b c (p .fit) (q .fit);
+      holds = all-append (In u) l r (in-wider b u l (union-first b c (p .fit) (q .fit)) (p .holds)) (in-wider c u r (union-second b c (p .fit) (q .fit)) (q .holds));
+      least = λ v h. union-least b c (p .fit) (q .fit) v (p .least v (all-first (In v) l r h)) (q .least v (all-second (In v) l r h));
+    }
+
+-- a box around r into which the boxes of l are folded, one after another, is around both
+around-more : (b : Aabb) (r l : List IndexedNode) → Around b r → All FitIndexed l → Around (hull b l) (r ++ l)
 unfolding hull
-hull-least u b [] p h w k = w
-hull-least u b (n ∷ l) p h w k = hull-least u (union b (n .bounds)) l (fit-union b (n .bounds) p (h .0)) (h .1) (union-least b (n .bounds) p (h .0) u w (k .0)) (k .1)
+around-more b r [] p h = subst (Around b) (sym (append-nil r)) p
+around-more b r (n ∷ l) p h =
+    subst (Around (hull (union b (n .bounds)) l)) (append-assoc r (n ∷ []) l)
+    (around-more (union b (n .bounds)) (r ++ n ∷ []) l (around-union b (n .bounds) r (n ∷ []) p (around-node n (h .0))) (h .1))
+
+-- so the box that is folded over a list is the least one around its nodes, whatever its order
+pub hull-around : (n : IndexedNode) (l : List IndexedNode) → All FitIndexed (n ∷ l) → Around (hull (n .bounds) l) (n ∷ l)
+hull-around n l h = around-more (n .bounds) (n ∷ []) l (around-node n (h .0)) (h .1)
 
 -- ---- a list in order along its wider axis, and its halves
 unfoldable pub ordered : IndexedNode → IndexedNode → List IndexedNode → List IndexedNode
@@ -80,8 +88,21 @@ module _ (n m : IndexedNode) (l : List IndexedNode) where
   unfolding ordered indexedInOrder
   ordered-perm = let h = horizontalWider (hull (n .bounds) (m ∷ l)) in sort-perm (λ a b. rowLe (indexedRow h a) (indexedRow h b)) (n ∷ m ∷ l)
 
-  halves-perm : Perm (take (length row / 2) row ++ drop (length row / 2) row) (n ∷ m ∷ l)
+  pub halves-perm : Perm (take (length row / 2) row ++ drop (length row / 2) row) (n ∷ m ∷ l)
   halves-perm = via (perm-eq (take-append-drop (length row / 2) row)) ordered-perm
+
+  -- what holds of all holds of those of either half
+  pub halves-all : (P : IndexedNode → Type 0) → All P (n ∷ m ∷ l) → All P (take (length row / 2) row) × All P (drop (length row / 2) row)
+  halves-all P h =
+      let both = perm-all P (perm-sym halves-perm) h in
+      (all-first P (take (length row / 2) row) (drop (length row / 2) row) both, all-second P (take (length row / 2) row) (drop (length row / 2) row) both)
+
+  -- neither half is empty
+  pub first-some : 1 ≤ length (take (length row / 2) row)
+  first-some = let e = perm-length ordered-perm in rw length-take (omega arith)
+
+  pub second-some : 1 ≤ length (drop (length row / 2) row)
+  second-some = let e = perm-length ordered-perm in rw length-drop (omega arith)
 
   module _ (k : ℕ) (h : suc (suc (length l)) ≤ suc k) where
     pub first-small : length (take (length row / 2) row) ≤ k
@@ -126,34 +147,29 @@ sound-in (branch b l r) h = h .1
 pub sound-fit : (tree : Tree) → Sound tree → All FitIndexed (leaves tree)
 sound-fit tree h = all-map (λ n i. i .fit) (leaves tree) (sound-in tree h)
 
--- a branch whose box is the union of its children's
-branch-sound : (l r : Tree) → Sound l → Sound r → Sound (branch (union (boundsOf l) (boundsOf r)) l r)
-branch-sound l r p q =
-    let u = union (boundsOf l) (boundsOf r) in
-    let a = sound-box l p in
-    let b = sound-box r q in (
-      fit-union (boundsOf l) (boundsOf r) a b,
-      all-append (In u) (leaves l) (leaves r)
-          (all-map (λ n i. record { fit = i .fit; within = within-trans (n .bounds) (boundsOf l) u (i .within) (union-first (boundsOf l) (boundsOf r) a b) }) (leaves l) (sound-in l p))
-          (all-map (λ n i. record { fit = i .fit; within = within-trans (n .bounds) (boundsOf r) u (i .within) (union-second (boundsOf l) (boundsOf r) a b) }) (leaves r) (sound-in r q)),
-      p,
-      q,
-    )
-
 pub build-sound : (k : ℕ) (l : List IndexedNode) → length l ≤ k → All FitIndexed l → Sound (build k l)
-unfolding build ordered
+unfolding build leaves ordered
 build-sound zero l h g = tt
 build-sound (suc k) [] h g = tt
 build-sound (suc k) (n ∷ []) h g = g .0
 build-sound (suc k) (n ∷ m ∷ l) h g =
     let row = ordered n m l in
     let half = length row / 2 in
-    let a = first-small n m l k h in
-    let c = second-small n m l k h in
-    let fit : All FitIndexed (take half row ++ drop half row) = perm-all FitIndexed (perm-sym (halves-perm n m l)) g in
-    let left = build-sound k (take half row) a (all-first FitIndexed (take half row) (drop half row) fit) in
-    let right = build-sound k (drop half row) c (all-second FitIndexed (take half row) (drop half row) fit) in
-    branch-sound (build k (take half row)) (build k (drop half row)) left right
+    let box = hull-around n (m ∷ l) g in
+    let fit = halves-all n m l FitIndexed g in (
+      box .fit,
+      perm-all (In (hull (n .bounds) (m ∷ l))) (perm-sym (build-leaves (suc k) (n ∷ m ∷ l) h)) (box .holds),
+      build-sound k (take half row) (first-small n m l k h) (fit .0),
+      build-sound k (drop half row) (second-small n m l k h) (fit .1),
+    )
+
+-- and it is the least box around the nodes of its list
+pub build-around : (k : ℕ) (l : List IndexedNode) → 1 ≤ length l → length l ≤ k → All FitIndexed l → Around (boundsOf (build k l)) l
+unfolding build boundsOf
+build-around zero l some h g = absurd (omega arith)
+build-around (suc k) [] some h g = absurd (omega arith)
+build-around (suc k) (n ∷ []) some h g = around-node n (g .0)
+build-around (suc k) (n ∷ m ∷ l) some h g = hull-around n (m ∷ l) g
 
 -- ---- the tree of a list of nodes
 pub indexed-fit : (ns : List Node) → All FitNode ns → All FitIndexed (map indexed ns)
@@ -161,8 +177,11 @@ unfolding indexed
 indexed-fit [] h = tt
 indexed-fit (n ∷ ns) h = (fit-node n (h .0), indexed-fit ns (h .1))
 
-enough : (ns : List Node) → length (map indexed (nodesInOrder ns)) ≤ length ns
+pub enough : (ns : List Node) → length (map indexed (nodesInOrder ns)) ≤ length ns
 enough ns = le-of-eq (length-map (nodesInOrder ns) indexed ∙ perm-length (nodes-in-order-perm ns))
+
+pub in-order-fit : (ns : List Node) → All FitNode ns → All FitIndexed (map indexed (nodesInOrder ns))
+in-order-fit ns h = indexed-fit (nodesInOrder ns) (perm-all FitNode (perm-sym (nodes-in-order-perm ns)) h)
 
 pub tree-leaves : (ns : List Node) → Perm (leaves (treeOf ns)) (map indexed ns)
 unfolding treeOf
@@ -170,4 +189,4 @@ tree-leaves ns = via (build-leaves (length ns) (map indexed (nodesInOrder ns)) (
 
 pub tree-sound : (ns : List Node) → All FitNode ns → Sound (treeOf ns)
 unfolding treeOf
-tree-sound ns h = build-sound (length ns) (map indexed (nodesInOrder ns)) (enough ns) (indexed-fit (nodesInOrder ns) (perm-all FitNode (perm-sym (nodes-in-order-perm ns)) h))
+tree-sound ns h = build-sound (length ns) (map indexed (nodesInOrder ns)) (enough ns) (in-order-fit ns h)

@@ -47,12 +47,13 @@ use Rattle.clearance.specs.Stored.{storedTree, Grown}
 use Rattle.clearance.specs.Exempting.{Holds, Gathered}
 use Rattle.clearance.specs.Walking.{walkedOf, Part, Held, InTurns, allWalks, Remains, Answers}
 use Rattle.clearance.specs.Answer.{accepted, unless, answer, scratchAfter}
-use Rattle.clearance.proofs.Fit.{FitNode}
+use Rattle.clearance.proofs.Fit.{FitSegment, FitNode}
 use Rattle.clearance.proofs.Answers.{Lent, passes, fit-call}
 use Rattle.clearance.proofs.WithinAllowance.{reply-within}
 use Rattle.clearance.proofs.TreeLaws.{FitIndexed, indexed-fit}
 use Rattle.clearance.proofs.PairInput.{exemptions-agree}
 use Rattle.clearance.proofs.WalkSteps.{walk-bare}
+use Rattle.clearance.proofs.UnionTrees.{rejoined, walk-all-rejoined}
 use Rattle.clearance.proofs.LeafTrees.{build-over}
 use Rattle.clearance.proofs.NodeOrder.{tree-any-nodes}
 use Rattle.clearance.proofs.TableLaws.{all-places, placed, all-placed}
@@ -105,17 +106,17 @@ walked-none ex t ss n a h allowance =
     let tree = no-tree (nodes n) (length-nodes n a ∙ h) in
     sym (ap walkedOf (ap (within allowance) (ap (λ (z : Tree). runs (λ g s. walk ex t s z g) noFigures (segmentsInOrder ss)) tree ∙ runs-bare ex t noFigures (segmentsInOrder ss)) ∙ within-free allowance noFigures))
 
--- ---- the tree in the scratch is the definition's
+-- ---- the tree in the scratch is the definition's, with the union of the children's boxes at each branch
 nodes-placed : (n : NodeColumns) → NodesAgree n → map (indexedAt n) (upTo (length (n .id))) ≡ map indexed (nodes n)
 nodes-placed n a = sym (map-map indexed (nodeAt n) (upTo (length (n .id)))) ∙ ap (map indexed) (placed (nodes n) (nodeAt n) (length (n .id)) (length-nodes n a) (nodes-at n a (nodeAt n 0)))
 
-pub grown-tree : (n : NodeColumns) (g : List ℕ) → NodesAgree n → All FitNode (nodes n) → Grown n g → storedTree (length (n .id)) (drop (11 * length (n .id)) g) 0 (length (n .id)) ≡ treeOf (nodes n)
+pub grown-tree : (n : NodeColumns) (g : List ℕ) → NodesAgree n → All FitNode (nodes n) → Grown n g → storedTree (length (n .id)) (drop (11 * length (n .id)) g) 0 (length (n .id)) ≡ rejoined (treeOf (nodes n))
 grown-tree n g a f w =
     let m = length (n .id) in
     let fitting : All FitIndexed (map (indexedAt n) (upTo m)) = subst (All FitIndexed) (sym (nodes-placed n a)) (indexed-fit (nodes n) f) in
     w .tree m (omega arith)
     ∙ sym (build-over n (w .tableAcross) (w .tableDown) (record { across = w .across; down = w .down }) m (upTo m) (omega (arith, length-upTo m)) (all-places m) fitting)
-    ∙ sym (tree-any-nodes (nodes n) f (perm-eq (nodes-placed n a)) ∙ ap (λ (k : ℕ). build k (map (indexedAt n) (upTo m))) (length-nodes n a))
+    ∙ sym (tree-any-nodes (nodes n) f (perm-eq (nodes-placed n a)) ∙ ap (λ (k : ℕ). rejoined (build k (map (indexedAt n) (upTo m)))) (length-nodes n a))
 
 -- ---- the scratch: the places of the segments in order, and the tree behind the six words for each segment
 module _ (s : SegmentColumns) (n : NodeColumns) (e : ExemptionColumns) (words : ℕ) (z : Sizes s n e words) (s₀ s₁ : List ℕ) (long : length s₀ ≡ words) (ord : SegmentsOrdered s s₀ s₁) where
@@ -166,15 +167,16 @@ module _ (s : SegmentColumns) (n : NodeColumns) (e : ExemptionColumns) (words : 
       small = subst (All (λ i. i < length (s .net))) (sym turns) (ord .small);
     }
 
-    pub walked-all : (t : Float) (packed p₀ : List ℕ) → Gathered e p₀ packed → All FitNode (nodes n) → Grown n g → (allowance : ℕ) (r : Walked)
+    pub walked-all : (t : Float) (packed p₀ : List ℕ) → Gathered e p₀ packed → All FitSegment (segments s) → All FitNode (nodes n) → Grown n g → (allowance : ℕ) (r : Walked)
         → ((ex : List Exemption) → Holds packed ex → length ex ≡ length (e .net) → r ≡ walkedOf (within allowance (allWalks ex t (midOf (6 * length (s .net) + 11 * length (n .id)) (length s₂ - (6 * length (s .net) + 11 * length (n .id))) s₂) (length (n .id)) (midOf 0 (length s₂ - 0) s₂) s)))
         → r ≡ walkedOf (within allowance (walkAll (exemptions e) t (segments s) (nodes n)))
-    unfolding walkAll
-    walked-all t packed p₀ gathered f w allowance r h =
+    walked-all t packed p₀ gathered fs f w allowance r h =
         let ex = exemptions e in
         let tree = ap (λ (l : List ℕ). storedTree m l 0 m) tree-words ∙ grown-tree n g (z .nodes) f w in
         let line = ap (map (segmentAt s)) turns ∙ ord .ordered in
-        h ex (gathered .holds) (gathered .count) ∙ (λ i. walkedOf (within allowance (runs (λ a b. walk ex t b (tree i) a) noFigures (line i))))
+        h ex (gathered .holds) (gathered .count)
+        ∙ (λ i. walkedOf (within allowance (runs (λ a b. walk ex t b (tree i) a) noFigures (line i))))
+        ∙ ap (λ (c : Charged Figures). walkedOf (within allowance c)) (walk-all-rejoined ex t (nodes n) f (segments s) fs)
 
 pub held-of : (e : ExemptionColumns) (p₀ packed : List ℕ) → Gathered e p₀ packed → Held packed (length (e .net))
 held-of e p₀ packed g = record { ex = exemptions e; holds = g .holds; count = g .count }

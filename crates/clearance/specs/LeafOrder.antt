@@ -39,7 +39,7 @@ leafOrder (suc k) c kx ky l =
     let halves = leafOrder k c kx ky (take (length l / 2) row) ++ leafOrder k c kx ky (drop (length l / 2) row) in
     cond (ltb (length l) 2) l halves
 
--- the tree over a list that is in leaf order already
+-- the tree over a list that is in leaf order already, as it is stored: a branch's box is the union of its children's, which is not the box that `build` folds
 unfoldable pub treeOver : ℕ → List IndexedNode → Tree
 treeOver zero l = bare
 treeOver (suc k) [] = bare

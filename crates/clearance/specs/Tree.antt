@@ -53,6 +53,7 @@ boundsOf (leaf n) = n .bounds
 boundsOf (branch b l r) = b
 
 -- "The tree halves its list again and again until one node is left. .. the left child takes the first half, rounded down."
+-- A branch's box is the Rust's `bounds`: the boxes of the list as it is handed over, before it is put in order, folded by `union` from the first node's on.
 -- The number bounds how often: the length of the list is enough.
 unfoldable pub build : ℕ → List IndexedNode → Tree
 build zero l = bare
@@ -62,9 +63,7 @@ build (suc k) (n ∷ m ∷ l) =
     let box = hull (n .bounds) (m ∷ l) in
     let row = indexedInOrder (horizontalWider box) (n ∷ m ∷ l) in
     let half = length row / 2 in
-    let left = build k (take half row) in
-    let right = build k (drop half row) in
-    branch (union (boundsOf left) (boundsOf right)) left right
+    branch box (build k (take half row)) (build k (drop half row))
 
 -- the nodes come in document 01's order
 unfoldable pub treeOf : List Node → Tree

@@ -88,7 +88,8 @@ returns-2 c =
       nodes-held = nodes-held n (z .nodes) (c .before .before .before .before .before .before .before .before .before .before .before .before .before .before .before .before .before .before .before .before .before .before .before .shared-slice-known7 .given) (c .before .before .before .before .before .before .before .before .before .before .before .before .before .before .before .before .before .before .before .before .before .before .shared-slice-known8 .given) (c .before .before .before .before .before .before .before .before .before .before .before .before .before .before .before .before .before .before .before .before .before .shared-slice-known9 .given) (c .before .before .before .before .before .before .before .before .before .before .before .before .before .before .before .before .before .before .before .before .shared-slice-known10 .given);
       threshold-held = subst T (sym (a .good .1 .1 .1 .1 .1 .1 .1 .1 .1 .1 .1 .1 .0 .1)) tt;
     } in
-    walked-all s n (exemptionColumns _ _) _ z _ _ refl (c .before .before .before .before .before .before .before .before .before .before .before .order-segments .ensures) (c .before .before .before .before .before .before .before .prepare-nodes .last .0) (c .before .before .before .before .before .before .before .prepare-nodes .kept .0) _ _ _ (c .before .before .before .before .before .before .before .before .before .before .before .before .before .before .gather .ensures) (fit-call s n (exemptionColumns _ _) _ _ lent (a .pre) .nodes-fit) (c .before .before .before .before .before .before .before .prepare-nodes .ensures) _ _ (c .walk-all .ensures)
+    let fit = fit-call s n (exemptionColumns _ _) _ _ lent (a .pre) in
+    walked-all s n (exemptionColumns _ _) _ z _ _ refl (c .before .before .before .before .before .before .before .before .before .before .before .order-segments .ensures) (c .before .before .before .before .before .before .before .prepare-nodes .last .0) (c .before .before .before .before .before .before .before .prepare-nodes .kept .0) _ _ _ (c .before .before .before .before .before .before .before .before .before .before .before .before .before .before .gather .ensures) (fit .segments-fit) (fit .nodes-fit) (c .before .before .before .before .before .before .before .prepare-nodes .ensures) _ _ (c .walk-all .ensures)
 
 pub walk-drawing-spec : {M : Type 1} → statement M
 walk-drawing-spec =
