@@ -7,8 +7,6 @@ use Prim.Native.Nat.{ℕ, zero, suc, _+_, _*_, _≤_, _<_}
 use native.Mathlib.Numerals.{add-one}
 use native.Mathlib.Omega.{arith}
 use borrow.Author.Count.{below-more}
-use lib.Dec.{T}
-use lib.Ieee.{binary64, fits}
 use lib.ListN.{length, getD, take, drop, set}
 use lib.Seq.{paste, sets-eq, length-paste, drop-paste, length-front, take-at, drop-at, take-all, take-take, drop-drop, drop-cons, set-at, append-snoc, length-take-le}
 use Rattle.laws.specs.Lists.{Mem, All}
@@ -172,10 +170,6 @@ module _ {A : Type 0} (entries : List A) (entry : ℕ → A) (n : ℕ) (whole : 
 
 segments-placed : (c : SegmentColumns) → SegmentsAgree c → map (segmentAt c) (upTo (length (c .net))) ≡ segments c
 segments-placed c a = placed (segments c) (segmentAt c) (length (c .net)) (length-segments c a) (segments-at c a (segmentAt c 0))
-
--- the floats of lent columns are binary64's at every place
-pub segments-held : (c : SegmentColumns) → SegmentsAgree c → ((i : ℕ) → T (fits binary64 (segmentAt c i .fixed))) → ((i : ℕ) → T (fits binary64 (segmentAt c i .start))) → ((i : ℕ) → T (fits binary64 (segmentAt c i .end))) → All SegmentHeld (segments c)
-segments-held c a f b e = all-placed (segments c) (segmentAt c) (length (c .net)) (length-segments c a) (segments-at c a (segmentAt c 0)) SegmentHeld (λ i. record { fixed = f i; start = b i; end = e i })
 
 segment-wide : (s : Segment) → length (segmentRow s) ≡ 5
 unfolding segmentRow

@@ -9,7 +9,7 @@ use borrow.Author.Tests.{ltb-false}
 use borrow.Rule.Slice.PartMut.{midOf, putMid}
 use lib.Dec.{T}
 use lib.Ieee.{Float, binary64, fits}
-use lib.ListN.{length, replicate, take, drop, length-append, length-drop}
+use lib.ListN.{length, take, drop, length-append, length-drop}
 use lib.Seq.{drop-at, take-append-le, length-take-le, drop-drop, take-take}
 use Rattle.laws.specs.Lists.{All}
 use Rattle.laws.specs.Charged.{Charged, spent, left, within, free, after, runs, reply}
@@ -21,7 +21,7 @@ use Rattle.sorting.specs.Sorted.{upTo}
 use Rattle.sorting.proofs.Entries.{length-upTo}
 use Rattle.drawing.specs.declared.gap.Gap.the-variants.{Absent}
 use Rattle.drawing.specs.declared.refusal.Check.{Check}
-use Rattle.drawing.specs.declared.refusal.Check.the-variants.{Passed, Refused as Stopped}
+use Rattle.drawing.specs.declared.refusal.Check.the-variants.{Refused as Stopped}
 use Rattle.drawing.specs.declared.refusal.Refusal.{Refusal}
 use Rattle.drawing.specs.declared.refusal.Refusal.the-variants.{WorkLimitExceeded}
 use Rattle.drawing.specs.Refusals.{firstOf}
@@ -46,7 +46,7 @@ use Rattle.clearance.specs.Tables.{SegmentsOrdered}
 use Rattle.clearance.specs.Stored.{storedTree, Grown}
 use Rattle.clearance.specs.Exempting.{Holds, Gathered}
 use Rattle.clearance.specs.Walking.{walkedOf, Part, Held, InTurns, allWalks, Remains, Answers}
-use Rattle.clearance.specs.Answer.{accepted, unless, answer, scratchAfter}
+use Rattle.clearance.specs.Answer.{accepted, unless, answer}
 use Rattle.clearance.proofs.Fit.{FitSegment, FitNode}
 use Rattle.clearance.proofs.Answers.{Lent, passes, fit-call}
 use Rattle.clearance.proofs.WithinAllowance.{reply-within}
@@ -209,14 +209,6 @@ remains c allowance r e w h = elim (le-or-lt (c .cost) allowance) [
 pub refused-answer : (s : SegmentColumns) (n : NodeColumns) (e : ExemptionColumns) (t : Float) (allowance words : ℕ) (c : Check) (r : Refusal) → c ≡ firstOf (clearanceConditions s n e t words) → c ≡ Stopped r → Refused r ≡ answer s n e t allowance words
 unfolding answer unless
 refused-answer s n e t allowance words c r h g = sym (rw (sym h ∙ g))
-
-pub refused-scratch : (k c : Check) (r : Refusal) (l : List ℕ) → c ≡ k → c ≡ Stopped r → l ≡ scratchAfter k l
-unfolding scratchAfter
-refused-scratch k c r l h g = sym (rw (sym h ∙ g))
-
-pub passed-scratch : (k c : Check) (l r : List ℕ) → c ≡ k → c ≡ Passed → r ≡ replicate (length l) 0 → r ≡ scratchAfter k l
-unfolding scratchAfter
-passed-scratch k c l r h g e = sym (rw (sym h ∙ g) (sym e))
 
 pub passed-answer : (s : SegmentColumns) (n : NodeColumns) (e : ExemptionColumns) (t : Float) (allowance words : ℕ) → passes s n e t words → Lent s n t → (w : Walked) → w ≡ walkedOf (within allowance (walkAll (exemptions e) t (segments s) (nodes n)))
     → (a : ClearanceAnswer) → Answers w allowance a → a ≡ answer s n e t allowance words

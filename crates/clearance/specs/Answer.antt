@@ -3,7 +3,6 @@ use mathlib.Core.List.{List}
 use mathlib.Core.Option.{Option, none, some}
 use Prim.Native.Nat.{ℕ}
 use lib.Ieee.{Float}
-use lib.ListN.{length, replicate}
 use Rattle.laws.specs.Charged.{Charged, settle}
 use Rattle.drawing.specs.declared.gap.Gap.{Gap}
 use Rattle.drawing.specs.declared.gap.Gap.the-variants.{Absent}
@@ -36,11 +35,6 @@ unfoldable pub answer : SegmentColumns → NodeColumns → ExemptionColumns → 
 answer s n e threshold allowance words =
     unless (firstOf (clearanceConditions s n e threshold words))
     (settle accepted (Refused WorkLimitExceeded) allowance (allPairs (exemptions e) threshold (segments s) (nodes n)))
-
--- the scratch at exit: "After an accepted call or a spent allowance the whole scratch is zero"; an earlier refusal leaves it as it was
-unfoldable pub scratchAfter : Check → List ℕ → List ℕ
-scratchAfter Passed s = replicate (length s) 0
-scratchAfter (Stopped r) s = s
 
 -- what a reader finds in an answer, document 01's number and values: `refused` is absent where the call was accepted
 pub record Result : Type 0 where

@@ -1,15 +1,14 @@
 // The clearance measure by columns.
 ghost use mathlib.Core.Path.{_≡_};
-ghost use Prim.Native.Nat.{_≤_};
 ghost use lib.ListN.{length};
 ghost use Rattle.laws.specs.Charged.{within};
 ghost use Rattle.drawing.specs.declared.refusal.Check.the-variants.{Passed};
-ghost use Rattle.drawing.specs.Refusals.{firstOf};
+ghost use Rattle.drawing.specs.Refusals.{firstOf, scratchAfter};
 ghost use Rattle.drawing.specs.Entries.{segmentColumns, nodeColumns, exemptionColumns, segments, nodes, exemptions};
 ghost use Rattle.drawing.specs.Checks.{clearanceConditions};
 ghost use Rattle.clearance.specs.Walk.{walkAll};
 ghost use Rattle.clearance.specs.Walking.{walkedOf, Remains, Answers};
-ghost use Rattle.clearance.specs.Answer.{answer, scratchAfter};
+ghost use Rattle.clearance.specs.Answer.{answer};
 use crate::exempt::gather;
 use crate::prepare::prepare_nodes;
 use crate::report::ClearanceAnswer;

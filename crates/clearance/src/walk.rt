@@ -2,7 +2,6 @@
 ghost use mathlib.Core.Path.{_≡_};
 ghost use mathlib.Core.List.{List};
 ghost use Prim.Native.Nat.{ℕ, _+_, _*_, _^_, _≤_, _<_};
-ghost use lib.ListN.{length};
 ghost use Rattle.laws.specs.Charged.{within, free, visit};
 ghost use Rattle.drawing.specs.Entries.{Exemption};
 ghost use Rattle.clearance.specs.Figures.{exempt};

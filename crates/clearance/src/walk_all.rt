@@ -1,7 +1,7 @@
 // The walks of all segments, one after another in document 01's order.
 ghost use mathlib.Core.Path.{_≡_};
 ghost use mathlib.Core.List.{List};
-ghost use Prim.Native.Nat.{ℕ, _+_, _^_, _≤_, _<_};
+ghost use Prim.Native.Nat.{_+_, _^_, _<_};
 ghost use lib.ListN.{length};
 ghost use Rattle.laws.specs.Charged.{within};
 ghost use Rattle.drawing.specs.Entries.{Exemption, segmentColumns};

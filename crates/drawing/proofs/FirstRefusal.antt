@@ -6,13 +6,13 @@ use mathlib.Core.List.{List, [], _∷_, _++_}
 use Prim.Native.Nat.{ℕ, _≤_}
 use borrow.Author.Tests.{ltb-false, eqb-true, not-false}
 use lib.Dec.{eqb}
-use lib.ListN.{length}
+use lib.ListN.{length, replicate}
 use Rattle.laws.proofs.Tests.{decide, clash}
 use Rattle.laws.proofs.ListLaws.{none-all}
 use Rattle.drawing.specs.declared.refusal.Refusal.{Refusal}
 use Rattle.drawing.specs.declared.refusal.Check.{Check}
 use Rattle.drawing.specs.declared.refusal.Check.the-variants.{Passed, Refused}
-use Rattle.drawing.specs.Refusals.{firstOf}
+use Rattle.drawing.specs.Refusals.{firstOf, scratchAfter}
 use Rattle.drawing.specs.Entries.{SegmentColumns, NodeColumns, ExemptionColumns}
 use Rattle.drawing.specs.Conditions.{differ, tooMany}
 use Rattle.drawing.specs.Checks.{segmentsDiffer, nodesDiffer, separationConditions, listConditions}
@@ -106,3 +106,12 @@ lists-pass s n x e =
     let f = passed-head _ _ _ (d .1) in
     let g = passed-head _ _ _ (f .1) in
     record { segments = segments-agree s (a .0); nodes = nodes-agree n (b .0); few-segments = few _ (d .0); few-nodes = few _ (f .0); few-exemptions = few _ (g .0) }
+
+-- ---- the scratch at exit, from what a call's checks said
+pub refused-scratch : (k c : Check) (r : Refusal) (l : List ℕ) → c ≡ k → c ≡ Refused r → l ≡ scratchAfter k l
+unfolding scratchAfter
+refused-scratch k c r l h g = sym (rw (sym h ∙ g))
+
+pub passed-scratch : (k c : Check) (l r : List ℕ) → c ≡ k → c ≡ Passed → r ≡ replicate (length l) 0 → r ≡ scratchAfter k l
+unfolding scratchAfter
+passed-scratch k c l r h g e = sym (rw (sym h ∙ g) (sym e))

@@ -1,17 +1,21 @@
 -- Document 01's list orders give one list for every order of the entries. Assumes nothing.
-use mathlib.Core.Path.{_≡_, ap}
+use mathlib.Core.Path.{_≡_, sym, ap, subst}
 use mathlib.Core.List.{List, [], _∷_}
 use Prim.Native.Nat.{ℕ}
+use native.Mathlib.Omega.{arith}
 use lib.Dec.{T}
 use lib.Ieee.{binary64, fits}
 use Rattle.laws.specs.Lists.{All}
 use Rattle.laws.specs.Perm.{Perm}
 use Rattle.laws.specs.Rows.{rowLe}
+use Rattle.laws.proofs.Places.{at-all}
 use Rattle.laws.proofs.RowLaws.{row-antisym, by-rows}
 use Rattle.laws.proofs.Sorting.{sort-same, sort-perm}
 use Rattle.floats.proofs.NumberKeys.{key-of-one}
-use Rattle.drawing.specs.Entries.{Segment, Node}
+use Rattle.drawing.specs.Entries.{Segment, Node, SegmentColumns, segments}
+use Rattle.drawing.specs.Lengths.{SegmentsAgree}
 use Rattle.drawing.specs.Orders.{segmentRow, nodeRow, segmentsInOrder, nodesInOrder}
+use Rattle.drawing.proofs.EntryLaws.{segmentAt, length-segments, segments-at}
 
 -- the floats of an entry are binary64's, as those of every lent column are
 pub record SegmentHeld (s : Segment) : Type 0 where
@@ -69,3 +73,10 @@ segments-in-order-perm l = sort-perm (λ a b. rowLe (segmentRow a) (segmentRow b
 pub nodes-in-order-perm : (l : List Node) → Perm (nodesInOrder l) l
 unfolding nodesInOrder
 nodes-in-order-perm l = sort-perm (λ a b. rowLe (nodeRow a) (nodeRow b)) l
+
+-- what holds at every place of lent columns holds of every entry
+pub segments-all : (P : Segment → Type 0) (c : SegmentColumns) → SegmentsAgree c → ((i : ℕ) → P (segmentAt c i)) → All P (segments c)
+segments-all P c a h = at-all P (segmentAt c 0) (segments c) (λ k b. subst P (sym (segments-at c a (segmentAt c 0) k (omega (arith, length-segments c a)))) (h k))
+
+pub segments-held : (c : SegmentColumns) → SegmentsAgree c → ((i : ℕ) → T (fits binary64 (segmentAt c i .fixed))) → ((i : ℕ) → T (fits binary64 (segmentAt c i .start))) → ((i : ℕ) → T (fits binary64 (segmentAt c i .end))) → All SegmentHeld (segments c)
+segments-held c a f b e = segments-all SegmentHeld c a (λ i. record { fixed = f i; start = b i; end = e i })

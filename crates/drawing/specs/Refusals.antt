@@ -1,7 +1,8 @@
--- The refusals' numbers, and the first refusal that applies.
+-- The refusals' numbers, the first refusal that applies, and what becomes of the scratch.
 use mathlib.Core.Bool.{Bool, cond}
 use mathlib.Core.List.{List, [], _∷_}
 use Prim.Native.Nat.{ℕ}
+use lib.ListN.{length, replicate}
 use Rattle.drawing.specs.declared.refusal.Refusal.{Refusal}
 use Rattle.drawing.specs.declared.refusal.Refusal.the-variants.{MalformedFile, ColumnsDiffer, TooManyEntries, ShortScratch, InvalidInput, OffGrid, WorkLimitExceeded}
 use Rattle.drawing.specs.declared.refusal.Check.{Check}
@@ -21,3 +22,8 @@ numberOf WorkLimitExceeded = 7
 unfoldable pub firstOf : List (Bool × Refusal) → Check
 firstOf [] = Passed
 firstOf (c ∷ l) = let r = firstOf l in cond (c .0) (Refused (c .1)) r
+
+-- the scratch at exit: "After an accepted call or a spent allowance the whole scratch is zero"; an earlier refusal leaves it as it was
+unfoldable pub scratchAfter : Check → List ℕ → List ℕ
+scratchAfter Passed s = replicate (length s) 0
+scratchAfter (Refused r) s = s

@@ -1,10 +1,10 @@
 // The clearance measure.
 ghost use mathlib.Core.Path.{_≡_};
 ghost use lib.ListN.{length};
-ghost use Rattle.drawing.specs.Refusals.{firstOf};
+ghost use Rattle.drawing.specs.Refusals.{firstOf, scratchAfter};
 ghost use Rattle.drawing.specs.Entries.{segmentColumns, nodeColumns, exemptionColumns};
 ghost use Rattle.drawing.specs.Checks.{clearanceConditions};
-ghost use Rattle.clearance.specs.Answer.{answer, scratchAfter, result};
+ghost use Rattle.clearance.specs.Answer.{answer, result};
 ghost use Rattle.exports.specs.Told.{status, clearanceWords};
 use crate::gap::bits_word;
 use crate::gap::present_word;

@@ -14,7 +14,7 @@ module _ {A : Type 0} (P : A → Type 0) (d : A) where
   all-at (x ∷ l) h zero b = h .0
   all-at (x ∷ l) h (suc k) b = all-at l (h .1) k (le-of-suc-le-suc b)
 
-  at-all : (l : List A) → ((k : ℕ) → k < length l → P (getD l k d)) → All P l
+  pub at-all : (l : List A) → ((k : ℕ) → k < length l → P (getD l k d)) → All P l
   at-all [] h = tt
   at-all (x ∷ l) h = (h zero (suc-le-suc zero-le), at-all l (λ k b. h (suc k) (suc-le-suc b)))
 

@@ -13,20 +13,20 @@ use Rattle.laws.specs.Charged.{Charged, spent, left, within, free, visit, after
 use Rattle.laws.proofs.Runs.{within-free, within-after, visit-spent, visit-paid, onward-spent, onward-left}
 use Rattle.drawing.specs.Entries.{Segment}
 use Rattle.separation.specs.declared.tree.Search.the-variants.{Found, Empty, Spent}
-use Rattle.separation.specs.Rows.{Row, oriented, lines, index, levels, events}
-use Rattle.separation.specs.Searches.{otherIn, leaf, orElse, node, rightmost, leftmost, setRun, searchOf}
-use Rattle.separation.specs.Walk.{nothing, lesserFigures, Sweep, ownLine, otherLine, remove, startsAt, endsAt, step, sweep, along, walk}
+use Rattle.separation.specs.Rows.{Row, oriented, lines, levels, events}
+use Rattle.separation.specs.Searches.{leaf, orElse, node, rightmost, leftmost, setRun, searchOf}
+use Rattle.separation.specs.Walk.{nothing, lesserFigures, Sweep, remove, endsAt, step, sweep, along, walk}
 
 -- ---- "a search answers found, empty or spent"
 pub answer-spent : searchOf spent ≡ Spent
 unfolding searchOf
 answer-spent = refl
 
-pub answer-found : (i m : ℕ) → searchOf (left (some i) m) ≡ Found i
+pub answer-found : (i m : ℕ) → searchOf (left (some i) m) ≡ Found i m
 unfolding searchOf
 answer-found i m = refl
 
-pub answer-empty : (m : ℕ) → searchOf (left none m) ≡ Empty
+pub answer-empty : (m : ℕ) → searchOf (left none m) ≡ Empty m
 unfolding searchOf
 answer-empty m = refl
 
@@ -124,54 +124,10 @@ set-more m h = visit-paid m (setRun h)
 then-read : {A B : Type 0} (m : ℕ) (c : Charged A) (f : A → B) → within m (after c (λ a. free (f a))) ≡ onward (within m c) (λ a r. left (f a) r)
 then-read m c f = within-after m c (λ a. free (f a)) ∙ (λ i. onward (within m c) (λ a r. within-free r (f a) i))
 
--- ---- the sweep's steps: a start's own line, its two searches and its `set`, each within what the one before it left
+-- ---- an end: its `set`
 pub end-within : (h m : ℕ) (s : Sweep) (x : Row) → within m (endsAt h s x) ≡ onward (within m (setRun h)) (λ done r. left (record { active = remove x (s .active); met = s .met }) r)
 unfolding endsAt
 end-within h m s x = then-read m (setRun h) (λ done. record { active = remove x (s .active); met = s .met })
-
-module _ (ls : List ℕ) (h : ℕ) (s : Sweep) (x : Row) where
-  abbrev place : ℕ
-  place = index ls (x .line)
-
-  abbrev has : ℕ → ℕ → Bool
-  has = otherIn ls (s .active) (x .net)
-
-  -- where a start leaves the sweep
-  abbrev pub started : Bool → Option ℕ → Option ℕ → Sweep
-  started own below above = record { active = x ∷ s .active; met = otherLine ls (x .line) above (otherLine ls (x .line) below (ownLine own (s .met))) }
-
-  -- the runs that follow `has_other_at`, each with what is known by then
-  abbrev last : Bool → Option ℕ → Option ℕ → Charged Sweep
-  last own below above = after (setRun h) (λ done. free (started own below above))
-
-  abbrev second : Bool → Option ℕ → Charged Sweep
-  second own below = after (leftmost (λ k. has) (suc place) h 1 0) (λ above. last own below above)
-
-  abbrev first : Bool → Charged Sweep
-  first own = after (rightmost (λ k. has) place h 1 0) (λ below. second own below)
-
-  pub start-spent : within 0 (startsAt ls h s x) ≡ spent
-  unfolding startsAt
-  start-spent = within-after 0 (visit (free (has place (suc place)))) first ∙ rw (visit-spent (free (has place (suc place)))) (onward-spent (λ own r. within r (first own)))
-
-  pub start-within : (m : ℕ) → within (suc m) (startsAt ls h s x) ≡ onward (within m (rightmost (λ k. has) place h 1 0)) (λ below r. onward (within r (leftmost (λ k. has) (suc place) h 1 0)) (λ above r. onward (within r (setRun h)) (λ done r. left (started (has place (suc place)) below above) r)))
-  unfolding startsAt
-  start-within m =
-      within-after (suc m) (visit (free own)) first
-      ∙ rw (visit-paid m (free own), within-free m own) (onward-left own m (λ b r. within r (first b)))
-      ∙ within-after m (rightmost (λ k. has) place h 1 0) (second own)
-      ∙ (λ i. onward (within m (rightmost (λ k. has) place h 1 0)) (λ below r. on-second below r i))
-    where
-      own : Bool
-      own = has place (suc place)
-
-      on-last : (below above : Option ℕ) (r : ℕ) → within r (last own below above) ≡ onward (within r (setRun h)) (λ done r. left (started own below above) r)
-      on-last below above r = then-read r (setRun h) (λ done. started own below above)
-
-      on-second : (below : Option ℕ) (r : ℕ) → within r (second own below) ≡ onward (within r (leftmost (λ k. has) (suc place) h 1 0)) (λ above r. onward (within r (setRun h)) (λ done r. left (started own below above) r))
-      on-second below r =
-          within-after r (leftmost (λ k. has) (suc place) h 1 0) (last own below)
-          ∙ (λ i. onward (within r (leftmost (λ k. has) (suc place) h 1 0)) (λ above r. on-last below above r i))
 
 -- ---- a sweep, an orientation and the walk
 pub sweep-within : (m : ℕ) (l : List Row) → within m (sweep l) ≡ onward (within m (runs (step (lines l) (levels (length (lines l)))) (record { active = []; met = nothing }) (events l))) (λ s r. left (s .met) r)

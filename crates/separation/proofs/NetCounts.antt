@@ -1,24 +1,18 @@
 -- How often a net is active on a line: a start adds one, an end takes one off, and the nets with a count above 0 make the line's summary. Assumes nothing.
 use mathlib.Core.Path.{_≡_, refl}
-use mathlib.Core.Bool.{Bool, _&&_}
 use mathlib.Core.List.{List, _∷_}
 use Prim.Native.Nat.{ℕ, _+_, _<_}
 use borrow.Author.Tests.{eqb-true, eq-eqb}
 use lib.Dec.{eqb}
-use Rattle.laws.specs.Lists.{Mem, fold, bit, count}
+use Rattle.laws.specs.Lists.{Mem, fold, bit}
 use Rattle.laws.proofs.Tests.{and-left, and-right, and-both}
 use Rattle.separation.specs.Rows.{Row, index}
 use Rattle.separation.specs.Summaries.{summaryOf}
 use Rattle.separation.specs.Walk.{remove}
 use Rattle.separation.proofs.ActiveRows.{mem-count, count-mem, remove-count}
-use Rattle.separation.proofs.Trees.{Decides, leaf-decides}
-
--- the row is of net m on line i
-abbrev pub onLine : List ℕ → ℕ → ℕ → Row → Bool
-onLine ls i m r = eqb (index ls (r .line)) i && eqb (r .net) m
-
-abbrev pub netCount : List ℕ → List Row → ℕ → ℕ → ℕ
-netCount ls active i m = count (onLine ls i m) active
+use Rattle.separation.specs.ActiveTree.{Decides}
+use Rattle.separation.specs.ActiveNets.{onLine, netCount}
+use Rattle.separation.proofs.Trees.{leaf-decides}
 
 module _ (ls : List ℕ) (active : List Row) (i : ℕ) where
   pub count-start : (m : ℕ) (x : Row) → netCount ls (x ∷ active) i m ≡ bit (onLine ls i m x) + netCount ls active i m

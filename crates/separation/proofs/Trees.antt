@@ -1,8 +1,8 @@
 -- Summaries stored in a tree: where each node's summary decides for its leaves, the searches over them are those of the walk; and a leaf's `set`, node by node upwards, keeps it so. Assumes nothing.
 use mathlib.Core.Path.{_≡_, refl, sym, ap, _∙_, subst}
 use mathlib.Core.Logic.{_⊎_, inl, inr}
-use mathlib.Core.List.{List, [], _∷_, _++_}
-use mathlib.Core.Bool.{Bool, true, not, _&&_, _||_, or-assoc}
+use mathlib.Core.List.{List, [], _∷_}
+use mathlib.Core.Bool.{Bool, true, not, _&&_, _||_}
 use Prim.Native.Nat.{ℕ, zero, suc, _+_, _*_, _/_, _^_, _≤_, _<_}
 use native.Mathlib.Nat.{le-refl, le-antisymm, pow-succ', mul-assoc, mul-comm, add-mul, one-mul, mul-le-mul-left, zero-mul}
 use native.Mathlib.Omega.{arith}
@@ -16,16 +16,12 @@ use Rattle.separation.specs.declared.summary.NetSummary.{NetSummary}
 use Rattle.separation.specs.declared.summary.NetSummary.the-variants.{Nothing}
 use Rattle.separation.specs.Rows.{Row, index}
 use Rattle.separation.specs.Searches.{otherIn, leaf, node, rightmost, leftmost}
-use Rattle.separation.specs.Summaries.{otherThan, netsOf, summaryOf, hasOther}
+use Rattle.separation.specs.Summaries.{otherThan, summaryOf, hasOther}
+use Rattle.separation.specs.ActiveTree.{NodeAt, Decides, Covers, Outside, SameOff}
 use Rattle.separation.specs.Walk.{remove}
 use Rattle.separation.proofs.Lines.{other→, →other, other-splits, other-widen}
 use Rattle.separation.proofs.Summaries.{both, summary-decides}
 use Rattle.separation.proofs.ActiveRows.{remove-mem, mem-remove}
-
--- ---- the nodes of a tree of H levels: node k over h levels, whose first leaf is s
-pub record NodeAt (H h k s : ℕ) : Type 0 where
-  pub number : k * 2 ^ h ≡ 2 ^ H + s
-  pub room : s + 2 ^ h ≤ 2 ^ H
 
 pub node-root : (H : ℕ) → NodeAt H H 1 0
 node-root H = record { number = omega (arith, one-mul (2 ^ H)); room = omega arith }
@@ -56,14 +52,6 @@ module _ (has other : ℕ → ℕ → ℕ → Bool) (H q : ℕ) (agree : (h k s 
   left-same zero k s n = ap (λ (b : Bool). leaf (ltb q (s + 1) && b) s) (agree zero k s n)
   left-same (suc h) k s n = λ i. node (ltb q (s + 2 ^ suc h) && agree (suc h) k s n i) (left-same h (2 * k) s (node-low H h k s n) i) (left-same h (2 * k + 1) (s + 2 ^ h) (node-high H h k s n) i)
 
--- ---- a summary decides for the leaves from a up to b: for every net it tells whether another one is active there
-abbrev pub Decides : List ℕ → List Row → NetSummary → ℕ → ℕ → Type 0
-Decides ls active s a b = (n : ℕ) → hasOther s n ≡ otherIn ls active n a b
-
--- every node's summary decides for its leaves; t k is that of node k
-abbrev pub Covers : List ℕ → List Row → (ℕ → NetSummary) → ℕ → Type 0
-Covers ls active t H = (h k s : ℕ) → NodeAt H h k s → Decides ls active (t k) s (s + 2 ^ h)
-
 -- so the searches over the stored summaries are those of the walk
 module _ (ls : List ℕ) (active : List Row) (t : ℕ → NetSummary) (H : ℕ) (covers : Covers ls active t H) (n q : ℕ) where
   pub stored-right : rightmost (λ k a b. hasOther (t k) n) q H 1 0 ≡ rightmost (λ k. otherIn ls active n) q H 1 0
@@ -73,11 +61,6 @@ module _ (ls : List ℕ) (active : List Row) (t : ℕ → NetSummary) (H : ℕ) 
   stored-left = left-same (λ k a b. hasOther (t k) n) (λ k. otherIn ls active n) H q (λ h k s x. covers h k s x n) H 1 0 (node-root H)
 
 -- ---- two neighbouring ranges
-some-append : (p : ℕ → Bool) (l r : List ℕ) → some-of p (l ++ r) ≡ (some-of p l || some-of p r)
-unfolding some-of
-some-append p [] r = refl
-some-append p (x ∷ l) r = ap (λ (b : Bool). p x || b) (some-append p l r) ∙ sym (or-assoc (p x) (some-of p l) (some-of p r))
-
 module _ (ls : List ℕ) (active : List Row) where
   other-join : (n a b c : ℕ) → a ≤ b → b ≤ c → (otherIn ls active n a b || otherIn ls active n b c) ≡ otherIn ls active n a c
   other-join n a b c h k =
@@ -87,13 +70,8 @@ module _ (ls : List ℕ) (active : List Row) where
       (λ t. elim (or-elim x y t) [ inl u ↦ other-widen ls active n a b a c (le-refl a) k u | inr u ↦ other-widen ls active n b c a c h (le-refl c) u ])
       (λ t. elim (other-splits ls active n a b c t) [ inl u ↦ or-left x y u | inr u ↦ or-right x y u ])
 
-  pub merged-decides : (s t : NetSummary) (a b c : ℕ) → a ≤ b → b ≤ c → Decides ls active s a b → Decides ls active t b c → Decides ls active (summaryOf (netsOf s ++ netsOf t)) a c
-  unfolding hasOther
-  merged-decides s t a b c h k p q n =
-      summary-decides (netsOf s ++ netsOf t) n
-      ∙ some-append (otherThan n) (netsOf s) (netsOf t)
-      ∙ (λ i. p n i || q n i)
-      ∙ other-join n a b c h k
+  pub merged-decides : (s t u : NetSummary) (a b c : ℕ) → a ≤ b → b ≤ c → ((n : ℕ) → hasOther u n ≡ (hasOther s n || hasOther t n)) → Decides ls active s a b → Decides ls active t b c → Decides ls active u a c
+  merged-decides s t u a b c h k m p q n = m n ∙ (λ i. p n i || q n i) ∙ other-join n a b c h k
 
   -- a leaf: any list of the nets that are active on its line, in any order, one net once or more often
   pub leaf-decides : (i : ℕ) (l : List ℕ) → ((m : ℕ) → Mem m l → (r : Row) × Mem r active × (index ls (r .line) ≡ i) × (r .net ≡ m)) → ((r : Row) → Mem r active → index ls (r .line) ≡ i → Mem (r .net) l) → Decides ls active (summaryOf l) i (i + 1)
@@ -109,14 +87,6 @@ module _ (ls : List ℕ) (active : List Row) where
       from t =
           let x = other→ ls active n i (i + 1) t in
           mem-some (otherThan n) (x .0 .net) l (g (x .0) (x .1) (le-antisymm (omega (arith, x .2 .2)) (x .2 .1))) (ap not (ne-eqb (x .0 .net) n (x .2 .0)))
-
--- ---- a start or an end changes only the ranges that hold its line
-abbrev pub Outside : ℕ → ℕ → ℕ → Type 0
-Outside i a b = (i < a) ⊎ (b ≤ i)
-
--- what the two lists hold off the line i is the same
-abbrev pub SameOff : List ℕ → List Row → List Row → ℕ → Type 0
-SameOff ls old new i = (n a b : ℕ) → Outside i a b → otherIn ls old n a b ≡ otherIn ls new n a b
 
 same-off : (ls : List ℕ) (old new : List Row) (i : ℕ) → ((r : Row) → Mem r old → (index ls (r .line) ≡ i) ⊎ Mem r new) → ((r : Row) → Mem r new → (index ls (r .line) ≡ i) ⊎ Mem r old) → SameOff ls old new i
 same-off ls old new i f g n a b o = both (otherIn ls old n a b) (otherIn ls new n a b) (λ t. move old new f t) (λ t. move new old g t)
@@ -165,7 +135,7 @@ holds-up H i (suc h) k s n a b = elim (le-or-lt (s + 2 ^ h) i) [
     odd k = omega arith
 
 -- a node above the leaves has a lesser number than every leaf
-inner-small : (H h k s : ℕ) → NodeAt H (suc h) k s → k < 2 ^ H
+pub inner-small : (H h k s : ℕ) → NodeAt H (suc h) k s → k < 2 ^ H
 inner-small H h k s n =
     let w = pow-pos h in
     let e = node-low H h k s n .number in
@@ -179,6 +149,12 @@ leaf-large H k s n = omega (arith, n .number)
 some-number : (H h k s : ℕ) → NodeAt H h k s → 0 < k
 some-number H h zero s n = absurd (omega (arith, n .number, zero-mul (2 ^ h), pow-pos H))
 some-number H h (suc k) s n = omega arith
+
+-- the numbers of all nodes are below twice the number of the leaves
+pub node-small : (H h k s : ℕ) → NodeAt H h k s → k < 2 * 2 ^ H
+node-small H h k s n =
+    let g : k * 1 ≤ k * 2 ^ h = mul-le-mul-left k (pow-pos h) in
+    omega (arith, n .number, n .room, pow-pos h)
 
 -- every node but c and those above it decides for the new rows
 abbrev pub Merging : List ℕ → List Row → (ℕ → NetSummary) → ℕ → ℕ → Type 0
@@ -217,7 +193,7 @@ module _ (ls : List ℕ) (new : List Row) (H : ℕ) where
       ]
 
   -- a node is merged anew from its children
-  pub merging-goes-on : (t u : ℕ → NetSummary) (c : ℕ) → 0 < c → c < 2 ^ H → u c ≡ summaryOf (netsOf (t (2 * c)) ++ netsOf (t (2 * c + 1))) → ((k : ℕ) → (k ≡ c → ⊥) → u k ≡ t k) → Merging ls new t H c → Merging ls new u H (c / 2)
+  pub merging-goes-on : (t u : ℕ → NetSummary) (c : ℕ) → 0 < c → c < 2 ^ H → ((n : ℕ) → hasOther (u c) n ≡ (hasOther (t (2 * c)) n || hasOther (t (2 * c + 1)) n)) → ((k : ℕ) → (k ≡ c → ⊥) → u k ≡ t k) → Merging ls new t H c → Merging ls new u H (c / 2)
   merging-goes-on t u c some small merged rest m h k s n clear = elim (same-or-not k c) [
     | inr o ↦ λ j. ap (λ (z : NetSummary). hasOther z j) (rest k o) ∙ m h k s n (λ p. elim (upwards-next p) [ inl e ↦ o e | inr g ↦ clear g ]) j
     | inl e ↦ at h n e
@@ -228,10 +204,10 @@ module _ (ls : List ℕ) (new : List Row) (H : ℕ) where
       at (suc h) n e =
           let low = m h (2 * k) s (node-low H h k s n) (λ p. omega (arith, upwards-le p)) in
           let high = m h (2 * k + 1) (s + 2 ^ h) (node-high H h k s n) (λ p. omega (arith, upwards-le p)) in
-          let whole = merged-decides ls new (t (2 * k)) (t (2 * k + 1)) s (s + 2 ^ h) (s + 2 ^ h + 2 ^ h) (omega arith) (omega arith) low high in
+          let joined = subst (λ (z : ℕ). (n : ℕ) → hasOther (u z) n ≡ (hasOther (t (2 * z)) n || hasOther (t (2 * z + 1)) n)) (sym e) merged in
+          let whole = merged-decides ls new (t (2 * k)) (t (2 * k + 1)) (u k) s (s + 2 ^ h) (s + 2 ^ h + 2 ^ h) (omega arith) (omega arith) joined low high in
           let w : s + 2 ^ h + 2 ^ h ≡ s + 2 ^ suc h = omega (arith, pow-succ' 2 h) in
-          subst (λ (z : NetSummary). Decides ls new z s (s + 2 ^ suc h)) (sym (ap u e ∙ merged ∙ ap (λ (z : ℕ). summaryOf (netsOf (t (2 * z)) ++ netsOf (t (2 * z + 1)))) (sym e)))
-          (subst (Decides ls new (summaryOf (netsOf (t (2 * k)) ++ netsOf (t (2 * k + 1)))) s) w whole)
+          subst (Decides ls new (u k) s) w whole
 
   -- past the root every node decides
   pub merging-ends : (t : ℕ → NetSummary) → Merging ls new t H 0 → Covers ls new t H
@@ -240,9 +216,4 @@ module _ (ls : List ℕ) (new : List Row) (H : ℕ) where
 -- before the first event no net is active
 pub nothing-covers : (ls : List ℕ) (H : ℕ) (t : ℕ → NetSummary) → ((k : ℕ) → 0 < k → k < 2 * 2 ^ H → t k ≡ Nothing) → Covers ls [] t H
 unfolding otherIn hasOther some-of
-nothing-covers ls H t e h k s n m = ap (λ (z : NetSummary). hasOther z m) (e k (some-number H h k s n) small)
-  where
-    small : k < 2 * 2 ^ H
-    small =
-        let g : k * 1 ≤ k * 2 ^ h = mul-le-mul-left k (pow-pos h) in
-        omega (arith, n .number, n .room, pow-pos h)
+nothing-covers ls H t e h k s n m = ap (λ (z : NetSummary). hasOther z m) (e k (some-number H h k s n) (node-small H h k s n))

@@ -54,5 +54,5 @@ setRun (suc h) = visit (setRun h)
 -- "a search answers found, empty or spent": what its run within an allowance comes to
 unfoldable pub searchOf : Outcome (Option ℕ) → Search
 searchOf spent = Spent
-searchOf (left (some i) m) = Found i
-searchOf (left none m) = Empty
+searchOf (left (some i) m) = Found i m
+searchOf (left none m) = Empty m

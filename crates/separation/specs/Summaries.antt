@@ -1,36 +1,27 @@
--- Summaries: up to two different nets of those that are active on some lines.
-use mathlib.Core.Path.{_≡_}
-use mathlib.Core.Bool.{Bool, not}
+-- Summaries of the nets that are active on some lines: none, one, or two different ones at least.
+use mathlib.Core.Bool.{Bool, true, false, not}
 use mathlib.Core.List.{List, [], _∷_}
 use Prim.Native.Nat.{ℕ}
 use lib.Dec.{eqb}
-use Rattle.laws.specs.Lists.{some-of, keep}
+use Rattle.laws.specs.Lists.{keep}
 use Rattle.separation.specs.declared.summary.NetSummary.{NetSummary}
 use Rattle.separation.specs.declared.summary.NetSummary.the-variants.{Nothing, One, Two}
 
 abbrev pub otherThan : ℕ → ℕ → Bool
 otherThan n m = not (eqb m n)
 
-abbrev pub netsOf : NetSummary → List ℕ
-netsOf Nothing = []
-netsOf (One a) = a ∷ []
-netsOf (Two a b) = a ∷ b ∷ []
-
--- its nets differ
-abbrev pub Apart : NetSummary → Type 0
-Apart Nothing = Unit {0}
-Apart (One a) = Unit {0}
-Apart (Two a b) = b ≡ a → ⊥
-
+-- a net with those that differ from it
 abbrev pub withSecond : ℕ → List ℕ → NetSummary
 withSecond n [] = One n
-withSecond n (m ∷ l) = Two n m
+withSecond n (m ∷ l) = Two
 
--- the summary of a list of nets: its first, and the first one that differs from that
+-- the summary of a list of nets
 unfoldable pub summaryOf : List ℕ → NetSummary
 summaryOf [] = Nothing
 summaryOf (n ∷ l) = withSecond n (keep (otherThan n) l)
 
--- another net than n is in the summary
+-- another net than n is among those that are summed up: of two different nets one always is
 unfoldable pub hasOther : NetSummary → ℕ → Bool
-hasOther s n = some-of (otherThan n) (netsOf s)
+hasOther Nothing n = false
+hasOther (One a) n = not (eqb a n)
+hasOther Two n = true

@@ -5,8 +5,9 @@ use lib.ListN.{length, replicate}
 use denote.Ref.{now}
 use Rattle.drawing.specs.Entries.{segmentColumns, nodeColumns, exemptionColumns}
 use Rattle.clearance.proofs.Answers.{Lent, passes}
-use Rattle.clearance.proofs.TableLaws.{segments-held}
-use Rattle.clearance.proofs.WholeCall.{sizes, nodes-held, remains, refused-answer, refused-scratch, passed-scratch, passed-answer}
+use Rattle.drawing.proofs.FirstRefusal.{refused-scratch, passed-scratch}
+use Rattle.drawing.proofs.ListOrders.{segments-held}
+use Rattle.clearance.proofs.WholeCall.{sizes, nodes-held, remains, refused-answer, passed-answer}
 use borrow.Author.Needs.{needs}
 use Rattle.clearance.proofs.measure.measure_edge_node_clearance_bounded.Statement.{
   statement,

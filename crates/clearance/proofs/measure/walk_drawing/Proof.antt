@@ -1,6 +1,6 @@
 use denote.Ref.{now}
 use Rattle.clearance.proofs.Answers.{Lent, fit-call}
-use Rattle.clearance.proofs.TableLaws.{segments-held}
+use Rattle.drawing.proofs.ListOrders.{segments-held}
 use Rattle.clearance.proofs.WholeCall.{nodes-held, all-long, walked-all}
 use mathlib.Core.Path.{refl, sym, subst}
 use lib.Dec.{T}

@@ -1,6 +1,7 @@
 -- `clearance::tables::order_segments` meets its contract: the rows decide the order of the segments, since the floats of the columns are binary64's. Assumes nothing.
 use Rattle.drawing.specs.Entries.{segmentColumns}
-use Rattle.clearance.proofs.TableLaws.{segments-held, segments-ordered}
+use Rattle.clearance.proofs.TableLaws.{segments-ordered}
+use Rattle.drawing.proofs.ListOrders.{segments-held}
 use borrow.Author.Needs.{needs}
 use Rattle.clearance.proofs.tables.order_segments.Statement.{statement}
 use Rattle.clearance.proofs.tables.order_segments.Tie as tie

@@ -1,0 +1,129 @@
+-- The whole call: what the checks tell of the columns, both orientations, and the answer. Assumes nothing.
+use mathlib.Core.Path.{_≡_, sym, ap, _∙_, subst}
+use mathlib.Core.Logic.{inl, inr}
+use mathlib.Core.List.{List}
+use Prim.Native.Nat.{ℕ, _+_, _-_, _*_, _^_, _≤_, _<_}
+use native.Mathlib.Omega.{arith}
+use borrow.Author.Tests.{ltb-false}
+use lib.Dec.{eqb}
+use lib.ListN.{length}
+use Rattle.laws.specs.Lists.{Mem, All, chosen}
+use Rattle.laws.specs.Charged.{Charged, Outcome, spent, left, within, onward, reply}
+use Rattle.laws.proofs.Tests.{le-or-lt}
+use Rattle.laws.proofs.ListLaws.{all-mem, mem-chosen}
+use Rattle.laws.proofs.Perms.{perm-mem}
+use Rattle.laws.proofs.Runs.{within-enough, within-short, onward-spent, onward-left, settle-within}
+use Rattle.laws.proofs.Sorting.{sort-perm}
+use Rattle.drawing.specs.declared.gap.Gap.{Gap}
+use Rattle.drawing.specs.declared.refusal.Refusal.{Refusal}
+use Rattle.drawing.specs.declared.refusal.Refusal.the-variants.{WorkLimitExceeded}
+use Rattle.drawing.specs.declared.refusal.Check.{Check}
+use Rattle.drawing.specs.declared.refusal.Check.the-variants.{Passed, Refused as Stopped}
+use Rattle.drawing.specs.Entries.{Segment, SegmentColumns, segments}
+use Rattle.drawing.specs.Gaps.{lesserGap}
+use Rattle.drawing.specs.Conditions.{shortScratch}
+use Rattle.drawing.specs.Checks.{separationConditions}
+use Rattle.drawing.specs.Refusals.{firstOf}
+use Rattle.drawing.proofs.FirstRefusal.{passed-head, few, separation-agree}
+use Rattle.drawing.proofs.ListOrders.{SegmentHeld}
+use Rattle.separation.specs.declared.report.SeparationAnswer.{SeparationAnswer}
+use Rattle.separation.specs.declared.report.SeparationAnswer.the-variants.{Report, Refused}
+use Rattle.separation.specs.declared.sweep.Sweeping.{Sweeping}
+use Rattle.separation.specs.declared.sweep.Swept.{Swept}
+use Rattle.separation.specs.declared.sweep.Swept.the-variants.{Went, Spent}
+use Rattle.separation.specs.Figures.{Figures}
+use Rattle.separation.specs.Rows.{Row, rowOf, rowsInOrder, oriented}
+use Rattle.separation.specs.Walk.{lesserFigures, along, walk}
+use Rattle.separation.specs.Answer.{accepted, separation}
+use Rattle.separation.specs.Sweeping.{metBy, sweptOf, AtColumns, Remains, Answers}
+use Rattle.separation.proofs.Fit.{Fit, row-rises}
+use Rattle.separation.proofs.AnyOrder.{list-order-idle}
+use Rattle.separation.proofs.Allowances.{walk-within}
+use Rattle.separation.proofs.Answers.{passed-fit, walk-settles}
+use Rattle.separation.proofs.SweepSteps.{went-is, spent-is}
+
+-- ---- what the checks tell
+row-net : (s : Segment) → s .net < 2 ^ 32 → rowOf s .net < 2 ^ 32
+unfolding rowOf
+row-net s h = h
+
+module _ (c : SegmentColumns) (words : ℕ) (passed : firstOf (separationConditions c words) ≡ Passed) where
+  sizes : (length (c .net) ≤ 4096) × (32 * length (c .net) + 64 ≤ words)
+  unfolding separationConditions shortScratch
+  sizes =
+      let a = passed-head _ _ _ passed in
+      let b = passed-head _ _ _ (a .1) in
+      let d = passed-head _ _ _ (b .1) in
+      (few (length (c .net)) (b .0), omega (arith, ltb-false words (32 * (length (c .net) + 0) + 64) (d .0)))
+
+  module _ (held : All SegmentHeld (segments c)) (nets : All (λ (s : Segment). s .net < 2 ^ 32) (segments c)) where
+    proper : (o : ℕ) (r : Row) → Mem r (oriented o (segments c)) → (r .net < 2 ^ 32) × (r .start < r .end)
+    proper o r m =
+        let l = chosen (λ (s : Segment). eqb (s .orientation) o) rowOf (segments c) in
+        let g = mem-chosen (λ (s : Segment). eqb (s .orientation) o) rowOf r (segments c) (perm-mem r (sort-perm rowsInOrder l) (subst (Mem r) (list-order-idle o (segments c)) m)) in
+        subst (λ (x : Row). (x .net < 2 ^ 32) × (x .start < x .end)) (sym (g .3))
+        (row-net (g .0) (all-mem (λ (s : Segment). s .net < 2 ^ 32) (segments c) nets (g .0) (g .1)), row-rises (g .0) (all-mem Fit (segments c) (passed-fit c words passed held) (g .0) (g .1)))
+
+    pub at-columns : (o : ℕ) → AtColumns words o c
+    at-columns o = record { agree = separation-agree c words passed; few = sizes .0; room = sizes .1; proper = proper o }
+
+-- ---- both orientations
+module _ (l : List Segment) (m : ℕ) (first : Swept) (one : first ≡ sweptOf (within m (along (oriented 1 l)))) where
+  abbrev second : Figures → ℕ → Outcome Figures
+  second f r = onward (within r (along (oriented 0 l))) (λ g r. left (lesserFigures f g) r)
+
+  pub walk-stops : first ≡ Spent → Spent ≡ sweptOf (within m (walk l))
+  unfolding sweptOf
+  walk-stops e =
+      let z : onward (within m (along (oriented 1 l))) second ≡ spent = rw (spent-is (within m (along (oriented 1 l))) (sym e ∙ one)) (onward-spent second) in
+      sym (ap sweptOf (walk-within m l ∙ z))
+
+  module _ (across : Sweeping) (went : first ≡ Went across) (next : Swept) (other : next ≡ sweptOf (within (across .left) (along (oriented 0 l)))) where
+    on : within m (walk l) ≡ second (metBy across) (across .left)
+    on = walk-within m l ∙ rw (went-is (within m (along (oriented 1 l))) across (sym went ∙ one)) (onward-left (metBy across) (across .left) second)
+
+    pub walk-stops-later : next ≡ Spent → Spent ≡ sweptOf (within m (walk l))
+    unfolding sweptOf
+    walk-stops-later e =
+        let z : second (metBy across) (across .left) ≡ spent = rw (spent-is (within (across .left) (along (oriented 0 l))) (sym e ∙ other)) (onward-spent (λ g r. left (lesserFigures (metBy across) g) r)) in
+        sym (ap sweptOf (on ∙ z))
+
+    pub walk-both : (down r : Sweeping) → next ≡ Went down → metBy r ≡ lesserFigures (metBy across) (metBy down) → r .left ≡ down .left → Went r ≡ sweptOf (within m (walk l))
+    unfolding sweptOf
+    walk-both down r e f k =
+        let z : second (metBy across) (across .left) ≡ left (lesserFigures (metBy across) (metBy down)) (down .left) = rw (went-is (within (across .left) (along (oriented 0 l))) down (sym e ∙ other)) (onward-left (metBy down) (down .left) (λ g r. left (lesserFigures (metBy across) g) r)) in
+        (λ i. sweptOf (left (f i) (k i))) ∙ sym (ap sweptOf (on ∙ z))
+
+pub lesser-of : (a b : Sweeping) (x y : Gap) → x ≡ lesserGap (a .minimum) (b .minimum) → y ≡ lesserGap (a .«minimum_positive») (b .«minimum_positive») → record { least = x; leastNonzero = y } ≡ lesserFigures (metBy a) (metBy b)
+unfolding lesserFigures
+lesser-of a b x y e f = λ i. record { least = e i; leastNonzero = f i }
+
+-- ---- the answer
+pub answers-spent : (r : Swept) (allowance : ℕ) → r ≡ Spent → Answers r allowance (Refused WorkLimitExceeded)
+unfolding reply
+answers-spent r allowance h o e = sym (rw (spent-is o (sym h ∙ e)))
+
+pub answers-went : (r : Swept) (allowance : ℕ) (t : Sweeping) → r ≡ Went t → Answers r allowance (Report (record { minimum = t .minimum; «minimum_positive» = t .«minimum_positive»; visits = allowance - t .left }))
+unfolding reply
+answers-went r allowance t h o e = sym (rw (went-is o t (sym h ∙ e)))
+
+pub remains : (c : Charged Figures) (allowance : ℕ) (r : Swept) → r ≡ sweptOf (within allowance c) → Remains r allowance
+remains c allowance r e t h =
+    let z = went-is (within allowance c) t (sym h ∙ e) in
+    elim (le-or-lt (c .cost) allowance) [
+      | inl q ↦ omega (arith, same-left _ _ _ _ (sym (within-enough allowance c q) ∙ z))
+      | inr q ↦ absurd (never _ _ (sym (within-short allowance c q) ∙ z))
+    ]
+  where
+    same-left : (f g : Figures) (k m : ℕ) → left f k ≡ left g m → k ≡ m
+    same-left f g k m e = cc
+
+    never : (f : Figures) (k : ℕ) → spent ≡ left f k → ⊥
+    never f k e = let z : _≡_ {A = ℕ} 0 1 = cc in omega arith
+
+pub refused-answer : (c : SegmentColumns) (allowance words : ℕ) (k : Check) (r : Refusal) → k ≡ firstOf (separationConditions c words) → k ≡ Stopped r → Refused r ≡ separation c allowance words
+unfolding separation
+refused-answer c allowance words k r h g = sym (rw (sym h ∙ g))
+
+pub passed-answer : (c : SegmentColumns) (allowance words : ℕ) → firstOf (separationConditions c words) ≡ Passed → All SegmentHeld (segments c) → (r : Swept) → r ≡ sweptOf (within allowance (walk (segments c))) → (a : SeparationAnswer) → Answers r allowance a → a ≡ separation c allowance words
+passed-answer c allowance words passed held r e a f = f (within allowance (walk (segments c))) e ∙ settle-within accepted (Refused WorkLimitExceeded) allowance (walk (segments c)) ∙ sym (walk-settles c words passed held allowance)
