@@ -7,13 +7,14 @@ use mathlib.Core.Bool.{Bool, true, false, not, _&&_, cond}
 use Prim.Native.Nat.{ℕ, _^_, _<_}
 use native.Mathlib.Omega.{arith}
 use lib.Dec.{T, ltb, eqb}
+use borrow.Author.Tests.{lt-ltb, le-ltb, eq-eqb, ne-eqb}
 use lib.Ieee.{Float, lt}
 use Rattle.laws.specs.Lists.{Mem, put, chosen, fold, pairs}
 use Rattle.laws.specs.Least.{lesser, least}
+use Rattle.laws.proofs.Tests.{same-or-not}
 use Rattle.laws.proofs.ListLaws.{mem-pairs}
-use Rattle.laws.proofs.Leasts.{Perhaps}
 use Rattle.laws.proofs.Folds.{fold-same, fold-map}
-use Rattle.floats.specs.Values.{gapOf}
+use Rattle.floats.specs.Values.{plusZero, gapOf}
 use Rattle.floats.specs.Grid.{onGrid, unit, ofUnits}
 use Rattle.floats.proofs.Units.{of-units-value, unit-bound, gap-units, lt-lengths}
 use Rattle.drawing.specs.Entries.{Segment}
@@ -23,12 +24,9 @@ use Rattle.congestion.specs.Wires.{wireOf}
 use Rattle.congestion.specs.Figures.{apart, closeOther}
 use Rattle.congestion.specs.Profile.{gapped, leastNonzero}
 use Rattle.congestion.specs.Sweep.{nonzero, gap, gapOfUnits}
+use Rattle.congestion.specs.Tables.{Held}
 use Rattle.congestion.proofs.FoldLaws.{fewest, both, pairs-map}
 use Rattle.congestion.proofs.Oriented.{leastUnits}
-
--- a number of 64ths that floats hold exactly, where there is one
-abbrev pub Held : Option ℕ → Type 0
-Held o = Perhaps (λ n. n < 2 ^ 53) o
 
 pub held-lesser : (a b : Option ℕ) → Held a → Held b → Held (lesser ltb a b)
 unfolding lesser
@@ -50,7 +48,7 @@ abbrev asFloat : Option ℕ → Option Float
 asFloat none = none
 asFloat (some n) = some (ofUnits n)
 
-lt-units : (a b : ℕ) → a < 2 ^ 53 → b < 2 ^ 53 → lt (ofUnits a) (ofUnits b) ≡ ltb a b
+pub lt-units : (a b : ℕ) → a < 2 ^ 53 → b < 2 ^ 53 → lt (ofUnits a) (ofUnits b) ≡ ltb a b
 unfolding ofUnits
 lt-units a b p q = lt-lengths (ofUnits a) (ofUnits b) a b (of-units-value false a p) (of-units-value false b q)
 
@@ -101,6 +99,14 @@ module _ {A : Type 0} (p : A → Bool) (g : A → Float) (n : A → ℕ) where
 -- the gap of two coordinates on the grid
 pub grid-gap : (x y : Float) → T (onGrid x) → T (onGrid y) → (gapOf x y ≡ ofUnits (apart (unit x) (unit y))) × (apart (unit x) (unit y) < 2 ^ 53)
 grid-gap x y g k = let a = unit-bound x g in let b = unit-bound y k in (gap-units x y g k, omega arith)
+
+-- it is above 0 where the coordinates differ
+pub above-zero : (a b : ℕ) → apart a b < 2 ^ 53 → lt plusZero (ofUnits (apart a b)) ≡ not (eqb a b)
+unfolding ofUnits
+above-zero a b h = lt-lengths plusZero (ofUnits (apart a b)) 0 (apart a b) (refl, refl) (of-units-value false (apart a b) h) ∙ elim (same-or-not a b) [
+  | inl e ↦ le-ltb 0 (apart a b) (omega arith) ∙ sym (ap not (eq-eqb a b e))
+  | inr n ↦ lt-ltb 0 (apart a b) (omega arith) ∙ sym (ap not (ne-eqb a b n))
+]
 
 -- a gap that is passed over where it is zero
 pub nonzero-one : (r z : Bool) (n : ℕ) → cond (r && not z) (some n) none ≡ cond r (nonzero z n) none

@@ -26,3 +26,21 @@ mod SweepFigures
 mod FiguresOrder
 mod LeastGap
 mod RoundedSweep
+-- the code's tables, and what a wire meets
+mod RangeFloats
+mod RangeSearch
+mod PlaceFolds
+mod VisitLaws
+mod GapFloats
+mod MeetingLaws
+mod MeetingLoop
+-- the code's sweep
+mod DueEvents
+mod RowPlaces
+mod Marking
+mod EventSteps
+mod EventLoop
+-- rows and their wires, both orientations
+mod RowWires
+mod RowTabled
+mod BothWays

@@ -88,8 +88,8 @@ module _ (c : ℕ) (l : List Item) (fit : Fit l) where
     s∈ : Mem s l
     s∈ = item∈ l fit (r .threshold) (st .previous) (event true s) q (r .left)
 
-    tr : Tracks c l (activeAt (endKey s)) st
-    tr = tracks-same c l (activeAt (r .threshold)) (activeAt (endKey s)) st (unchanged l fit (r .threshold) (st .previous) (event true s) q (r .left)) (r .state)
+    pub at-end : Tracks c l (activeAt (endKey s)) st
+    at-end = tracks-same c l (activeAt (r .threshold)) (activeAt (endKey s)) st (unchanged l fit (r .threshold) (st .previous) (event true s) q (r .left)) (r .state)
 
     -- "ending parallel segment is active"
     pub active-at-end : activeAt (r .threshold) s ≡ true
@@ -97,11 +97,11 @@ module _ (c : ℕ) (l : List Item) (fit : Fit l) where
 
     -- `congested_active -= 1` does not go below 0
     pub active-room : wasCongested c s st + count (λ r. neighbor c (s .wire) r && eqb (r .neighbors) 1) (st .rows) ≤ st .congestedActive
-    active-room = let e = active-before c l (fit .rise) s s∈ (activeAt (endKey s + 1)) (activeAt (endKey s)) (off-after l fit s s∈) (end-drops l fit s s∈) (s .wire .end) st tr in omega arith
+    active-room = let e = active-before c l (fit .rise) s s∈ (activeAt (endKey s + 1)) (activeAt (endKey s)) (off-after l fit s s∈) (end-drops l fit s s∈) (s .wire .end) st at-end in omega arith
 
     -- `close_pairs -= neighbors.len()` does not
     pub pairs-room : neighbors c s st ≤ st .closePairs
-    pairs-room = let e = pairs-before c l (fit .rise) s s∈ (activeAt (endKey s + 1)) (activeAt (endKey s)) (off-after l fit s s∈) (end-drops l fit s s∈) (s .wire .end) st tr in omega arith
+    pairs-room = let e = pairs-before c l (fit .rise) s s∈ (activeAt (endKey s + 1)) (activeAt (endKey s)) (off-after l fit s s∈) (end-drops l fit s s∈) (s .wire .end) st at-end in omega arith
 
     -- `*count -= 1` does not: a neighbor of s has a count of 1 at least
     pub count-room : (j : Item) → Mem j l → T (facing c s j) → 1 ≤ neighborsIn (facing c) l (activeAt (endKey s)) j

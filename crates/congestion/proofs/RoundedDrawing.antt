@@ -26,6 +26,7 @@ use Rattle.congestion.specs.Wires.{Wire, wireOf, cutoffOf}
 use Rattle.congestion.specs.Figures.{apart, closeOther, congested, pairOverlap}
 use Rattle.congestion.specs.Profile.{lengths, allPairs}
 use Rattle.congestion.specs.Sweep.{Item, numbered, gap, only, gapOfUnits}
+use Rattle.congestion.specs.Tables.{Held}
 use Rattle.congestion.specs.Rounded.{roundedTotal, roundedOverlap}
 use Rattle.congestion.specs.RoundedSweep.{coordinatesOf, roundedOriented, onlyOf, Sums, roundedJoin, roundedSweep}
 use Rattle.congestion.proofs.FoldLaws.{fewest, chosen-map, chosen-under}
@@ -35,7 +36,7 @@ use Rattle.congestion.proofs.Orientations.{of-only, alike, congested-tw
 use Rattle.congestion.proofs.SweepFigures.{no-congested, no-overlap, no-least, alone}
 use Rattle.congestion.proofs.Bounds.{congested-small, overlap-small}
 use Rattle.congestion.proofs.RoundedSums.{zero-units, small-wires, total-exact, overlap-exact}
-use Rattle.congestion.proofs.LeastGap.{Held, held-lesser, held-fold, held-gap, lesser-gap, least-gap}
+use Rattle.congestion.proofs.LeastGap.{held-lesser, held-fold, held-gap, lesser-gap, least-gap}
 use Rattle.congestion.proofs.RoundedSweep.{ItemStands, amounts-exact}
 
 -- ---- the floats by index are those of the segment behind an item

@@ -1,6 +1,6 @@
 -- The Rust's float sums along the sweep are the floats of the sums in 64ths. Assumes nothing.
 use mathlib.Core.Path.{_≡_, refl, sym, ap, ap₂, _∙_, subst}
-use mathlib.Core.Logic.{inl, inr}
+use mathlib.Core.Logic.{inl}
 use mathlib.Core.List.{List, [], _∷_}
 use mathlib.Core.Option.{none, some}
 use mathlib.Core.Bool.{Bool, true, false, not, _&&_, cond, Bool·beq}
@@ -10,21 +10,20 @@ use native.Mathlib.Nat.{le-refl, le-trans, le-of-eq, lt-of-le-of-lt, mul-le-mul}
 use lib.IntN.{pos}
 use lib.Dec.{ltb, eqb, lit≤}
 use lib.ListN.{length, length-map}
-use borrow.Author.Tests.{lt-ltb, le-ltb, eq-eqb, ne-eqb}
 use lib.Ieee.{Float, binary64, add, sub, mul, lt, ofInt}
 use Rattle.laws.specs.Lists.{Mem, chosen, pairs}
 use Rattle.laws.specs.Charged.{runs}
 use Rattle.laws.specs.Least.{lesser, least}
-use Rattle.laws.proofs.Tests.{same-or-not}
 use Rattle.laws.proofs.ListLaws.{mem-map}
 use Rattle.laws.proofs.Folds.{fold-same, count-at-most}
 use Rattle.floats.specs.Values.{plusZero, gapOf}
 use Rattle.floats.specs.Grid.{unit, ofUnits}
-use Rattle.floats.proofs.Units.{accumulate, of-units-value, lt-lengths}
+use Rattle.floats.proofs.Units.{accumulate}
 use Rattle.congestion.specs.Wires.{Wire}
 use Rattle.drawing.specs.Gaps.{leastGap, lesserGap}
 use Rattle.congestion.specs.Figures.{apart, congested, pairOverlap}
 use Rattle.congestion.specs.Sweep.{Item, Row, Event, State, numbered, at, events, inOrder, neighbor, gap, leastHere, step, firstAt, begin, oriented, gapOfUnits}
+use Rattle.congestion.specs.Tables.{Held}
 use Rattle.congestion.specs.RoundedSweep.{Coordinates, coordinate, Amounts, roundedStep, roundedRun, firstAmounts}
 use Rattle.congestion.proofs.Sets.{neighborsIn}
 use Rattle.congestion.proofs.FoldLaws.{fewest}
@@ -37,7 +36,7 @@ use Rattle.congestion.proofs.Beginning.{Sound, wires-of, fit-numbered, 
 use Rattle.congestion.proofs.Oriented.{apart-turn, leastUnits, congested-is, overlap-is, least-is}
 use Rattle.congestion.proofs.Bounds.{Small, pairs-length, congested-small, overlap-small}
 use Rattle.congestion.proofs.RoundedSums.{zero-units}
-use Rattle.congestion.proofs.LeastGap.{Held, held-lesser, held-fold, held-gap, lesser-gap, least-of-chosen, grid-gap, nonzero-one}
+use Rattle.congestion.proofs.LeastGap.{held-lesser, held-fold, held-gap, lesser-gap, least-of-chosen, grid-gap, above-zero, nonzero-one}
 
 pub record ItemStands (x : Coordinates) (i : Item) : Type 0 where
   pub fixed : Stands (x .fixed i) (i .wire .fixed)
@@ -49,7 +48,7 @@ event-stands x true i s = s .end
 event-stands x false i s = s .start
 
 -- ---- one step of a sum: sum += count * (coordinate - previous)
-one-step : (z n : ℕ) (x y : Float) (u v f : ℕ) → Stands x u → Stands y v → v ≤ u → n ≤ 16777216 → z + n * (u - v) ≤ f → f < 2 ^ 53 → add binary64 (ofUnits z) (mul binary64 (ofInt binary64 (pos n)) (sub binary64 x y)) ≡ ofUnits (z + n * (u - v))
+pub one-step : (z n : ℕ) (x y : Float) (u v f : ℕ) → Stands x u → Stands y v → v ≤ u → n ≤ 16777216 → z + n * (u - v) ≤ f → f < 2 ^ 53 → add binary64 (ofUnits z) (mul binary64 (ofInt binary64 (pos n)) (sub binary64 x y)) ≡ ofUnits (z + n * (u - v))
 one-step z n x y u v f sx sy h k b w =
     accumulate z n x y (sx .grid) (sy .grid) (sx .plain) (rw (sx .is, sy .is) h) (omega arith) (le-trans k (lit≤ {m = 16777216} {n = 2 ^ 53} tt)) (rw (sx .is, sy .is) (omega arith))
     ∙ ap₂ (λ (a b : ℕ). ofUnits (z + n * (a - b))) (sx .is) (sy .is)
@@ -62,12 +61,12 @@ pub record Matches (st : State) (a : Amounts) : Type 0 where
   pub least : a .minimumPositive ≡ gapOfUnits (st .minimumPositive)
   pub held : Held (st .minimumPositive)
 
-module _ (c : ℕ) (l : List Item) (fit : Fit l) (few : length l ≤ 4096) (x : Coordinates) (stands : (i : Item) → Mem i l → ItemStands x i) where
-  -- ---- counts are small
-  active-few : (t : ℕ) (st : State) → Tracks c l (activeAt t) st → st .congestedActive ≤ 16777216
+-- ---- counts are small
+module _ (c : ℕ) (l : List Item) (few : length l ≤ 4096) where
+  pub active-few : (t : ℕ) (st : State) → Tracks c l (activeAt t) st → st .congestedActive ≤ 16777216
   active-few t st tr = let e = tr .active-is in let h = count-at-most (λ i. activeAt t i && not (eqb (neighborsIn (facing c) l (activeAt t) i) 0)) l in omega arith
 
-  pairs-few : (t : ℕ) (st : State) → Tracks c l (activeAt t) st → st .closePairs ≤ 16777216
+  pub pairs-few : (t : ℕ) (st : State) → Tracks c l (activeAt t) st → st .closePairs ≤ 16777216
   pairs-few t st tr =
       let e = tr .pairs-are in
       let h = count-at-most (λ p. activeAt t (p .0) && (activeAt t (p .1) && facing c (p .0) (p .1))) (pairs l) in
@@ -75,26 +74,21 @@ module _ (c : ℕ) (l : List Item) (fit : Fit l) (few : length l ≤ 4096) (x : 
       let q = mul-le-mul few few in
       omega arith
 
-  -- ---- a sum that grows with each event is at most the last
+-- ---- a sum that grows with each event is at most the last
+module _ (c : ℕ) where
   sum-grows : (acc : State → ℕ) → ((b : Bool) (i : Item) (st : State) → acc st ≤ acc (step c st (event b i) .value)) → (q : List Event) (st : State) → acc st ≤ acc (run c q st)
   unfolding runs
   sum-grows acc h [] st = le-refl (acc st)
   sum-grows acc h (e ∷ q) st = le-trans (h (e .ends) (e .item) st) (sum-grows acc h q (step c st e .value))
 
-  congested-grows : (q : List Event) (st : State) → st .congestedLength ≤ run c q st .congestedLength
+  pub congested-grows : (q : List Event) (st : State) → st .congestedLength ≤ run c q st .congestedLength
   congested-grows = sum-grows (λ st. st .congestedLength) (λ b i st. elim b [ true ↦ omega arith | false ↦ omega arith ])
 
-  overlap-grows : (q : List Event) (st : State) → st .pairOverlapLength ≤ run c q st .pairOverlapLength
+  pub overlap-grows : (q : List Event) (st : State) → st .pairOverlapLength ≤ run c q st .pairOverlapLength
   overlap-grows = sum-grows (λ st. st .pairOverlapLength) (λ b i st. elim b [ true ↦ omega arith | false ↦ omega arith ])
 
+module _ (c : ℕ) (l : List Item) (fit : Fit l) (few : length l ≤ 4096) (x : Coordinates) (stands : (i : Item) → Mem i l → ItemStands x i) where
   -- ---- the least gap to a neighbor
-  above-zero : (a b : ℕ) → apart a b < 2 ^ 53 → lt plusZero (ofUnits (apart a b)) ≡ not (eqb a b)
-  unfolding ofUnits
-  above-zero a b h = lt-lengths plusZero (ofUnits (apart a b)) 0 (apart a b) (refl, refl) (of-units-value false (apart a b) h) ∙ elim (same-or-not a b) [
-    | inl e ↦ le-ltb 0 (apart a b) (omega arith) ∙ sym (ap not (eq-eqb a b e))
-    | inr n ↦ lt-ltb 0 (apart a b) (omega arith) ∙ sym (ap not (ne-eqb a b n))
-  ]
-
   module _ (w : Item → Bool) (st : State) (tr : Tracks c l w st) (s : Item) (s∈ : Mem s l) where
     row-item : (r : Row) → Mem r (st .rows) → Mem (r .item) l
     row-item r m = let k = mem-map (rowIn c l w) l r (subst (Mem r) (tr .rows-are) m) in subst (λ (i : Item). Mem i l) (sym (ap (λ (z : Row). z .item) (k .2))) (k .1)
@@ -132,8 +126,8 @@ module _ (c : ℕ) (l : List Item) (fit : Fit l) (few : length l ≤ 4096) (x : 
         let p : step c st (event b s) .value .previous ≡ at (event b s) = elim b [ true ↦ refl | false ↦ refl ] in
         let o : step c st (event b s) .value .minimumPositive ≡ lesser ltb (st .minimumPositive) (leastHere c s st) = elim b [ true ↦ refl | false ↦ refl ] in
         record {
-          congested = ap (λ (z : Float). add binary64 z (mul binary64 (ofInt binary64 (pos (st .congestedActive))) (sub binary64 (coordinate x (event b s)) (a .previous)))) (m .congested) ∙ one-step (st .congestedLength) (st .congestedActive) (coordinate x (event b s)) (a .previous) (at (event b s)) (st .previous) (step c st (event b s) .value .congestedLength) e (m .last) n (active-few t st tr) (le-of-eq (sym f)) h ∙ ap ofUnits (sym f);
-          overlap = ap (λ (z : Float). add binary64 z (mul binary64 (ofInt binary64 (pos (st .closePairs))) (sub binary64 (coordinate x (event b s)) (a .previous)))) (m .overlap) ∙ one-step (st .pairOverlapLength) (st .closePairs) (coordinate x (event b s)) (a .previous) (at (event b s)) (st .previous) (step c st (event b s) .value .pairOverlapLength) e (m .last) n (pairs-few t st tr) (le-of-eq (sym g)) k ∙ ap ofUnits (sym g);
+          congested = ap (λ (z : Float). add binary64 z (mul binary64 (ofInt binary64 (pos (st .congestedActive))) (sub binary64 (coordinate x (event b s)) (a .previous)))) (m .congested) ∙ one-step (st .congestedLength) (st .congestedActive) (coordinate x (event b s)) (a .previous) (at (event b s)) (st .previous) (step c st (event b s) .value .congestedLength) e (m .last) n (active-few c l few t st tr) (le-of-eq (sym f)) h ∙ ap ofUnits (sym f);
+          overlap = ap (λ (z : Float). add binary64 z (mul binary64 (ofInt binary64 (pos (st .closePairs))) (sub binary64 (coordinate x (event b s)) (a .previous)))) (m .overlap) ∙ one-step (st .pairOverlapLength) (st .closePairs) (coordinate x (event b s)) (a .previous) (at (event b s)) (st .previous) (step c st (event b s) .value .pairOverlapLength) e (m .last) n (pairs-few c l few t st tr) (le-of-eq (sym g)) k ∙ ap ofUnits (sym g);
           last = subst (Stands (coordinate x (event b s))) (sym p) e;
           least = ap₂ lesserGap (m .least) (least-neighbor (activeAt t) st tr s s∈) ∙ lesser-gap (st .minimumPositive) (leastHere c s st) (m .held) (held-neighbor (activeAt t) st tr s s∈) ∙ ap gapOfUnits (sym o);
           held = subst Held (sym o) (held-lesser (st .minimumPositive) (leastHere c s st) (m .held) (held-neighbor (activeAt t) st tr s s∈));
@@ -144,7 +138,7 @@ module _ (c : ℕ) (l : List Item) (fit : Fit l) (few : length l ≤ 4096) (x : 
   run-matches = sweep-ind c l fit (λ t q st. (a : Amounts) → Matches st a → run c q st .congestedLength < 2 ^ 53 → run c q st .pairOverlapLength < 2 ^ 53 → Matches (run c q st) (roundedRun c x st a q)) (λ t st pe a m h k. m)
       (λ t b s q st pe tr ih a m h k.
       let st' = step c st (event b s) .value in
-      ih (roundedStep c x st a (event b s)) (step-matches t b s q st pe tr a m (lt-of-le-of-lt (congested-grows q st') h) (lt-of-le-of-lt (overlap-grows q st') k)) h k)
+      ih (roundedStep c x st a (event b s)) (step-matches t b s q st pe tr a m (lt-of-le-of-lt (congested-grows c q st') h) (lt-of-le-of-lt (overlap-grows c q st') k)) h k)
 
 -- ---- the sweep of one orientation
 module _ (c : ℕ) (L : List Wire) (sound : Sound L) (small : Small L) (alike : (s t : Wire) → Mem s L → Mem t L → Bool·beq (s .horizontal) (t .horizontal) ≡ true)

@@ -68,12 +68,12 @@ no-pair c (x ∷ []) h = refl
 no-pair c (x ∷ y ∷ l) h = absurd (omega arith)
 
 -- ---- a run that has found the figures of the wires of one orientation
-record Right (c : ℕ) (l : List Wire) (r : Charged State) : Type 0 where
-  congested-right : r .value .congestedLength ≡ congested c l
-  overlap-right : r .value .pairOverlapLength ≡ pairOverlap c l
-  peak-right : r .value .peakCloseNeighbors ≡ peak c l
-  least-right : r .value .minimumPositive ≡ leastUnits c l
-  cost-right : r .cost ≡ atLeastTwo (length l) + 2 * closePairs c l
+pub record Right (c : ℕ) (l : List Wire) (r : Charged State) : Type 0 where
+  pub congested-right : r .value .congestedLength ≡ congested c l
+  pub overlap-right : r .value .pairOverlapLength ≡ pairOverlap c l
+  pub peak-right : r .value .peakCloseNeighbors ≡ peak c l
+  pub least-right : r .value .minimumPositive ≡ leastUnits c l
+  pub cost-right : r .cost ≡ atLeastTwo (length l) + 2 * closePairs c l
 
 few-right : (c : ℕ) (l : List Wire) → length l < 2 → Right c l (free (begin []))
 few-right c l h = let q = alone c l h in record {
@@ -84,7 +84,7 @@ few-right c l h = let q = alone c l h in record {
   cost-right = sym (ap₂ (λ (b : Bool) (n : ℕ). cond b 0 (length l) + 2 * n) (lt-ltb (length l) 2 h) (no-pair c l h));
 }
 
-one-way : (c : ℕ) → 0 < c → (h : Bool) (l : List Wire) → Sound l → Right c (only h l) (ofOrientation c h l)
+pub one-way : (c : ℕ) → 0 < c → (h : Bool) (l : List Wire) → Sound l → Right c (only h l) (ofOrientation c h l)
 unfolding ofOrientation
 one-way c pos h l v = elim (decide (ltb (length (only h l)) 2)) [
   | inl e ↦ subst (Right c (only h l)) (sym (cond-true (ltb (length (only h l)) 2) _ _ e)) (few-right c (only h l) (ltb-true (length (only h l)) 2 e))

@@ -30,7 +30,7 @@ fit-perm p f = record { few = le-trans (le-of-eq (sym (perm-length p))) (f .few)
 
 module _ (cutoff : Float) where
   -- the report is that of the wires
-  all-pairs-found : (l : List Segment) → FitList l → allPairs cutoff l ≡ found (cutoffOf cutoff) (map wireOf l)
+  pub all-pairs-found : (l : List Segment) → FitList l → allPairs cutoff l ≡ found (cutoffOf cutoff) (map wireOf l)
   unfolding allPairs
   all-pairs-found l f = let g = least-gap (cutoffOf cutoff) l (λ s m. f .each s m .fixed) in let c = cutoffOf cutoff in let w = map wireOf l in λ i. record { value = (lengths (total w) (congested c w) (pairOverlap c w) (peak c w), g i); cost = visits c w }
 

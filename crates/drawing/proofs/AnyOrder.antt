@@ -19,7 +19,7 @@ use Rattle.drawing.proofs.EntryLaws.{length-segments, length-nodes, len
 alike : (n m : ℕ) → m ≡ n → not (eqb n m) ≡ false
 alike n m e = ap not (eq-eqb n m (sym e))
 
-same-segments : (c : SegmentColumns) → SegmentsAgree c → segmentsDiffer c ≡ false
+pub same-segments : (c : SegmentColumns) → SegmentsAgree c → segmentsDiffer c ≡ false
 unfolding segmentsDiffer differ some-of
 same-segments c a = rw (alike _ _ (a .orientation), alike _ _ (a .fixed), alike _ _ (a .start), alike _ _ (a .end))
 

@@ -13,7 +13,7 @@ use floats::is_finite;
 use floats::on_grid;
 
 // 2: the columns of one list differ in length.
-fn segments_differ(
+pub fn segments_differ(
     net: &[u32],
     orientation: &[u8],
     fixed: &[f64],

@@ -9,6 +9,7 @@ pub use checks::check_clearance;
 pub use checks::check_congestion;
 pub use checks::check_separation;
 pub use checks::check_tight_pair;
+pub use checks::segments_differ;
 pub use gap::Gap;
 pub use gap::minimum_option;
 pub use records::EdgeNodeSegment;

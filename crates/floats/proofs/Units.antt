@@ -267,7 +267,7 @@ unfolding ofUnits
 grid-of-units n h = value-grid (round binary64 false n 64) n (of-units-value false n (omega arith)) h
 
 -- a float on the grid is the one of its sign and its steps
-grid-num : (x : Float) → T (fits binary64 x) → T (onGrid x) → Num binary64 x
+pub grid-num : (x : Float) → T (fits binary64 x) → T (onGrid x) → Num binary64 x
 unfolding isNan
 grid-num nan p g = absurd (grid-value nan g)
 grid-num (inf s) p g = absurd (grid-value (inf s) g)

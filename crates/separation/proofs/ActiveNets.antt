@@ -14,9 +14,10 @@ use Rattle.laws.specs.Lists.{Mem, fold, bit, sum, chosen, put, keep}
 use Rattle.laws.proofs.Tests.{decide, and-left, and-right, and-both, same-or-not}
 use Rattle.laws.proofs.ListLaws.{mem-chosen, chosen-mem}
 use Rattle.laws.proofs.Parts.{tail-lent}
+use Rattle.rows.specs.Rows.{Row}
 use Rattle.separation.specs.declared.summary.NetSummary.{NetSummary}
 use Rattle.separation.specs.declared.summary.NetSummary.the-variants.{Nothing, One, Two}
-use Rattle.separation.specs.Rows.{Row, index}
+use Rattle.separation.specs.Lines.{index}
 use Rattle.separation.specs.Walk.{remove}
 use Rattle.separation.specs.Summaries.{otherThan, summaryOf}
 use Rattle.separation.specs.ActiveTree.{Decides}

@@ -9,7 +9,7 @@ use borrow.Author.Tests.{eqb-true, eq-eqb}
 use lib.Dec.{eqb}
 use Rattle.laws.specs.Lists.{Mem, fold, bit, count}
 use Rattle.laws.proofs.Tests.{clash, and-left, and-right}
-use Rattle.separation.specs.Rows.{Row}
+use Rattle.rows.specs.Rows.{Row}
 use Rattle.separation.specs.Walk.{same, remove}
 
 -- ---- counting

@@ -12,8 +12,9 @@ use lib.ListN.{length}
 use Rattle.laws.specs.Charged.{Charged, spent, left, within, free, visit, after, runs, onward}
 use Rattle.laws.proofs.Runs.{within-free, within-after, visit-spent, visit-paid, onward-spent, onward-left}
 use Rattle.drawing.specs.Entries.{Segment}
+use Rattle.rows.specs.Rows.{Row, oriented, events}
 use Rattle.separation.specs.declared.tree.Search.the-variants.{Found, Empty, Spent}
-use Rattle.separation.specs.Rows.{Row, oriented, lines, levels, events}
+use Rattle.separation.specs.Lines.{lines, levels}
 use Rattle.separation.specs.Searches.{leaf, orElse, node, rightmost, leftmost, setRun, searchOf}
 use Rattle.separation.specs.Walk.{nothing, lesserFigures, Sweep, remove, endsAt, step, sweep, along, walk}
 

@@ -7,15 +7,14 @@ use native.Mathlib.Nat.{le-trans, le-of-eq, zero-add, one-mul, add-mul, mul-add}
 use native.Mathlib.Omega.{arith}
 use lib.Dec.{eqb}
 use lib.ListN.{length}
-use Rattle.laws.specs.Lists.{fold, count, chosen}
+use Rattle.laws.specs.Lists.{fold, count}
 use Rattle.laws.specs.Charged.{runs}
-use Rattle.laws.proofs.Folds.{count-chosen}
-use Rattle.laws.proofs.Perms.{perm-length, perm-count}
+use Rattle.laws.proofs.Perms.{perm-count}
 use Rattle.laws.proofs.Sorting.{sort-perm}
 use Rattle.drawing.specs.Entries.{Segment}
-use Rattle.drawing.specs.Orders.{segmentsInOrder}
-use Rattle.drawing.proofs.ListOrders.{segments-in-order-perm}
-use Rattle.separation.specs.Rows.{Row, rowOf, rowsInOrder, oriented, lines, index, levels, Event, ends, starts, eventsInOrder, eventsFrom, events}
+use Rattle.rows.specs.Rows.{Row, oriented, Event, ends, starts, eventsInOrder, eventsFrom, events}
+use Rattle.rows.proofs.Oriented.{oriented-length}
+use Rattle.separation.specs.Lines.{lines, index, levels}
 use Rattle.separation.specs.Searches.{otherIn}
 use Rattle.separation.specs.Walk.{Sweep, nothing, startsAt, endsAt, step, sweep, along, walk, visitCount}
 use Rattle.separation.proofs.Lines.{other-splits}
@@ -100,13 +99,6 @@ segmentsAlong o l = count (λ (s : Segment). eqb (s .orientation) o) l
 
 abbrev pub levelsAlong : ℕ → List Segment → ℕ
 levelsAlong o l = levels (length (lines (oriented o l)))
-
-oriented-length : (o : ℕ) (l : List Segment) → length (oriented o l) ≡ segmentsAlong o l
-unfolding oriented
-oriented-length o l =
-    perm-length (sort-perm rowsInOrder (chosen (λ (s : Segment). eqb (s .orientation) o) rowOf (segmentsInOrder l)))
-    ∙ sym (count-chosen (λ (s : Segment). eqb (s .orientation) o) rowOf (segmentsInOrder l))
-    ∙ perm-count (λ (s : Segment). eqb (s .orientation) o) (segments-in-order-perm l)
 
 -- "separation at most the sum over orientations of n times (10h + 5)"
 pub visit-bound : (l : List Segment) → visitCount l ≤ segmentsAlong 1 l * (10 * levelsAlong 1 l + 5) + segmentsAlong 0 l * (10 * levelsAlong 0 l + 5)

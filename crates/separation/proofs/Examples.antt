@@ -21,9 +21,10 @@ use Rattle.drawing.specs.Gaps.{gapFrom, leastGap, lesserGap}
 use Rattle.drawing.specs.Refusals.{numberOf, firstOf}
 use Rattle.drawing.specs.Conditions.{differ, tooMany, shortScratch, unfitLine, unfitSegment}
 use Rattle.drawing.specs.Checks.{segmentsDiffer, separationConditions}
+use Rattle.rows.specs.Rows.{fixedOf, startOf, endOf, rowOf, words, oriented, moment, eventsFrom, events}
 use Rattle.separation.specs.declared.report.SeparationAnswer.the-variants.{Refused}
-use Rattle.separation.specs.Figures.{fixedOf, startOf, endOf, overlapping, counted, gapBetween, gaps, nonzero, leastOf, figures}
-use Rattle.separation.specs.Rows.{rowOf, words, oriented, distinct, lines, index, levels, moment, eventsFrom, events}
+use Rattle.separation.specs.Figures.{overlapping, counted, gapBetween, gaps, nonzero, leastOf, figures}
+use Rattle.separation.specs.Lines.{distinct, lines, index, levels}
 use Rattle.separation.specs.Searches.{otherIn, rightmost, leftmost, setRun}
 use Rattle.separation.specs.Walk.{nothing, lesserFigures, same, remove, startsAt, endsAt, step, sweep, along, walk, visitCount}
 use Rattle.separation.specs.Answer.{accepted, allPairs, separation, resultOf}

@@ -20,8 +20,8 @@ use Rattle.floats.proofs.NumberKeys.{float-back}
 use Rattle.drawing.specs.Entries.{Segment}
 use Rattle.drawing.specs.Conditions.{unfitLine, unfitSegment}
 use Rattle.drawing.proofs.ListOrders.{SegmentHeld}
-use Rattle.separation.specs.Figures.{fixedOf, startOf, endOf, overlapping, counted}
-use Rattle.separation.specs.Rows.{Row, rowOf}
+use Rattle.rows.specs.Rows.{Row, fixedOf, startOf, endOf, rowOf}
+use Rattle.separation.specs.Figures.{overlapping, counted}
 use Rattle.separation.proofs.Places.{Plain, Placed, placed, key-of-rank, rank-below-key}
 use Rattle.separation.proofs.Sweeps.{Meet}
 

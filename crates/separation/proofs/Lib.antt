@@ -21,9 +21,6 @@ pub mod StoredTree
 pub mod StoredSearches
 pub mod StoredSets
 pub mod ActiveNets
-pub mod RowTables
-pub mod EventTables
-pub mod ColumnParts
 pub mod LineNumbering
 pub mod SlotLaws
 pub mod SweepSteps

@@ -15,11 +15,12 @@ use Rattle.laws.specs.Lists.{All, put}
 use Rattle.laws.specs.Sort.{Sorted}
 use Rattle.laws.proofs.Tests.{same-or-not}
 use Rattle.laws.proofs.ListLaws.{mem-all, mem-map, append-right}
-use Rattle.separation.specs.Rows.{Row, rowsInOrder, differs, distinct, lines, index}
-use Rattle.separation.specs.Prepared.{noRow, column}
+use Rattle.rows.specs.Rows.{Row, rowsInOrder}
+use Rattle.rows.specs.Tables.{noRow, column}
+use Rattle.rows.proofs.ColumnParts.{getD-map, column-length, column-at, column-set}
+use Rattle.separation.specs.Lines.{differs, distinct, lines, index}
 use Rattle.separation.specs.Numbered.{lineOf, Numbered, LinesNumbered}
 use Rattle.separation.proofs.Lines.{Rising, lines-rising, line-mem, index-lt}
-use Rattle.separation.proofs.ColumnParts.{getD-map, column-length, column-at, column-set}
 
 -- ---- the different keys, up to a key
 -- the keys of the lines before that of x, where the keys p stand before x

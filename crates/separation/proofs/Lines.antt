@@ -19,7 +19,8 @@ use Rattle.laws.specs.Sort.{Sorted}
 use Rattle.laws.proofs.Tests.{clash, and-left, and-right, and-both, le-or-lt}
 use Rattle.laws.proofs.ListLaws.{mem-map, map-mem, some-mem, mem-some}
 use Rattle.laws.proofs.RowLaws.{row-more}
-use Rattle.separation.specs.Rows.{Row, words, rowsInOrder, differs, distinct, lines, index, levels}
+use Rattle.rows.specs.Rows.{Row, words, rowsInOrder}
+use Rattle.separation.specs.Lines.{differs, distinct, lines, index, levels}
 use Rattle.separation.specs.Searches.{otherIn}
 
 -- ---- the next power of two

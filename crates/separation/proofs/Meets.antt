@@ -11,7 +11,8 @@ use lib.ListN.{length, getD}
 use Rattle.laws.specs.Lists.{Mem}
 use Rattle.laws.proofs.Tests.{clash, le-or-lt}
 use Rattle.laws.proofs.ListLaws.{mem-append, append-left, append-right}
-use Rattle.separation.specs.Rows.{Row, index}
+use Rattle.rows.specs.Rows.{Row}
+use Rattle.separation.specs.Lines.{index}
 use Rattle.separation.specs.Searches.{otherIn, rightmost, leftmost}
 use Rattle.separation.proofs.Lines.{Rising, index-lt, at-index, index-strict, index-back, other→, →other, other-widen}
 use Rattle.separation.proofs.Searches.{Best, In, Below, From, right-best, left-best}

@@ -6,7 +6,8 @@ use borrow.Author.Tests.{eqb-true, eq-eqb}
 use lib.Dec.{eqb}
 use Rattle.laws.specs.Lists.{Mem, fold, bit}
 use Rattle.laws.proofs.Tests.{and-left, and-right, and-both}
-use Rattle.separation.specs.Rows.{Row, index}
+use Rattle.rows.specs.Rows.{Row}
+use Rattle.separation.specs.Lines.{index}
 use Rattle.separation.specs.Summaries.{summaryOf}
 use Rattle.separation.specs.Walk.{remove}
 use Rattle.separation.proofs.ActiveRows.{mem-count, count-mem, remove-count}

@@ -21,8 +21,9 @@ use Rattle.floats.proofs.Gaps.{Good, zero-good, zero-mag}
 use Rattle.drawing.specs.declared.gap.Gap.the-variants.{Present}
 use Rattle.drawing.specs.Gaps.{gapFrom, leastGap}
 use Rattle.drawing.proofs.GapLaws.{gaps-ranked, least-none, least-one, least-join}
+use Rattle.rows.specs.Rows.{Row, rowsInOrder, Event, ends, starts, events}
 use Rattle.separation.specs.Figures.{Figures, nonzero, leastOf}
-use Rattle.separation.specs.Rows.{Row, rowsInOrder, lines, levels, Event, ends, starts, events}
+use Rattle.separation.specs.Lines.{lines, levels}
 use Rattle.separation.specs.Walk.{nothing, lesserFigures, ownLine, otherLine, remove, startsAt, endsAt, step, sweep}
 use Rattle.separation.proofs.Lines.{Rising, lines-rising, line-mem}
 use Rattle.separation.proofs.Meets.{own, sight, ownOther, below, above, meets, Sees, meets-sound, below-sees, above-sees}

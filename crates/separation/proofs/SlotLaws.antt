@@ -26,12 +26,13 @@ use Rattle.sorting.specs.Sorted.{before, sortable, sorted}
 use Rattle.sorting.proofs.Entries.{sorted-length, sorted-column, sorted-perm, sorted-rest}
 use Rattle.sorting.proofs.Fitting.{no-rows}
 use Rattle.sorting.proofs.RowOrder.{before-order}
-use Rattle.separation.specs.Rows.{Row, lines, index}
+use Rattle.rows.specs.Rows.{Row}
+use Rattle.rows.specs.Tables.{rowFrom, column}
+use Rattle.rows.proofs.ColumnParts.{getD-map, at-mem, mem-at, front-same, column-length, column-at, row-word}
+use Rattle.separation.specs.Lines.{lines, index}
 use Rattle.separation.specs.ActiveNets.{Slots}
-use Rattle.separation.specs.Prepared.{rowFrom, noRow, column}
 use Rattle.separation.specs.Numbered.{Slottable, slotWord, WordsFilled, placeOf, groupOf, WordsInOrder, slotOf, HandedOut, SlotsAssigned}
 use Rattle.separation.proofs.Lines.{first-word, index-lt}
-use Rattle.separation.proofs.ColumnParts.{getD-map, at-mem, mem-at, front-same, column-length, column-at}
 
 -- ---- the first place of a value in a list in order
 sorted-at : (l : List ℕ) → Sorted leb l → (i j : ℕ) → i ≤ j → j < length l → getD l i 0 ≤ getD l j 0
@@ -388,7 +389,7 @@ slots-of-rows l e p q t = record {
 }
   where
     line : (j : ℕ) → j < length l → getD e (4 * length l + j) 0 ≡ index (lines l) (rowFrom l j .line)
-    line j h = sym (column-at (length l) 4 e j h) ∙ ap (λ (c : List ℕ). getD c j 0) p ∙ getD-map (λ (r : Row). index (lines l) (r .line)) l j noRow 0 h
+    line j h = row-word l 4 j e (λ r. index (lines l) (r .line)) p h
 
     net : (j : ℕ) → j < length l → getD e (5 * length l + j) 0 ≡ rowFrom l j .net
-    net j h = sym (column-at (length l) 5 e j h) ∙ ap (λ (c : List ℕ). getD c j 0) q ∙ getD-map (λ (r : Row). r .net) l j noRow 0 h
+    net j h = row-word l 5 j e (λ r. r .net) q h

@@ -11,9 +11,9 @@ use lib.Pow.{pow-pos, pow-lt}
 use lib.Seq.{getD-set-same, getD-set-other}
 use Rattle.laws.specs.Charged.{within, spent, left}
 use Rattle.laws.proofs.Tests.{le-or-lt}
+use Rattle.rows.specs.Rows.{Row}
 use Rattle.separation.specs.declared.summary.NetSummary.{NetSummary}
 use Rattle.separation.specs.declared.tree.Charge.the-variants.{Paid, Short}
-use Rattle.separation.specs.Rows.{Row}
 use Rattle.separation.specs.Searches.{setRun}
 use Rattle.separation.specs.Summaries.{hasOther}
 use Rattle.separation.specs.ActiveTree.{summaryOfWord, summaryAt, chargeOf, Leaves, Renewed}

@@ -11,7 +11,7 @@ use lib.ListN.{length}
 use lib.Pow.{pow-pos, shl-exact}
 use Rattle.separation.specs.declared.summary.NetSummary.{NetSummary}
 use Rattle.separation.specs.declared.summary.NetSummary.the-variants.{Nothing, One, Two}
-use Rattle.separation.specs.Rows.{levels}
+use Rattle.separation.specs.Lines.{levels}
 use Rattle.separation.specs.Summaries.{hasOther}
 use Rattle.separation.specs.ActiveTree.{summaryOfWord, NodeAt, Leaves, Below}
 use Rattle.separation.proofs.Lines.{levels-least, levels-zeros}

@@ -14,17 +14,18 @@ use Rattle.laws.specs.Charged.{Charged, Outcome, spent, left, within, runs, onw
 use Rattle.laws.proofs.Tests.{le-or-lt, cond-true, cond-false}
 use Rattle.laws.proofs.Places.{first-at}
 use Rattle.laws.proofs.Runs.{within-none, within-next, within-enough, within-short, onward-spent, onward-left}
+use Rattle.rows.specs.Rows.{Row, Event, ends, starts, events}
+use Rattle.rows.specs.Tables.{rowFrom, eventFrom}
+use Rattle.rows.proofs.ColumnParts.{getD-map}
 use Rattle.separation.specs.declared.sweep.Sweeping.{Sweeping}
 use Rattle.separation.specs.declared.sweep.Swept.{Swept}
 use Rattle.separation.specs.declared.sweep.Swept.the-variants.{Went, Spent}
 use Rattle.separation.specs.Figures.{Figures}
-use Rattle.separation.specs.Rows.{Row, lines, levels, Event, ends, starts, events}
+use Rattle.separation.specs.Lines.{lines, levels}
 use Rattle.separation.specs.Walk.{nothing, Sweep, remove, startsAt, endsAt, step, sweep}
-use Rattle.separation.specs.Prepared.{rowFrom, eventFrom}
 use Rattle.separation.specs.Sweeping.{metBy, sweptOf, Ready, AtStart, AtEnd, AtEvent, AtFirst, figuresOf, Begins, Finishes, Handles}
 use Rattle.separation.proofs.Allowances.{sweep-within}
 use Rattle.separation.proofs.Sweeps.{State, begin, after-start, after-end, is-active}
-use Rattle.separation.proofs.ColumnParts.{getD-map}
 use Rattle.separation.proofs.SweepSteps.{went-is, spent-is}
 use Rattle.separation.proofs.SweepRun.{front-word, start-active, end-active}
 

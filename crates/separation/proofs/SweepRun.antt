@@ -1,7 +1,7 @@
 -- The events of one orientation, one after another, over the scratch that holds its tables: what an event reads there, what it makes of the scratch, and what all events come to. Assumes nothing.
 use mathlib.Core.Path.{_≡_, refl, sym, ap, _∙_, subst}
 use mathlib.Core.Logic.{inl, inr}
-use mathlib.Core.List.{List, _∷_, _++_, map}
+use mathlib.Core.List.{List, _∷_, _++_}
 use Prim.Native.Nat.{ℕ, suc, _+_, _-_, _*_, _^_, _≤_, _<_}
 use native.Mathlib.Omega.{arith}
 use borrow.Rule.Slice.PartMut.{putMid}
@@ -12,27 +12,24 @@ use Rattle.laws.specs.Charged.{Charged, Outcome, spent, left, within, free, aft
 use Rattle.laws.proofs.Tests.{le-or-lt}
 use Rattle.laws.proofs.Parts.{tail-lent, tail-back}
 use Rattle.laws.proofs.Runs.{within-after, within-free, within-enough, within-short, onward-spent, onward-left}
+use Rattle.rows.specs.Rows.{Row}
+use Rattle.rows.specs.Tables.{noRow, rowFrom}
+use Rattle.rows.proofs.ColumnParts.{at-mem, front-same, column-same, row-word}
 use Rattle.separation.specs.declared.sweep.Sweeping.{Sweeping}
 use Rattle.separation.specs.declared.sweep.Swept.{Swept}
 use Rattle.separation.specs.declared.sweep.Swept.the-variants.{Went, Spent}
 use Rattle.separation.specs.Figures.{Figures}
-use Rattle.separation.specs.Rows.{Row, lines, index}
+use Rattle.separation.specs.Lines.{lines, index}
 use Rattle.separation.specs.Searches.{otherIn, rightmost, leftmost, setRun}
 use Rattle.separation.specs.Walk.{Sweep, remove, startsAt, endsAt}
 use Rattle.separation.specs.ActiveTree.{summaryAt, Leaves, Covers}
-use Rattle.separation.specs.Prepared.{noRow, rowFrom, column}
 use Rattle.separation.specs.Sweeping.{metBy, sweptOf, looking, Lookable, Lined, Looks, Working, At, Enterable, Leavable, Pays, Entered, TakenOut, Ready, AtStart, figuresOf, Begins, Finishes}
 use Rattle.separation.proofs.Lines.{lines-rising, line-mem, index-lt, at-index}
 use Rattle.separation.proofs.Allowances.{end-within}
 use Rattle.separation.proofs.ActiveNets.{countable, endable}
 use Rattle.separation.proofs.ActiveRows.{remove-mem}
-use Rattle.separation.proofs.ColumnParts.{getD-map, at-mem, front-same, column-same, column-at}
 use Rattle.separation.proofs.LineNumbering.{lines-few}
 use Rattle.separation.proofs.SweepSteps.{went-is, spent-is}
-
--- a word of a column that stands for the rows
-row-word : (l : List Row) (k j : ℕ) (s : List ℕ) (f : Row → ℕ) → column (length l) k s ≡ map f l → j < length l → getD s (k * length l + j) 0 ≡ f (rowFrom l j)
-row-word l k j s f e h = sym (column-at (length l) k s j h) ∙ ap (λ (c : List ℕ). getD c j 0) e ∙ getD-map f l j noRow 0 h
 
 -- ---- what the scratch holds
 module _ (l : List Row) (F : List ℕ) (H b : ℕ) (active : List Row) (s : List ℕ) (ready : Ready l F H b active s) where

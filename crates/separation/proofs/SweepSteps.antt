@@ -19,6 +19,7 @@ use Rattle.floats.specs.TotalOrder.{floatAt}
 use Rattle.drawing.specs.declared.gap.Gap.{Gap}
 use Rattle.drawing.specs.declared.gap.Gap.the-variants.{Present}
 use Rattle.drawing.specs.Gaps.{lesserGap}
+use Rattle.rows.specs.Rows.{Row}
 use Rattle.separation.specs.declared.tree.Search.{Search}
 use Rattle.separation.specs.declared.tree.Search.the-variants.{Found, Empty, Spent as Over}
 use Rattle.separation.specs.declared.tree.Charge.{Charge}
@@ -27,7 +28,7 @@ use Rattle.separation.specs.declared.sweep.Sweeping.{Sweeping}
 use Rattle.separation.specs.declared.sweep.Swept.{Swept}
 use Rattle.separation.specs.declared.sweep.Swept.the-variants.{Went, Spent}
 use Rattle.separation.specs.Figures.{Figures}
-use Rattle.separation.specs.Rows.{Row, index}
+use Rattle.separation.specs.Lines.{index}
 use Rattle.separation.specs.Searches.{otherIn, leaf, node, rightmost, leftmost, setRun, searchOf}
 use Rattle.separation.specs.Summaries.{hasOther}
 use Rattle.separation.specs.Walk.{lesserFigures, ownLine, otherLine}

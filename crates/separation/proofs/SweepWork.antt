@@ -8,13 +8,13 @@ use lib.Seq.{getD-take, drop-at, length-take-le}
 use borrow.Rule.Slice.PartMut.{putMid}
 use Rattle.laws.specs.Charged.{within}
 use Rattle.laws.proofs.Parts.{tail-lent, tail-back}
+use Rattle.rows.specs.Rows.{Row}
 use Rattle.separation.specs.declared.summary.NetSummary.{NetSummary}
 use Rattle.separation.specs.declared.tree.Charge.{Charge}
 use Rattle.separation.specs.declared.tree.Charge.the-variants.{Paid}
 use Rattle.separation.specs.declared.sweep.Sweeping.{Sweeping}
 use Rattle.separation.specs.declared.sweep.Swept.{Swept}
 use Rattle.separation.specs.declared.sweep.Swept.the-variants.{Went}
-use Rattle.separation.specs.Rows.{Row}
 use Rattle.separation.specs.Searches.{setRun}
 use Rattle.separation.specs.Walk.{remove}
 use Rattle.separation.specs.ActiveTree.{summaryAt, chargeOf, Leaves, Decides, Covers, SameOff, Renewed}

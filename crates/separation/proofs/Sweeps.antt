@@ -14,7 +14,8 @@ use Rattle.laws.proofs.ListLaws.{mem-append, append-left, append-right}
 use Rattle.laws.proofs.Perms.{perm-mem, perm-sym, perm-count}
 use Rattle.laws.proofs.RowLaws.{row-more, row-next, by-rows}
 use Rattle.laws.proofs.Sorting.{sort-perm, sort-sorted}
-use Rattle.separation.specs.Rows.{Row, rowsInOrder, lines, levels, Event, ends, starts, moment, eventsInOrder, eventsFrom, events}
+use Rattle.rows.specs.Rows.{Row, rowsInOrder, Event, ends, starts, moment, eventsInOrder, eventsFrom, events}
+use Rattle.separation.specs.Lines.{lines, levels}
 use Rattle.separation.specs.Walk.{same, remove}
 use Rattle.separation.proofs.Lines.{Rising, first-word, lines-rising, line-mem, levels-enough}
 use Rattle.separation.proofs.ActiveRows.{mem-count, count-mem, same→, same-refl, remove-mem, mem-remove, remove-count}

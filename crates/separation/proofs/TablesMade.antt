@@ -14,22 +14,23 @@ use Rattle.laws.specs.Charged.{within}
 use Rattle.laws.proofs.Tests.{le-or-lt}
 use Rattle.laws.proofs.ListLaws.{mem-all, mem-map}
 use Rattle.laws.proofs.Parts.{drop-past}
+use Rattle.rows.specs.Rows.{Row, rowsInOrder}
+use Rattle.rows.specs.Tables.{eventFrom, column, RowsOrdered, Spreadable, Spread, EventsOrdered}
+use Rattle.rows.proofs.ColumnParts.{column-same}
+use Rattle.rows.proofs.SpreadTables.{ordered-spreadable}
 use Rattle.separation.specs.declared.summary.NetSummary.the-variants.{Nothing}
 use Rattle.separation.specs.declared.sweep.Swept.{Swept}
-use Rattle.separation.specs.Rows.{Row, rowsInOrder, lines, levels}
+use Rattle.separation.specs.Lines.{lines, levels}
 use Rattle.separation.specs.Walk.{sweep}
 use Rattle.separation.specs.ActiveTree.{summaryOfWord, summaryAt}
-use Rattle.separation.specs.Prepared.{eventFrom, column, Spread, Prepared}
-use Rattle.separation.specs.RowTables.{EventsOrdered, RowsOrdered, Spreadable}
+use Rattle.separation.specs.Prepared.{Prepared}
 use Rattle.separation.specs.Numbered.{Numbered, LinesNumbered, Slottable, SlotsAssigned}
 use Rattle.separation.specs.Sweeping.{sweptOf, Ready, AtFirst, AtTables, AtRows}
 use Rattle.separation.proofs.Lines.{levels-enough, levels-least}
 use Rattle.separation.proofs.Trees.{nothing-covers}
 use Rattle.separation.proofs.ActiveNets.{counted-none}
-use Rattle.separation.proofs.ColumnParts.{column-same}
 use Rattle.separation.proofs.LineNumbering.{lines-few, lines-some, places-below}
 use Rattle.separation.proofs.SlotLaws.{slots-of-rows}
-use Rattle.separation.proofs.RowTables.{ordered-spreadable}
 
 -- ---- the tables, step by step: spread over columns, the events in order, the lines numbered, the slots assigned
 module _ (l : List Row) (sorted : Sorted rowsInOrder l) (s₁ s₂ s₃ : List ℕ) (many : ℕ) (spread : Spread l s₁) (ordered : EventsOrdered (length l) s₁ s₂) (numbered : LinesNumbered (length l) s₂ s₃ many) where
@@ -69,10 +70,16 @@ module _ (l : List Row) (sorted : Sorted rowsInOrder l) (s₁ s₂ s₃ : List �
       }
 
 -- the same for n rows
-module _ (n from table : ℕ) (s s₁ s₂ s₃ : List ℕ) (many : ℕ)
-    (spread : (l : List Row) → length l ≡ n → RowsOrdered l table (drop from s) → Spread l s₁) (ordered : EventsOrdered n s₁ s₂) (numbered : LinesNumbered n s₂ s₃ many) where
-  pub at-rows-slottable : AtRows s n from table → length s₃ ≡ length s → Slottable n s₃
-  at-rows-slottable a long =
+module _ (n from table : ℕ) (s s₁ s₂ s₃ : List ℕ) (many : ℕ) (a : AtRows s n from table) (same : length s₁ ≡ length s)
+    (spread-of : Spreadable n from table s → (l : List Row) → length l ≡ n → RowsOrdered l table (drop from s) → Spread l s₁) (ordered-of : 4 * n ≤ length s₁ → EventsOrdered n s₁ s₂) (numbered : LinesNumbered n s₂ s₃ many) where
+  spread : (l : List Row) → length l ≡ n → RowsOrdered l table (drop from s) → Spread l s₁
+  spread = spread-of (ordered-spreadable (a .l) n from table s (sym (a .size)) (a .ordered) (omega (arith, a .front)) (a .apart) (a .room))
+
+  ordered : EventsOrdered n s₁ s₂
+  ordered = ordered-of (omega (arith, a .room))
+
+  pub at-rows-slottable : length s₃ ≡ length s₁ → Slottable n s₃
+  at-rows-slottable long =
       let h = a .front in
       let r = a .room in
       let d = spread (a .l) (a .size) (a .ordered) in
@@ -86,9 +93,6 @@ module _ (n from table : ℕ) (s s₁ s₂ s₃ : List ℕ) (many : ℕ)
       let d = spread l e rows in
       subst (λ (m : ℕ). EventsOrdered m s₁ s₂ → LinesNumbered m s₂ s₃ many → SlotsAssigned m s₃ s₄ → Prepared l s₄ × (many ≡ length (lines l))) e
       (λ o b g. (tables-are l sorted s₁ s₂ s₃ many d o b s₄ g, lines-are l sorted s₁ s₂ s₃ many d o b .many-is)) ordered numbered assigned
-
-pub at-rows-spread : (n from table : ℕ) (s : List ℕ) → AtRows s n from table → Spreadable n from table s
-at-rows-spread n from table s a = ordered-spreadable (a .l) n from table s (sym (a .size)) (a .ordered) (let h = a .front in omega arith) (a .apart) (a .room)
 
 -- ---- the leaf count is less than twice the lines, so that the tree has room
 levels-few : (m : ℕ) → 1 ≤ m → 2 ^ levels m ≤ 2 * m

@@ -12,9 +12,10 @@ use lib.Pow.{pow-pos}
 use Rattle.laws.specs.Lists.{Mem, some-of}
 use Rattle.laws.proofs.Tests.{le-or-lt, same-or-not, or-elim, or-left, or-right}
 use Rattle.laws.proofs.ListLaws.{some-mem, mem-some}
+use Rattle.rows.specs.Rows.{Row}
 use Rattle.separation.specs.declared.summary.NetSummary.{NetSummary}
 use Rattle.separation.specs.declared.summary.NetSummary.the-variants.{Nothing}
-use Rattle.separation.specs.Rows.{Row, index}
+use Rattle.separation.specs.Lines.{index}
 use Rattle.separation.specs.Searches.{otherIn, leaf, node, rightmost, leftmost}
 use Rattle.separation.specs.Summaries.{otherThan, summaryOf, hasOther}
 use Rattle.separation.specs.ActiveTree.{NodeAt, Decides, Covers, Outside, SameOff}

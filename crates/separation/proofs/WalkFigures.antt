@@ -6,18 +6,12 @@ use mathlib.Core.Bool.{true}
 use Prim.Native.Nat.{ℕ, _≤_, _<_}
 use native.Mathlib.Nat.{le-refl}
 use native.Mathlib.Omega.{arith}
-use borrow.Author.Tests.{eqb-true, eq-eqb}
-use lib.Dec.{eqb}
 use lib.Ieee.{Float, binary64}
-use Rattle.laws.specs.Lists.{Mem, All, chosen, keep, pairs}
+use Rattle.laws.specs.Lists.{Mem, All, keep, pairs}
 use Rattle.laws.specs.Sort.{Sorted}
 use Rattle.laws.specs.Least.{least}
-use Rattle.laws.specs.Perm.{Perm}
 use Rattle.laws.proofs.Tests.{clash, le-or-lt}
 use Rattle.laws.proofs.ListLaws.{all-mem, mem-all, all-append, mem-append, append-left, append-right, mem-map, map-mem, mem-chosen, chosen-mem, mem-pairs, pairs-mem}
-use Rattle.laws.proofs.Perms.{perm-mem, perm-sym}
-use Rattle.laws.proofs.RowLaws.{by-rows}
-use Rattle.laws.proofs.Sorting.{sort-perm, sort-sorted}
 use Rattle.laws.proofs.Leasts.{Reaches, least-same}
 use Rattle.floats.specs.Values.{gapOf}
 use Rattle.floats.specs.TotalOrder.{floatAt}
@@ -25,11 +19,10 @@ use Rattle.floats.proofs.Rank.{mag}
 use Rattle.floats.proofs.Gaps.{Good, gap-good, gap-swap}
 use Rattle.drawing.specs.Entries.{Segment}
 use Rattle.drawing.specs.Gaps.{gapFrom, leastGap}
-use Rattle.drawing.specs.Orders.{segmentsInOrder}
-use Rattle.drawing.proofs.ListOrders.{segments-in-order-perm}
 use Rattle.drawing.proofs.GapLaws.{gaps-ranked}
-use Rattle.separation.specs.Figures.{fixedOf, counted, gapBetween, gaps, nonzero, leastOf, figures}
-use Rattle.separation.specs.Rows.{Row, rowOf, words, rowsInOrder, oriented}
+use Rattle.rows.specs.Rows.{Row, fixedOf, rowOf, rowsInOrder, oriented}
+use Rattle.rows.proofs.Oriented.{oriented-sorted, mem-oriented, oriented-mem}
+use Rattle.separation.specs.Figures.{counted, gapBetween, gaps, nonzero, leastOf, figures}
 use Rattle.separation.specs.Walk.{lesserFigures, along, walk}
 use Rattle.separation.proofs.Places.{Placed, gapAt, at-one, at-two, nearer}
 use Rattle.separation.proofs.Sweeps.{Meet, Pair, Covered, sweepSights, sweep-sound, sweep-complete}
@@ -101,30 +94,6 @@ module _ (l : List Segment) (fit : All Fit l) where
   -- no gap is NaN or -0
   pub gaps-good : All Good (gaps l)
   gaps-good = mem-all Good (gaps l) (λ x m. pair-good x (mem-gaps x m))
-
--- ---- the rows of one orientation
-oriented-perm : (o : ℕ) (l : List Segment) → Perm (oriented o l) (chosen (λ (s : Segment). eqb (s .orientation) o) rowOf (segmentsInOrder l))
-unfolding oriented
-oriented-perm o l = sort-perm rowsInOrder (chosen (λ (s : Segment). eqb (s .orientation) o) rowOf (segmentsInOrder l))
-
-oriented-sorted : (o : ℕ) (l : List Segment) → Sorted rowsInOrder (oriented o l)
-unfolding oriented
-oriented-sorted o l = sort-sorted rowsInOrder (by-rows words) (chosen (λ (s : Segment). eqb (s .orientation) o) rowOf (segmentsInOrder l))
-
--- a row of the orientation, by its segment
-record RowOf (o : ℕ) (l : List Segment) (r : Row) : Type 0 where
-  segment : Segment
-  there : Mem segment l
-  turned : segment .orientation ≡ o
-  is : r ≡ rowOf segment
-
-mem-oriented : (o : ℕ) (l : List Segment) (r : Row) → Mem r (oriented o l) → RowOf o l r
-mem-oriented o l r m =
-    let g = mem-chosen (λ (s : Segment). eqb (s .orientation) o) rowOf r (segmentsInOrder l) (perm-mem r (oriented-perm o l) m) in
-    record { segment = g .0; there = perm-mem (g .0) (segments-in-order-perm l) (g .1); turned = eqb-true (g .0 .orientation) o (g .2); is = g .3 }
-
-oriented-mem : (o : ℕ) (l : List Segment) (s : Segment) → Mem s l → s .orientation ≡ o → Mem (rowOf s) (oriented o l)
-oriented-mem o l s m e = perm-mem (rowOf s) (perm-sym (oriented-perm o l)) (chosen-mem (λ (t : Segment). eqb (t .orientation) o) rowOf s (segmentsInOrder l) (perm-mem s (perm-sym (segments-in-order-perm l)) m) (eq-eqb (s .orientation) o e))
 
 -- ---- what is compared along one orientation: nothing where it has fewer than two segments
 unfoldable alongSights : List Row → List (ℕ × ℕ)

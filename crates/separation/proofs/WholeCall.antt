@@ -5,15 +5,12 @@ use mathlib.Core.List.{List}
 use Prim.Native.Nat.{ℕ, _+_, _-_, _*_, _^_, _≤_, _<_}
 use native.Mathlib.Omega.{arith}
 use borrow.Author.Tests.{ltb-false}
-use lib.Dec.{eqb}
 use lib.ListN.{length}
-use Rattle.laws.specs.Lists.{Mem, All, chosen}
+use Rattle.laws.specs.Lists.{Mem, All}
 use Rattle.laws.specs.Charged.{Charged, Outcome, spent, left, within, onward, reply}
 use Rattle.laws.proofs.Tests.{le-or-lt}
-use Rattle.laws.proofs.ListLaws.{all-mem, mem-chosen}
-use Rattle.laws.proofs.Perms.{perm-mem}
+use Rattle.laws.proofs.ListLaws.{all-mem}
 use Rattle.laws.proofs.Runs.{within-enough, within-short, onward-spent, onward-left, settle-within}
-use Rattle.laws.proofs.Sorting.{sort-perm}
 use Rattle.drawing.specs.declared.gap.Gap.{Gap}
 use Rattle.drawing.specs.declared.refusal.Refusal.{Refusal}
 use Rattle.drawing.specs.declared.refusal.Refusal.the-variants.{WorkLimitExceeded}
@@ -26,18 +23,18 @@ use Rattle.drawing.specs.Checks.{separationConditions}
 use Rattle.drawing.specs.Refusals.{firstOf}
 use Rattle.drawing.proofs.FirstRefusal.{passed-head, few, separation-agree}
 use Rattle.drawing.proofs.ListOrders.{SegmentHeld}
+use Rattle.rows.specs.Rows.{Row, rowOf, oriented}
+use Rattle.rows.proofs.Oriented.{mem-oriented}
 use Rattle.separation.specs.declared.report.SeparationAnswer.{SeparationAnswer}
 use Rattle.separation.specs.declared.report.SeparationAnswer.the-variants.{Report, Refused}
 use Rattle.separation.specs.declared.sweep.Sweeping.{Sweeping}
 use Rattle.separation.specs.declared.sweep.Swept.{Swept}
 use Rattle.separation.specs.declared.sweep.Swept.the-variants.{Went, Spent}
 use Rattle.separation.specs.Figures.{Figures}
-use Rattle.separation.specs.Rows.{Row, rowOf, rowsInOrder, oriented}
 use Rattle.separation.specs.Walk.{lesserFigures, along, walk}
 use Rattle.separation.specs.Answer.{accepted, separation}
 use Rattle.separation.specs.Sweeping.{metBy, sweptOf, AtColumns, Remains, Answers}
 use Rattle.separation.proofs.Fit.{Fit, row-rises}
-use Rattle.separation.proofs.AnyOrder.{list-order-idle}
 use Rattle.separation.proofs.Allowances.{walk-within}
 use Rattle.separation.proofs.Answers.{passed-fit, walk-settles}
 use Rattle.separation.proofs.SweepSteps.{went-is, spent-is}
@@ -59,10 +56,10 @@ module _ (c : SegmentColumns) (words : ℕ) (passed : firstOf (separationConditi
   module _ (held : All SegmentHeld (segments c)) (nets : All (λ (s : Segment). s .net < 2 ^ 32) (segments c)) where
     proper : (o : ℕ) (r : Row) → Mem r (oriented o (segments c)) → (r .net < 2 ^ 32) × (r .start < r .end)
     proper o r m =
-        let l = chosen (λ (s : Segment). eqb (s .orientation) o) rowOf (segments c) in
-        let g = mem-chosen (λ (s : Segment). eqb (s .orientation) o) rowOf r (segments c) (perm-mem r (sort-perm rowsInOrder l) (subst (Mem r) (list-order-idle o (segments c)) m)) in
-        subst (λ (x : Row). (x .net < 2 ^ 32) × (x .start < x .end)) (sym (g .3))
-        (row-net (g .0) (all-mem (λ (s : Segment). s .net < 2 ^ 32) (segments c) nets (g .0) (g .1)), row-rises (g .0) (all-mem Fit (segments c) (passed-fit c words passed held) (g .0) (g .1)))
+        let g = mem-oriented o (segments c) r m in
+        let s = g .segment in
+        subst (λ (x : Row). (x .net < 2 ^ 32) × (x .start < x .end)) (sym (g .is))
+        (row-net s (all-mem (λ (t : Segment). t .net < 2 ^ 32) (segments c) nets s (g .there)), row-rises s (all-mem Fit (segments c) (passed-fit c words passed held) s (g .there)))
 
     pub at-columns : (o : ℕ) → AtColumns words o c
     at-columns o = record { agree = separation-agree c words passed; few = sizes .0; room = sizes .1; proper = proper o }

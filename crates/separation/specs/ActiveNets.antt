@@ -7,9 +7,10 @@ use Prim.Native.Nat.{ℕ, _+_, _*_, _%_, _^_, _≤_, _<_}
 use lib.Dec.{eqb}
 use lib.ListN.{length, getD}
 use Rattle.laws.specs.Lists.{Mem, sum, count}
+use Rattle.rows.specs.Rows.{Row}
 use Rattle.separation.specs.declared.summary.NetSummary.{NetSummary}
 use Rattle.separation.specs.declared.summary.NetSummary.the-variants.{Nothing, One, Two}
-use Rattle.separation.specs.Rows.{Row, index}
+use Rattle.separation.specs.Lines.{index}
 use Rattle.separation.specs.Walk.{remove}
 use Rattle.separation.specs.ActiveTree.{Decides}
 

@@ -8,11 +8,11 @@ use Prim.Native.Nat.{ℕ, _+_, _-_, _*_, _^_, _≤_, _<_}
 use lib.Dec.{leb, eqb}
 use lib.ListN.{length, getD}
 use Rattle.laws.specs.Charged.{Outcome, spent, left}
+use Rattle.rows.specs.Rows.{Row}
 use Rattle.separation.specs.declared.summary.NetSummary.{NetSummary}
 use Rattle.separation.specs.declared.summary.NetSummary.the-variants.{Nothing, One, Two}
 use Rattle.separation.specs.declared.tree.Charge.{Charge}
 use Rattle.separation.specs.declared.tree.Charge.the-variants.{Paid, Short}
-use Rattle.separation.specs.Rows.{Row}
 use Rattle.separation.specs.Searches.{otherIn}
 use Rattle.separation.specs.Summaries.{hasOther}
 

@@ -4,21 +4,11 @@ use mathlib.Core.List.{List}
 use lib.Dec.{eqb}
 use lib.Ieee.{Float, lt, eq}
 use Rattle.laws.specs.Lists.{chosen, keep, pairs}
-use Rattle.floats.specs.Values.{plusZero, canonicalZero, lesserOf, greaterOf, gapOf}
+use Rattle.floats.specs.Values.{plusZero, lesserOf, greaterOf, gapOf}
 use Rattle.drawing.specs.declared.gap.Gap.{Gap}
 use Rattle.drawing.specs.Entries.{Segment}
 use Rattle.drawing.specs.Gaps.{leastGap}
-
--- a segment's coordinates as this measure takes them: "Zeros become +0."
-unfoldable pub fixedOf : Segment → Float
-fixedOf s = canonicalZero (s .fixed)
-
-unfoldable pub startOf : Segment → Float
-startOf s = canonicalZero (s .start)
-
--- where a segment stops counting: at its end. Figures and walk read the end here only.
-unfoldable pub endOf : Segment → Float
-endOf s = canonicalZero (s .end)
+use Rattle.rows.specs.Rows.{fixedOf, startOf, endOf}
 
 -- "whose overlap is positive (larger start < smaller end)"
 unfoldable pub overlapping : Segment → Segment → Bool

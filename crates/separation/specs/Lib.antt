@@ -1,6 +1,6 @@
 -- The definitions, a file for each notion.
 pub mod Figures
-pub mod Rows
+pub mod Lines
 pub mod Searches
 pub mod Walk
 pub mod Summaries
@@ -9,6 +9,5 @@ pub mod Answer
 pub mod ActiveTree
 pub mod ActiveNets
 pub mod Prepared
-pub mod RowTables
 pub mod Numbered
 pub mod Sweeping

@@ -7,9 +7,10 @@ use lib.Dec.{eqb, leb}
 use lib.ListN.{length, getD, take, drop}
 use Rattle.laws.specs.Lists.{Mem, All}
 use Rattle.laws.specs.Sort.{Sorted}
-use Rattle.separation.specs.Rows.{Row, rowsInOrder, lines, index}
+use Rattle.rows.specs.Rows.{Row, rowsInOrder}
+use Rattle.rows.specs.Tables.{column}
+use Rattle.separation.specs.Lines.{lines, index}
 use Rattle.separation.specs.ActiveNets.{Slots}
-use Rattle.separation.specs.Prepared.{column}
 
 -- ---- the numbers of the lines
 -- the number of the line of a key, where m lines have begun, the last of them with the key `last`

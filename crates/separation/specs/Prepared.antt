@@ -2,36 +2,14 @@
 -- Words 0 .. 2 n: the events in order, by number: event j < n is the end of segment j, event n + j its start.
 -- From 2 n on, n words each: the keys of the ends, the keys of the starts, the lines, the nets, the different fixed values, the slots.
 use mathlib.Core.Path.{_≡_}
-use mathlib.Core.Bool.{cond}
 use mathlib.Core.List.{List, map}
-use Prim.Native.Nat.{ℕ, _+_, _-_, _*_, _<_}
-use lib.Dec.{ltb}
-use lib.ListN.{length, getD, take, drop}
+use Prim.Native.Nat.{ℕ, _+_, _*_, _<_}
+use lib.ListN.{length, getD, take}
 use Rattle.laws.specs.Lists.{All}
-use Rattle.separation.specs.Rows.{Row, Event, ends, starts, lines, index, events}
+use Rattle.rows.specs.Rows.{Row, events}
+use Rattle.rows.specs.Tables.{rowFrom, eventFrom, column}
+use Rattle.separation.specs.Lines.{lines, index}
 use Rattle.separation.specs.ActiveNets.{Slots}
-
--- the row at a place
-abbrev pub noRow : Row
-noRow = record { net = 0; line = 0; start = 0; end = 0 }
-
-abbrev pub rowFrom : List Row → ℕ → Row
-rowFrom l j = getD l j noRow
-
--- the event of a number
-abbrev pub eventFrom : List Row → ℕ → Event
-eventFrom l e = cond (ltb e (length l)) (ends e (rowFrom l e)) (starts (e - length l) (rowFrom l (e - length l)))
-
--- the k-th of the columns of n words
-abbrev pub column : ℕ → ℕ → List ℕ → List ℕ
-column n k s = take n (drop (k * n) s)
-
--- the rows in order, column by column
-pub record Spread (l : List Row) (s : List ℕ) : Type 0 where
-  pub ends : column (length l) 2 s ≡ map (λ r. r .end) l
-  pub starts : column (length l) 3 s ≡ map (λ r. r .start) l
-  pub keys : column (length l) 4 s ≡ map (λ r. r .line) l
-  pub nets : column (length l) 5 s ≡ map (λ r. r .net) l
 
 -- the tables as the sweep reads them
 pub record Prepared (l : List Row) (s : List ℕ) : Type 0 where

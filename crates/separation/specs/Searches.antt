@@ -7,9 +7,10 @@ use Prim.Native.Nat.{ℕ, zero, suc, _+_, _*_, _^_}
 use lib.Dec.{leb, ltb, eqb}
 use Rattle.laws.specs.Lists.{some-of}
 use Rattle.laws.specs.Charged.{Charged, Outcome, spent, left, free, visit, after}
+use Rattle.rows.specs.Rows.{Row}
 use Rattle.separation.specs.declared.tree.Search.{Search}
 use Rattle.separation.specs.declared.tree.Search.the-variants.{Found, Empty, Spent}
-use Rattle.separation.specs.Rows.{Row, index}
+use Rattle.separation.specs.Lines.{index}
 
 -- some active segment of another net than n lies on a line from a up to b: what the Rust's summary of two different nets decides for every net (`summary-decides` in proofs/Summaries.antt)
 unfoldable pub otherIn : List ℕ → List Row → ℕ → ℕ → ℕ → Bool

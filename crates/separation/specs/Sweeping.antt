@@ -11,6 +11,8 @@ use Rattle.laws.specs.Charged.{Charged, Outcome, spent, left, within, free, vis
 use Rattle.drawing.specs.declared.refusal.Refusal.the-variants.{WorkLimitExceeded}
 use Rattle.drawing.specs.Entries.{SegmentColumns, segments}
 use Rattle.drawing.specs.Lengths.{SegmentsAgree}
+use Rattle.rows.specs.Rows.{Row, rowsInOrder, oriented}
+use Rattle.rows.specs.Tables.{rowFrom, eventFrom, RowsOrdered}
 use Rattle.separation.specs.declared.tree.Search.{Search}
 use Rattle.separation.specs.declared.tree.Search.the-variants.{Found}
 use Rattle.separation.specs.declared.tree.Charge.{Charge}
@@ -22,13 +24,12 @@ use Rattle.separation.specs.declared.report.SeparationAnswer.{Separation
 use Rattle.separation.specs.declared.report.SeparationAnswer.the-variants.{Refused}
 use Rattle.separation.specs.Figures.{Figures}
 use Rattle.separation.specs.Answer.{accepted}
-use Rattle.separation.specs.Rows.{Row, rowsInOrder, oriented, lines, index}
+use Rattle.separation.specs.Lines.{lines, index}
 use Rattle.separation.specs.Searches.{otherIn, rightmost, leftmost, setRun}
 use Rattle.separation.specs.Walk.{Sweep, remove, ownLine, otherLine, startsAt, endsAt, step}
 use Rattle.separation.specs.ActiveTree.{summaryAt, Leaves, Covers}
 use Rattle.separation.specs.ActiveNets.{Slots, Counted, Countable, Endable}
-use Rattle.separation.specs.Prepared.{rowFrom, eventFrom, Prepared}
-use Rattle.separation.specs.RowTables.{RowsOrdered}
+use Rattle.separation.specs.Prepared.{Prepared}
 
 -- the figures that a state holds
 abbrev pub metBy : Sweeping → Figures

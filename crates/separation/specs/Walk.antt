@@ -11,8 +11,9 @@ use Rattle.floats.specs.TotalOrder.{floatAt}
 use Rattle.drawing.specs.declared.gap.Gap.the-variants.{Absent, Present}
 use Rattle.drawing.specs.Entries.{Segment}
 use Rattle.drawing.specs.Gaps.{lesserGap}
+use Rattle.rows.specs.Rows.{Row, oriented, Event, ends, starts, events}
 use Rattle.separation.specs.Figures.{Figures}
-use Rattle.separation.specs.Rows.{Row, oriented, lines, index, levels, Event, ends, starts, events}
+use Rattle.separation.specs.Lines.{lines, index, levels}
 use Rattle.separation.specs.Searches.{otherIn, rightmost, leftmost, setRun}
 
 abbrev pub nothing : Figures

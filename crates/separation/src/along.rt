@@ -7,15 +7,13 @@ ghost use Rattle.laws.specs.Lists.{Mem};
 ghost use Rattle.laws.specs.Sort.{Sorted};
 ghost use Rattle.laws.specs.Charged.{within};
 ghost use Rattle.drawing.specs.Entries.{segmentColumns, segments};
-ghost use Rattle.separation.specs.Rows.{Row, rowsInOrder, oriented, lines};
+ghost use Rattle.rows.specs.Rows.{Row, rowsInOrder, oriented};
+ghost use Rattle.rows.specs.Tables.{RowsOrdered};
+ghost use Rattle.separation.specs.Lines.{lines};
 ghost use Rattle.separation.specs.Walk as Walk;
-ghost use Rattle.separation.specs.RowTables.{RowsOrdered};
 ghost use Rattle.separation.specs.Prepared.{Prepared};
 ghost use Rattle.separation.specs.Sweeping.{sweptOf, AtTables, AtRows, AtColumns};
-use crate::events::order_events;
 use crate::line_numbers::number_lines;
-use crate::rows::order_rows;
-use crate::rows::spread_rows;
 use crate::run::run_events;
 use crate::slots::assign_slots;
 use crate::sweep::Sweeping;
@@ -23,6 +21,9 @@ use crate::sweep::Swept;
 use crate::tree::leaf_count;
 use drawing::Gap;
 use drawing::clear;
+use rows::order_events;
+use rows::order_rows;
+use rows::spread_rows;
 
 // The tables of n rows whose places in order stand from word `from` on, their table `table` words further on. The answer is the number of lines.
 fn make_tables(s: &mut [u64], n: usize, from: usize, table: usize) -> usize

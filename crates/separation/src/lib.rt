@@ -1,11 +1,9 @@
 // The least separation of parallel wires of different nets.
 pub mod along;
-pub mod events;
 pub mod line_numbers;
 pub mod measure;
 pub mod nets;
 pub mod report;
-pub mod rows;
 pub mod run;
 pub mod slots;
 pub mod summary;

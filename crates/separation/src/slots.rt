@@ -2,7 +2,7 @@
 ghost use mathlib.Core.Path.{_≡_};
 ghost use Prim.Native.Nat.{_*_, _≤_};
 ghost use lib.ListN.{length};
-ghost use Rattle.separation.specs.Prepared.{column};
+ghost use Rattle.rows.specs.Tables.{column};
 ghost use Rattle.separation.specs.Numbered.{Slottable, WordsFilled, WordsInOrder, slotOf, HandedOut, SlotsAssigned};
 use sorting::sort_indices;
 

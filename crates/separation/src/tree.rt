@@ -4,7 +4,7 @@ ghost use mathlib.Core.Bool.{_||_};
 ghost use Prim.Native.Nat.{ℕ, _+_, _*_, _^_, _≤_, _<_};
 ghost use lib.ListN.{length};
 ghost use Rattle.laws.specs.Charged.{within};
-ghost use Rattle.separation.specs.Rows.{levels};
+ghost use Rattle.separation.specs.Lines.{levels};
 ghost use Rattle.separation.specs.Searches.{rightmost, leftmost, setRun, searchOf};
 ghost use Rattle.separation.specs.Summaries.{hasOther};
 ghost use Rattle.separation.specs.ActiveTree.{summaryOfWord, summaryAt, chargeOf, Leaves, Below, Renewed};

@@ -1,10 +1,10 @@
-//! The port's clearance against the reference's answer for one drawing.
+//! The port against the reference's answer to one measure of one drawing.
 
 use crate::{
     drawing::Drawing,
-    port::{run_clearance, Columns, Told},
+    port::{run, scratch_words, Columns, Told},
     random::Random,
-    refusals::{before_work, scratch_need, settle},
+    refusals::{before_work, settle},
     report::{Answer, Measure},
 };
 
@@ -13,20 +13,25 @@ const GUARDS: usize = 8;
 
 /// Compares the port with the answer where no allowance runs out. `reordered`
 /// holds the same entries in another order. Returns what differs.
-pub fn differences(drawing: &Drawing, reordered: &Drawing, answer: &Answer) -> Vec<String> {
+pub fn differences(
+    measure: Measure,
+    drawing: &Drawing,
+    reordered: &Drawing,
+    answer: &Answer,
+) -> Vec<String> {
     let mut tried = Tried {
-        threshold: drawing.threshold,
+        measure,
         random: Random::new(drawing.entries() as u64),
         found: Vec::new(),
     };
-    let need = scratch_need(drawing.segments.len(), drawing.nodes.len());
+    let need = scratch_words(measure, drawing);
     let more = need + tried.random.below(40);
     for (about, lists, words) in [
         ("lists as given", drawing, need),
         ("lists in another order", reordered, more),
     ] {
         let columns = Columns::of(lists);
-        for allowance in allowances(drawing, answer) {
+        for allowance in allowances(measure.allowance(drawing), answer) {
             let expected = answer.clone().and_then(|report| settle(report, allowance));
             let about = format!("{about}, allowance {allowance}");
             tried.compare(&about, &columns, words, allowance, &expected);
@@ -37,8 +42,7 @@ pub fn differences(drawing: &Drawing, reordered: &Drawing, answer: &Answer) -> V
 }
 
 /// Allowances around the visit count; the drawing's own where there is none.
-fn allowances(drawing: &Drawing, answer: &Answer) -> Vec<u64> {
-    let own = drawing.allowances.clearance;
+fn allowances(own: u64, answer: &Answer) -> Vec<u64> {
     match answer {
         Ok(report) => {
             let visits = report.visits;
@@ -61,7 +65,8 @@ fn allowances(drawing: &Drawing, answer: &Answer) -> Vec<u64> {
 /// 1, and any of these together.
 fn compare_refusals(drawing: &Drawing, need: usize, tried: &mut Tried) {
     let columns = Columns::of(drawing);
-    for place in 0..COLUMNS {
+    let columns_taken = columns_taken(tried.measure);
+    for place in 0..columns_taken {
         for longer in [false, true] {
             let mut uneven = columns.clone();
             change_length(&mut uneven, place, longer);
@@ -81,15 +86,22 @@ fn compare_refusals(drawing: &Drawing, need: usize, tried: &mut Tried) {
 
     let mut several = Columns::of(&turned);
     if tried.random.once_in(2) {
-        let place = tried.random.below(COLUMNS);
+        let place = tried.random.below(columns_taken);
         change_length(&mut several, place, true);
     }
     let words = need - tried.random.below(2);
     tried.compare_refusal("several at once", &turned, &several, words);
 }
 
-/// How many columns `change_length` knows.
-const COLUMNS: usize = 12;
+/// How many of the columns that `change_length` knows, from the first on, the
+/// measure is given.
+fn columns_taken(measure: Measure) -> usize {
+    if measure.takes_nodes() {
+        12
+    } else {
+        5
+    }
+}
 
 fn change_length(columns: &mut Columns, place: usize, longer: bool) {
     fn change<T: Default>(column: &mut Vec<T>, longer: bool) {
@@ -124,7 +136,7 @@ fn turn_some(drawing: &mut Drawing, random: &mut Random) {
 }
 
 struct Tried {
-    threshold: f64,
+    measure: Measure,
     random: Random,
     found: Vec<String>,
 }
@@ -134,7 +146,7 @@ impl Tried {
     /// not refused there is nothing to see here.
     fn compare_refusal(&mut self, about: &str, drawing: &Drawing, columns: &Columns, words: usize) {
         let lent = columns.lent(words);
-        if let Some(refusal) = before_work(Measure::Clearance, drawing, &lent) {
+        if let Some(refusal) = before_work(self.measure, drawing, &lent) {
             let allowance = self.random.pick(&[0, 1_000, u64::MAX]);
             self.compare(about, columns, words, allowance, &Err(refusal));
         }
@@ -151,11 +163,12 @@ impl Tried {
     ) {
         let before = self.contents(words + GUARDS);
         let mut after = before.clone();
-        let told = run_clearance(columns, self.threshold, allowance, &mut after[..words]);
-        let expected = Told::expected(answer);
+        let told = run(self.measure, columns, allowance, &mut after[..words]);
+        let expected = Told::expected(answer, told.words.len());
+        let measure = self.measure.name();
         if told != expected {
             self.found.push(format!(
-                "the port's clearance, {about}: {told:x?}, where {expected:x?} is expected"
+                "the port's {measure}, {about}: {told:x?}, where {expected:x?} is expected"
             ));
         }
         let (lent, guards) = after.split_at(words);
@@ -167,7 +180,7 @@ impl Tried {
         };
         if !scratch_is_well || *guards != before[words..] {
             self.found.push(format!(
-                "the port's clearance, {about}: the scratch is not as document 01 says"
+                "the port's {measure}, {about}: the scratch is not as document 01 says"
             ));
         }
     }

@@ -9,29 +9,46 @@ use std::{hint::black_box, time::Instant};
 
 use crate::{
     drawing::{Allowances, Drawing, Exemption, Node, Segment, HORIZONTAL, VERTICAL},
-    port::{run_clearance, Columns, Told},
+    port::{self, scratch_words, Columns, Told},
     random::Random,
     reference::{Fed, Run},
-    refusals::{scratch_need, CALL_LIMITS},
+    refusals::CALL_LIMITS,
     report::{Measure, Report},
     values::GRID_STEP,
 };
 
-/// A drawing of full size, by the numbers that decide how far a walk goes.
+/// A drawing, by the numbers that decide how far a walk goes.
 struct Kind {
     name: &'static str,
+    segments: usize,
+    lines: Lines,
     /// The side of the square that the corners lie in.
     side: i64,
-    /// The most that a wire is long; a box is at most 16 wide and high.
+    /// The least and the most that a wire is long; a box is at most 16 wide and
+    /// high.
+    shortest: i64,
     longest: i64,
     threshold: f64,
     nets: usize,
     exemptions: usize,
 }
 
+/// The lines that the wires lie on.
+enum Lines {
+    /// Any, in both orientations.
+    Any,
+    /// One for all of them.
+    One,
+    /// One for each of them, in one orientation.
+    Own,
+}
+
 const SPARSE: Kind = Kind {
     name: "sparse",
+    segments: CALL_LIMITS.segments,
+    lines: Lines::Any,
     side: 8_192,
+    shortest: 1,
     longest: 200,
     threshold: 8.0,
     nets: 256,
@@ -52,15 +69,27 @@ const ALL_IN_REACH: Kind = Kind {
     ..DENSE
 };
 
-const KINDS: [Kind; 6] = [
+const ONE_NET: Kind = Kind {
+    name: "one net",
+    nets: 1,
+    ..DENSE
+};
+
+/// The shortest wire is longer than the starts lie apart, so that any two
+/// overlap.
+const ALL_OVERLAPPING: Kind = Kind {
+    name: "own lines, all overlapping",
+    lines: Lines::Own,
+    side: 64,
+    shortest: 65,
+    ..DENSE
+};
+
+const CLEARANCE: [Kind; 6] = [
     SPARSE,
     DENSE,
     ALL_IN_REACH,
-    Kind {
-        name: "one net",
-        nets: 1,
-        ..DENSE
-    },
+    ONE_NET,
     Kind {
         name: "exemptions",
         exemptions: CALL_LIMITS.exemptions,
@@ -73,47 +102,85 @@ const KINDS: [Kind; 6] = [
     },
 ];
 
-/// Prints a line for each kind: visits, the best time of each side, the port's
-/// best over the reference's, and the median of that ratio over the runs, which
-/// a busy machine disturbs less. Fails where the two answers differ.
+const SEPARATION: [Kind; 7] = [
+    SPARSE,
+    DENSE,
+    ONE_NET,
+    Kind {
+        name: "one line",
+        lines: Lines::One,
+        ..DENSE
+    },
+    Kind {
+        segments: 256,
+        ..ALL_OVERLAPPING
+    },
+    Kind {
+        segments: 1_024,
+        ..ALL_OVERLAPPING
+    },
+    ALL_OVERLAPPING,
+];
+
+/// Prints for each measure a line for each kind: segments, visits, the best
+/// time of each side, the port's best over the reference's, and the median of
+/// that ratio over the runs, which a busy machine disturbs less. Fails where the
+/// two answers differ.
 pub fn bench(runs: u64) -> Result<(), String> {
-    println!(
-        "{:<26}{:>10}{:>10}{:>10}{:>8}{:>8}",
-        "clearance", "visits", "Rust ms", "port ms", "ratio", "median"
-    );
-    for kind in KINDS {
-        let drawing = drawing(&kind, &mut Random::new(1));
-        let (visits, times) = times(&drawing, runs).map_err(|told| {
-            format!("{}: the port tells {told:?}, the Rust otherwise", kind.name)
-        })?;
-        let [rust, port] = best(&times);
+    for (measure, kinds) in [
+        (Measure::Clearance, &CLEARANCE[..]),
+        (Measure::Separation, &SEPARATION[..]),
+    ] {
         println!(
-            "{:<26}{visits:>10}{rust:>10.3}{port:>10.3}{:>8.3}{:>8.3}",
-            kind.name,
-            port / rust,
-            median_ratio(&times)
+            "{:<28}{:>8}{:>10}{:>10}{:>10}{:>8}{:>8}",
+            measure.name(),
+            "segments",
+            "visits",
+            "Rust ms",
+            "port ms",
+            "ratio",
+            "median"
         );
+        for kind in kinds {
+            bench_kind(measure, kind, runs)?;
+        }
     }
+    Ok(())
+}
+
+fn bench_kind(measure: Measure, kind: &Kind, runs: u64) -> Result<(), String> {
+    let drawing = drawing(kind, &mut Random::new(1));
+    let (visits, times) = times(measure, &drawing, runs).map_err(|told| {
+        let (measure, kind) = (measure.name(), kind.name);
+        format!("{measure}, {kind}: the port tells {told:?}, the Rust otherwise")
+    })?;
+    let [rust, port] = best(&times);
+    println!(
+        "{:<28}{:>8}{visits:>10}{rust:>10.3}{port:>10.3}{:>8.3}{:>8.3}",
+        kind.name,
+        kind.segments,
+        port / rust,
+        median_ratio(&times)
+    );
     Ok(())
 }
 
 /// The visits, and for each run the milliseconds of the reference and of the
 /// port. The two take turns, so that a machine that is slow for a while is slow
 /// for both.
-fn times(drawing: &Drawing, runs: u64) -> Result<(u64, Vec<[f64; 2]>), Told> {
+fn times(measure: Measure, drawing: &Drawing, runs: u64) -> Result<(u64, Vec<[f64; 2]>), Told> {
     let fed = Fed::as_given(drawing);
     let columns = Columns::of(drawing);
-    let mut scratch = vec![0; scratch_need(drawing.segments.len(), drawing.nodes.len())];
+    let mut scratch = vec![0; scratch_words(measure, drawing)];
     let mut visits = 0;
     let mut times = Vec::new();
     for _ in 0..runs.max(1) {
-        let (by_reference, rust) = timed(|| fed.run(Measure::Clearance, u64::MAX));
-        let (by_port, port) =
-            timed(|| run_clearance(&columns, drawing.threshold, u64::MAX, &mut scratch));
+        let (by_reference, rust) = timed(|| fed.run(measure, u64::MAX));
+        let (by_port, port) = timed(|| port::run(measure, &columns, u64::MAX, &mut scratch));
         if !agree(&by_reference, &by_port) {
             return Err(by_port);
         }
-        visits = by_port.words[3];
+        visits = by_port.visits();
         times.push([rust, port]);
     }
     Ok((visits, times))
@@ -144,15 +211,16 @@ fn agree(by_reference: &Run, by_port: &Told) -> bool {
     };
     let report = Report {
         figures: figures.clone(),
-        visits: by_port.words[3],
+        visits: by_port.visits(),
     };
-    Told::expected(&Ok(report)) == *by_port
+    Told::expected(&Ok(report), by_port.words.len()) == *by_port
 }
 
+/// Own lines are handed out in order, so the segments are shuffled in the end.
 fn drawing(kind: &Kind, random: &mut Random) -> Drawing {
-    Drawing {
-        segments: (0..CALL_LIMITS.segments)
-            .map(|_| segment(kind, random))
+    let mut drawing = Drawing {
+        segments: (0..kind.segments)
+            .map(|place| segment(kind, place, random))
             .collect(),
         nodes: (0..CALL_LIMITS.nodes)
             .map(|id| node(kind, id as u32, random))
@@ -170,17 +238,28 @@ fn drawing(kind: &Kind, random: &mut Random) -> Drawing {
             separation: u64::MAX,
             congestion: u64::MAX,
         },
-    }
+    };
+    random.shuffle(&mut drawing.segments);
+    drawing
 }
 
-fn segment(kind: &Kind, random: &mut Random) -> Segment {
+fn segment(kind: &Kind, place: usize, random: &mut Random) -> Segment {
     let start = steps(random, 0, kind.side);
+    let net = random.below(kind.nets) as u32;
+    let (orientation, fixed) = match kind.lines {
+        Lines::Any => (
+            random.pick(&[HORIZONTAL, VERTICAL]),
+            steps(random, 0, kind.side),
+        ),
+        Lines::One => (HORIZONTAL, 0.0),
+        Lines::Own => (HORIZONTAL, place as f64),
+    };
     Segment {
-        net: random.below(kind.nets) as u32,
-        orientation: random.pick(&[HORIZONTAL, VERTICAL]),
-        fixed: steps(random, 0, kind.side),
+        net,
+        orientation,
+        fixed,
         start,
-        end: start + steps(random, 1, kind.longest),
+        end: start + steps(random, kind.shortest, kind.longest),
     }
 }
 

@@ -132,7 +132,7 @@ impl Tally {
             );
         }
         if cfg!(port) {
-            println!("the port: clearance is called on every drawing");
+            println!("the port: clearance and separation are called on every drawing");
         } else {
             println!("the port: not linked");
         }

@@ -5,7 +5,7 @@
 use std::fmt::Debug;
 
 #[cfg(port)]
-use crate::against_port;
+use crate::{against_port, port::PORTED};
 use crate::{
     drawing::Drawing,
     file,
@@ -178,7 +178,7 @@ fn compare_sister_calls(report: &Report, examined: &Examined, found: &mut Differ
     );
 }
 
-/// The port answers as the reference does. Only clearance is ported so far.
+/// The port answers as the reference does.
 #[cfg(port)]
 fn compare_port(
     measure: Measure,
@@ -187,8 +187,8 @@ fn compare_port(
     reordered: &Drawing,
     found: &mut Differences,
 ) {
-    if let (Measure::Clearance, Ok(answer)) = (measure, answer) {
-        let differences = against_port::differences(&examined.drawing, reordered, answer);
+    if let (true, Ok(answer)) = (PORTED.contains(&measure), answer) {
+        let differences = against_port::differences(measure, &examined.drawing, reordered, answer);
         found.texts.extend(differences);
     }
 }

@@ -25,8 +25,9 @@
 //! | crowded | some 200 segments that nearly all run side by side |
 //! | full size | 4,096 segments, nodes and exemptions |
 //! | too many | one list of 4,097, which every call that takes it refuses with 3 |
+//! | many wires | 2,000 to 4,096 segments on and off the grid, and nothing else |
 //!
-//! The last three are too long for files of the program. Besides, every
+//! The last four are too long for files of the program. Besides, every
 //! drawing draws its orientations (mixed or one only), its lists' lengths (0
 //! and 1 among them), its threshold and cutoff, and for each measure an aim
 //! for its allowance: the visit count, one below, 0, or 2^64 - 1.
@@ -65,10 +66,11 @@ pub enum Kind {
     Crowded,
     FullSize,
     TooMany,
+    ManyWires,
 }
 
 /// Each kind with its name and its share of the drawings.
-pub const KINDS: [(Kind, &str, usize); 23] = [
+pub const KINDS: [(Kind, &str, usize); 24] = [
     (Kind::Ties, "ties", 600),
     (Kind::Zeros, "zeros", 200),
     (Kind::Grid, "grid", 400),
@@ -92,6 +94,7 @@ pub const KINDS: [(Kind, &str, usize); 23] = [
     (Kind::Crowded, "crowded", 10),
     (Kind::FullSize, "full size", 1),
     (Kind::TooMany, "too many", 4),
+    (Kind::ManyWires, "many wires", 5),
 ];
 
 /// How many kinds, from the front of the table, a small file can hold.
@@ -194,5 +197,6 @@ pub fn drawing(kind: Kind, most: &Limits, random: &mut Random) -> Drawing {
         Kind::Crowded => shapes::crowded(random),
         Kind::FullSize => shapes::full_size(random),
         Kind::TooMany => shapes::too_many(most, random),
+        Kind::ManyWires => shapes::many_wires(random),
     }
 }

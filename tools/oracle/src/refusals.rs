@@ -76,7 +76,7 @@ impl Lent {
     /// What the measure takes of it: a list that it does not take counts as
     /// one of 0 entries.
     fn taken_by(&self, measure: Measure) -> Self {
-        let takes_nodes = measure == Measure::Clearance;
+        let takes_nodes = measure.takes_nodes();
         Self {
             segment_columns: self.segment_columns,
             node_columns: if takes_nodes {

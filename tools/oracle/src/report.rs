@@ -24,6 +24,11 @@ impl Measure {
         }
     }
 
+    /// Whether it is given nodes and exemptions besides segments.
+    pub fn takes_nodes(self) -> bool {
+        self == Self::Clearance
+    }
+
     pub fn allowance(self, drawing: &Drawing) -> u64 {
         match self {
             Self::Clearance => drawing.allowances.clearance,

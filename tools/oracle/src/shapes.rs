@@ -9,8 +9,8 @@ use crate::{
     random::Random,
     refusals::{Limits, CALL_LIMITS, PROGRAM_LIMITS},
     values::{
-        ANY_BITS, DECIMALS, GRID, GRID_EDGE, GRID_END, GRID_STEP, HUGE, SUBNORMAL, TINY, WIDE,
-        ZEROS,
+        ANY_BITS, DECIMALS, GRID, GRID_EDGE, GRID_END, GRID_STEP, HUGE, NEIGHBOURS, SUBNORMAL,
+        TINY, WIDE, ZEROS,
     },
 };
 
@@ -282,5 +282,22 @@ pub fn full_size(random: &mut Random) -> Drawing {
     }
     drawing.threshold = random.pick(&[0.0, GRID_STEP, 20.0]);
     drawing.cutoff = random.pick(&[GRID_STEP, 20.0, 3_000.0]);
+    drawing
+}
+
+/// Wires of any length, for separation's tree. No nodes and a cutoff of 0 keep
+/// the other measures short.
+pub fn many_wires(random: &mut Random) -> Drawing {
+    let palette = random.pick(&[DECIMALS, NEIGHBOURS, HUGE, SUBNORMAL, ANY_BITS, ZEROS, WIDE]);
+    let nets = random.pick(&[2, 300]);
+    let lengths = Limits {
+        segments: CALL_LIMITS.segments - random.below(2_097),
+        nodes: 0,
+        exemptions: 0,
+    };
+    let mut maker = Maker::new(palette, &CALL_LIMITS, random);
+    maker.nets = nets;
+    let mut drawing = maker.drawing(lengths);
+    drawing.cutoff = 0.0;
     drawing
 }

@@ -28,19 +28,42 @@ same-length : tie.Need-same-length
 same-length c = search needs
 
 returns : tie.Need-returns
-returns c = few-swept (now (c .before .before .before .before .before .before .before .before .before .before .before .args .s)) (c .before .before .before .order-rows .last .0) _ _ (segmentColumns (now (c .before .before .before .before .before .before .before .before .before .before .before .args .net)) (now (c .before .before .before .before .before .before .before .before .before .before .before .args .orientation)) (now (c .before .before .before .before .before .before .before .before .before .before .before .args .fixed)) (now (c .before .before .before .before .before .before .before .before .before .before .before .args .start)) (now (c .before .before .before .before .before .before .before .before .before .before .before .args .end))) (c .before .before .before .before .before .before .before .before .before .before .before .pre) (c .before .before .before .order-rows .ensures .0) _ (c .if1 .taken)
+returns c =
+    let rows = c .before .before .before in
+    let start = rows .before .before .before .before .before .before .before .before in
+    let a = start .args in
+    let columns = segmentColumns (now (a .net)) (now (a .orientation)) (now (a .fixed)) (now (a .start)) (now (a .end)) in
+    few-swept (now (a .s)) (rows .order-rows .last .0) _ _ columns (start .pre) (rows .order-rows .ensures .0) _ (c .if1 .taken)
 
 make-tables-requires : tie.Need-make-tables-requires
-make-tables-requires c κs = at-rows (now (c .before .before .before .before .before .before .before .before .before .before .before .before .args .s)) (c .before .before .before .before .order-rows .last .0) _ _ (segmentColumns (now (c .before .before .before .before .before .before .before .before .before .before .before .before .args .net)) (now (c .before .before .before .before .before .before .before .before .before .before .before .before .args .orientation)) (now (c .before .before .before .before .before .before .before .before .before .before .before .before .args .fixed)) (now (c .before .before .before .before .before .before .before .before .before .before .before .before .args .start)) (now (c .before .before .before .before .before .before .before .before .before .before .before .before .args .end))) (c .before .before .before .before .before .before .before .before .before .before .before .before .pre) (c .before .before .before .before .order-rows .ensures .0) (c .before .before .before .before .order-rows .kept .0) (c .before .before .before .before .order-rows .ensures .1)
+make-tables-requires c κs =
+    let rows = c .before .before .before .before in
+    let start = rows .before .before .before .before .before .before .before .before in
+    let a = start .args in
+    let columns = segmentColumns (now (a .net)) (now (a .orientation)) (now (a .fixed)) (now (a .start)) (now (a .end)) in
+    at-rows (now (a .s)) (rows .order-rows .last .0) _ _ columns (start .pre) (rows .order-rows .ensures .0) (rows .order-rows .kept .0)
 
 sweep-tables-requires : tie.Need-sweep-tables-requires
-sweep-tables-requires c κs = at-tables (now (c .before .before .before .before .before .before .before .before .before .before .before .before .before .before .before .before .args .s)) (c .before .before .before .before .before .before .before .before .order-rows .last .0) _ _ (segmentColumns (now (c .before .before .before .before .before .before .before .before .before .before .before .before .before .before .before .before .args .net)) (now (c .before .before .before .before .before .before .before .before .before .before .before .before .before .before .before .before .args .orientation)) (now (c .before .before .before .before .before .before .before .before .before .before .before .before .before .before .before .before .args .fixed)) (now (c .before .before .before .before .before .before .before .before .before .before .before .before .before .before .before .before .args .start)) (now (c .before .before .before .before .before .before .before .before .before .before .before .before .before .before .before .before .args .end))) (c .before .before .before .before .before .before .before .before .before .before .before .before .before .before .before .before .pre) (c .before .before .before .before .before .before .before .before .order-rows .ensures .0) (c .before .before .before .before .before .before .before .before .order-rows .kept .0) (c .before .before .before .before .before .before .before .before .order-rows .ensures .1) _ (c .before .before .before .make-tables .kept .0) _ (c .before .before .before .make-tables .ensures) (c .before .before .before .before .before .if1 .left)
+sweep-tables-requires c κs =
+    let made = c .before .before .before in
+    let rows = made .before .before .before .before .before in
+    let start = rows .before .before .before .before .before .before .before .before in
+    let a = start .args in
+    let columns = segmentColumns (now (a .net)) (now (a .orientation)) (now (a .fixed)) (now (a .start)) (now (a .end)) in
+    at-tables (now (a .s)) (rows .order-rows .last .0) _ _ columns (start .pre) (rows .order-rows .ensures .0) (rows .order-rows .kept .0) _ (made .make-tables .kept .0) _ (made .make-tables .ensures) (made .before .before .if1 .left)
 
 same-length-2 : tie.Need-same-length-2
 same-length-2 c = search needs
 
 returns-2 : tie.Need-returns-2
-returns-2 c = more-swept (now (c .before .before .before .before .before .before .before .before .before .before .before .before .before .before .before .before .before .before .before .args .s)) (c .before .before .before .before .before .before .before .before .before .before .before .order-rows .last .0) _ _ (segmentColumns (now (c .before .before .before .before .before .before .before .before .before .before .before .before .before .before .before .before .before .before .before .args .net)) (now (c .before .before .before .before .before .before .before .before .before .before .before .before .before .before .before .before .before .before .before .args .orientation)) (now (c .before .before .before .before .before .before .before .before .before .before .before .before .before .before .before .before .before .before .before .args .fixed)) (now (c .before .before .before .before .before .before .before .before .before .before .before .before .before .before .before .before .before .before .before .args .start)) (now (c .before .before .before .before .before .before .before .before .before .before .before .before .before .before .before .before .before .before .before .args .end))) (c .before .before .before .before .before .before .before .before .before .before .before .before .before .before .before .before .before .before .before .pre) (c .before .before .before .before .before .before .before .before .before .before .before .order-rows .ensures .0) (c .before .before .before .before .before .before .before .before .before .before .before .order-rows .kept .0) (c .before .before .before .before .before .before .before .before .before .before .before .order-rows .ensures .1) _ (c .before .before .before .before .before .before .make-tables .kept .0) _ (c .before .before .before .before .before .before .make-tables .ensures) _ _ (c .before .before .before .before .before .before .before .before .if1 .left) (c .before .before .sweep-tables .ensures)
+returns-2 c =
+    let swept = c .before .before in
+    let made = swept .before .before .before .before in
+    let rows = made .before .before .before .before .before in
+    let start = rows .before .before .before .before .before .before .before .before in
+    let a = start .args in
+    let columns = segmentColumns (now (a .net)) (now (a .orientation)) (now (a .fixed)) (now (a .start)) (now (a .end)) in
+    more-swept (now (a .s)) (rows .order-rows .last .0) _ _ columns (start .pre) (rows .order-rows .ensures .0) (rows .order-rows .kept .0) _ (made .make-tables .kept .0) _ (made .make-tables .ensures) _ _ (made .before .before .if1 .left) (swept .sweep-tables .ensures)
 
 pub sweep-along-spec : {M : Type 1} → statement M
 sweep-along-spec =

@@ -1,0 +1,101 @@
+-- The members of a set of places: none in words that are 0 and none beyond the words; one more, one less. Assumes nothing.
+use mathlib.Core.Path.{_≡_, refl, _∙_}
+use mathlib.Core.Logic.{inl, inr}
+use mathlib.Core.Bool.{Bool, false, not, _&&_, _||_}
+use mathlib.Core.List.{List, [], _∷_}
+use Prim.Native.Nat.{ℕ, zero, suc, _+_, _-_, _/_, _%_, _^_, _≤_, _<_}
+use native.Mathlib.Omega.{arith}
+use borrow.Author.Tests.{eq-eqb, ne-eqb}
+use lib.Dec.{eqb}
+use lib.ListN.{length, getD, set, replicate, length-set, List·getD-eq-default}
+use lib.Seq.{getD-set-same, getD-set-other, set-out}
+use Rattle.laws.specs.Lists.{All}
+use Rattle.laws.proofs.Tests.{decide, same-or-not}
+use Rattle.bitset.specs.Members.{bitAt, member, inserted, removed}
+use Rattle.bitset.proofs.Digits.{bit-zero, bit-set, bit-set-other, bit-clear, bit-clear-other}
+
+member-bit : (w : List ℕ) (p : ℕ) {b : Bool} → member w p ≡ b → bitAt (getD w (p / 64) 0) (p % 64) ≡ b
+unfolding member
+member-bit w p m = m
+
+-- ---- no members
+none-at : (w : List ℕ) (p : ℕ) → getD w (p / 64) 0 ≡ 0 → member w p ≡ false
+unfolding member
+none-at w p e = rw e (bit-zero (p % 64))
+
+pub member-beyond : (w : List ℕ) (p : ℕ) → length w ≤ p / 64 → member w p ≡ false
+member-beyond w p h = none-at w p (List·getD-eq-default w 0 {n = p / 64} h)
+
+zero-word : (w : List ℕ) → All (λ x. x ≡ 0) w → (i : ℕ) → getD w i 0 ≡ 0
+zero-word [] h i = refl
+zero-word (x ∷ w) h zero = h .0
+zero-word (x ∷ w) h (suc i) = zero-word w (h .1) i
+
+-- words that are 0 hold no members
+pub member-zeros : (w : List ℕ) → All (λ x. x ≡ 0) w → (p : ℕ) → member w p ≡ false
+member-zeros w h p = none-at w p (zero-word w h (p / 64))
+
+all-zero : (n : ℕ) → All (λ x. x ≡ 0) (replicate {A = ℕ} n 0)
+all-zero zero = tt
+all-zero (suc n) = (refl, all-zero n)
+
+pub member-cleared : (n p : ℕ) → member (replicate {A = ℕ} n 0) p ≡ false
+member-cleared n p = member-zeros (replicate {A = ℕ} n 0) (all-zero n) p
+
+-- ---- another word v takes the place of the word of `place`
+module _ (w : List ℕ) (place v : ℕ) (inside : place / 64 < length w) where
+  put-here : member (set w (place / 64) v) place ≡ bitAt v (place % 64)
+  unfolding member
+  put-here = rw (getD-set-same w (place / 64) v 0 inside)
+
+  -- it differs in that bit alone
+  put-other : ((j : ℕ) → (j ≡ place % 64 → ⊥) → bitAt v j ≡ bitAt (getD w (place / 64) 0) j) → (p : ℕ) → (p ≡ place → ⊥) → member (set w (place / 64) v) p ≡ member w p
+  unfolding member
+  put-other keeps p n = elim (same-or-not (p / 64) (place / 64)) [
+    | inl e ↦ rw (e, getD-set-same w (place / 64) v 0 inside) (keeps (p % 64) (λ f. n (omega arith)))
+    | inr e ↦ rw (getD-set-other w (place / 64) (p / 64) v 0 e)
+  ]
+
+-- ---- a place put in
+pub length-inserted : (w : List ℕ) (place : ℕ) → length (inserted w place) ≡ length w
+unfolding inserted
+length-inserted w place = elim (decide (member w place)) [ inl m ↦ rw m | inr m ↦ rw m (length-set w (place / 64) (getD w (place / 64) 0 + 2 ^ (place % 64))) ]
+
+pub inserted-beyond : (w : List ℕ) (place : ℕ) → length w ≤ place / 64 → inserted w place ≡ w
+unfolding inserted
+inserted-beyond w place h = rw (member-beyond w place h) (set-out w (place / 64) (getD w (place / 64) 0 + 2 ^ (place % 64)) h)
+
+pub member-inserted : (w : List ℕ) (place : ℕ) → place / 64 < length w → (p : ℕ) → member (inserted w place) p ≡ (eqb p place || member w p)
+unfolding inserted
+member-inserted w place h p = elim (same-or-not p place) [
+  | inl e ↦ rw (e, eq-eqb place place refl) (elim (decide (member w place)) [ inl m ↦ rw m m | inr m ↦ rw m (put-here w place (x + 2 ^ k) h ∙ bit-set x k (member-bit w place m)) ])
+  | inr n ↦ rw (ne-eqb p place n) (elim (decide (member w place)) [ inl m ↦ rw m | inr m ↦ rw m (put-other w place (x + 2 ^ k) h (bit-set-other x k (member-bit w place m)) p n) ])
+]
+  where
+    x : ℕ
+    x = getD w (place / 64) 0
+
+    k : ℕ
+    k = place % 64
+
+-- ---- a place taken out
+pub length-removed : (w : List ℕ) (place : ℕ) → length (removed w place) ≡ length w
+unfolding removed
+length-removed w place = elim (decide (member w place)) [ inl m ↦ rw m (length-set w (place / 64) (getD w (place / 64) 0 - 2 ^ (place % 64))) | inr m ↦ rw m ]
+
+pub removed-beyond : (w : List ℕ) (place : ℕ) → length w ≤ place / 64 → removed w place ≡ w
+unfolding removed
+removed-beyond w place h = rw (member-beyond w place h)
+
+pub member-removed : (w : List ℕ) (place : ℕ) → place / 64 < length w → (p : ℕ) → member (removed w place) p ≡ (not (eqb p place) && member w p)
+unfolding removed
+member-removed w place h p = elim (same-or-not p place) [
+  | inl e ↦ rw (e, eq-eqb place place refl) (elim (decide (member w place)) [ inl m ↦ rw m (put-here w place (x - 2 ^ k) h ∙ bit-clear x k (member-bit w place m)) | inr m ↦ rw m m ])
+  | inr n ↦ rw (ne-eqb p place n) (elim (decide (member w place)) [ inl m ↦ rw m (put-other w place (x - 2 ^ k) h (bit-clear-other x k (member-bit w place m)) p n) | inr m ↦ rw m ])
+]
+  where
+    x : ℕ
+    x = getD w (place / 64) 0
+
+    k : ℕ
+    k = place % 64

@@ -1,0 +1,29 @@
+-- A set of places kept as the bits of 64-bit words: place p is in it where bit p % 64 of word p / 64 is set. Beyond the words there are no members.
+use mathlib.Core.Bool.{Bool, cond}
+use mathlib.Core.List.{List}
+use Prim.Native.Nat.{ℕ, zero, suc, _+_, _-_, _/_, _%_, _^_}
+use lib.Dec.{leb, eqb}
+use lib.ListN.{getD, set}
+use Rattle.bitset.specs.declared.Last.{Last}
+use Rattle.bitset.specs.declared.Last.the-variants.{Found, Empty}
+
+-- bit k of x is set
+unfoldable pub bitAt : ℕ → ℕ → Bool
+bitAt x k = eqb (x / 2 ^ k % 2) 1
+
+-- p is in the set
+unfoldable pub member : List ℕ → ℕ → Bool
+member w p = bitAt (getD w (p / 64) 0) (p % 64)
+
+-- the words with p put in; where p lies beyond them they stay as they are, since `set` changes nothing there
+unfoldable pub inserted : List ℕ → ℕ → List ℕ
+inserted w p = cond (member w p) w (set w (p / 64) (getD w (p / 64) 0 + 2 ^ (p % 64)))
+
+-- the words with p taken out, likewise
+unfoldable pub removed : List ℕ → ℕ → List ℕ
+removed w p = cond (member w p) (set w (p / 64) (getD w (p / 64) 0 - 2 ^ (p % 64))) w
+
+-- the greatest member from `from` on and below `to`, looked for from the top
+unfoldable pub lastBelow : List ℕ → ℕ → ℕ → Last
+lastBelow w from zero = Empty
+lastBelow w from (suc t) = cond (leb from t) (cond (member w t) (Found t) (lastBelow w from t)) Empty

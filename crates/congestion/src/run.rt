@@ -1,0 +1,74 @@
+// The sweep over all events of one orientation. The scratch holds the tables of its n wires (8 n words) and behind them the words that the sweep changes.
+ghost use mathlib.Core.Path.{_≡_};
+ghost use Rattle.laws.specs.Charged.{within};
+ghost use Rattle.congestion.specs.Sweep.{oriented};
+ghost use Rattle.congestion.specs.Sweeping.{AtEvent, Handles, AtFirst, sweptOf};
+use crate::sweep::Handled;
+use crate::sweep::Sweeping;
+use crate::sweep::end_event;
+use crate::sweep::start_event;
+use drawing::Gap;
+use floats::float_of_key;
+
+// The figures of one orientation, and how many visits are left.
+pub(crate) struct Found {
+    pub congested_length: f64,
+    pub pair_overlap_length: f64,
+    pub peak_close_neighbors: usize,
+    pub minimum_positive: Gap,
+    pub left: usize,
+}
+
+// What the sweep found, or that the allowance is spent.
+pub(crate) enum Swept {
+    Went(Found),
+    Spent,
+}
+
+// Event e: below n it is the end of wire e, else the start of wire e - n.
+fn handle_event(s: &mut [u64], n: usize, e: usize, state: Sweeping) -> Handled
+    requires { ⌜ AtEvent (now s) n e state ⌝ }
+    ensures { λ r. ⌜ Handles (now (s .entry)) (now (s .exit)) n e state r ⌝ }
+{
+    if e < n {
+        return end_event(s, n, e, state);
+    }
+    start_event(s, n, e - n, state)
+}
+
+// The events in order, from no active wire and the coordinate of the first one. The key of event e, be it an end or a start, is word 2 n + e.
+pub(crate) fn run_events(s: &mut [u64], n: usize, allowance: usize) -> Swept
+    requires { ⌜ AtFirst (now s) n ⌝ }
+    ensures { λ r. ⌜ ((a : AtFirst (now (s .entry)) n) → r ≡ sweptOf (within allowance (oriented (a .c) (a .L)))) ⌝ }
+{
+    let first = s[0] as usize;
+    let coordinate = float_of_key(s[2 * n + first]);
+    let mut state = Sweeping {
+        congested_active: 0,
+        congested_length: 0.0,
+        close_pairs: 0,
+        pair_overlap_length: 0.0,
+        peak_close_neighbors: 0,
+        minimum_positive: Gap::Absent,
+        previous: coordinate,
+        left: allowance,
+    };
+    let mut q = 0;
+    while q < 2 * n {
+        let e = s[q] as usize;
+        let handled = handle_event(s, n, e, state);
+        let Handled::Went(next) = handled else {
+            return Swept::Spent;
+        };
+        state = next;
+        q += 1;
+    }
+    let minimum = state.minimum_positive;
+    Swept::Went(Found {
+        congested_length: state.congested_length,
+        pair_overlap_length: state.pair_overlap_length,
+        peak_close_neighbors: state.peak_close_neighbors,
+        minimum_positive: minimum,
+        left: state.left,
+    })
+}

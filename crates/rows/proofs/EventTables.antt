@@ -1,0 +1,44 @@
+-- The numbers of the events put in order by their keys are the events in order. Assumes nothing.
+use mathlib.Core.Path.{_≡_, refl, sym, ap, _∙_, subst}
+use mathlib.Core.List.{List, [], _∷_, _++_, map}
+use Prim.Native.Nat.{ℕ, suc, _+_, _*_, _≤_}
+use native.Mathlib.Omega.{arith}
+use lib.ListN.{length, getD, take, drop, length-drop}
+use lib.Seq.{getD-drop}
+use Rattle.laws.specs.Sort.{sortBy}
+use Rattle.sorting.specs.Sorted.{upTo, sorted}
+use Rattle.sorting.proofs.Entries.{Ordered, all-ordered}
+use Rattle.sorting.proofs.Events.{both, events-ordered}
+use Rattle.rows.specs.Rows.{Row, Event, ends, starts, moment, eventsInOrder, eventsFrom, events}
+use Rattle.rows.specs.Tables.{noRow, eventFrom, column, EventsOrdered}
+use Rattle.rows.proofs.ColumnParts.{row-word}
+
+events-both : (i : ℕ) (l : List Row) → both ends starts i l ≡ eventsFrom i l
+unfolding eventsFrom
+events-both i [] = refl
+events-both i (r ∷ l) = ap (λ (t : List Event). ends i r ∷ starts i r ∷ t) (events-both (suc i) l)
+
+module _ (s o : List ℕ) (l : List Row) where
+  events-of : Ordered s (2 * length l) (2 * length l) 1 o → 4 * length l ≤ length s → column (length l) 2 s ≡ map (λ r. r .end) l → column (length l) 3 s ≡ map (λ r. r .start) l → map (eventFrom l) (take (2 * length l) o) ≡ events l
+  unfolding events moment
+  events-of h room e b =
+      let n = length l in
+      let k = drop (2 * n) s in
+      let long : 2 * n ≤ length k = omega (arith, length-drop (2 * n) s) in
+      ap (map (eventFrom l)) (h .column)
+      ∙ events-ordered ends starts noRow l moment k long
+      (λ j q. λ i. (sym (row-word l 2 j s (λ r. r .end) e q) ∙ sym (getD-drop (2 * n) s j 0)) i ∷ 0 ∷ j ∷ [])
+      (λ j q.
+      let at : 3 * n + j ≡ 2 * n + (n + j) = omega arith in
+      λ i. (sym (row-word l 3 j s (λ r. r .start) b q) ∙ ap (λ (p : ℕ). getD s p 0) at ∙ sym (getD-drop (2 * n) s (n + j) 0)) i ∷ 1 ∷ j ∷ [])
+      ∙ ap (sortBy eventsInOrder) (events-both 0 l)
+
+-- r is s with all numbers in front, and o is r with the numbers in order
+pub events-are : (s r o : List ℕ) (n : ℕ) → 4 * n ≤ length s → r ≡ upTo (2 * n) ++ drop (2 * n) s → o ≡ sorted r (2 * n) (2 * n) 1 → EventsOrdered n s o
+events-are s r o n room e g =
+    let h = all-ordered s r o (2 * n) (2 * n) 1 (omega arith) (omega arith) e g in
+    record {
+      rest = h .rest;
+      small = h .small;
+      ordered = λ l q. subst (λ (n : ℕ). Ordered s (2 * n) (2 * n) 1 o → 4 * n ≤ length s → column n 2 s ≡ map (λ r. r .end) l → column n 3 s ≡ map (λ r. r .start) l → map (eventFrom l) (take (2 * n) o) ≡ events l) q (events-of s o l) h room;
+    }

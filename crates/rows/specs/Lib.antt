@@ -1,0 +1,3 @@
+-- The definitions, a file for each notion.
+pub mod Rows
+pub mod Tables

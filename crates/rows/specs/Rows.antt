@@ -1,0 +1,67 @@
+-- The segments of one orientation as rows in the Rust's own order, and their events in order: what the sweeps of separation and of congestion go over.
+use mathlib.Core.Bool.{Bool}
+use mathlib.Core.List.{List, [], _∷_}
+use Prim.Native.Nat.{ℕ, suc}
+use lib.Dec.{eqb}
+use lib.Ieee.{Float}
+use Rattle.laws.specs.Lists.{chosen}
+use Rattle.laws.specs.Rows.{rowLe}
+use Rattle.laws.specs.Sort.{sortBy}
+use Rattle.floats.specs.TotalOrder.{keyOf}
+use Rattle.floats.specs.Values.{canonicalZero}
+use Rattle.drawing.specs.Entries.{Segment}
+use Rattle.drawing.specs.Orders.{segmentsInOrder}
+
+-- a segment's coordinates as these measures take them: "Zeros become +0." and "Congestion turns -0 into +0 first, as separation does."
+unfoldable pub fixedOf : Segment → Float
+fixedOf s = canonicalZero (s .fixed)
+
+unfoldable pub startOf : Segment → Float
+startOf s = canonicalZero (s .start)
+
+-- where a segment stops counting: at its end. Separation's figures and walk read the end here only.
+unfoldable pub endOf : Segment → Float
+endOf s = canonicalZero (s .end)
+
+-- a segment's net, and its coordinates by their places in totalOrder, `line` being that of the fixed one
+pub record Row : Type 0 where
+  pub net : ℕ
+  pub line : ℕ
+  pub start : ℕ
+  pub end : ℕ
+
+unfoldable pub rowOf : Segment → Row
+rowOf s = record { net = s .net; line = keyOf (fixedOf s); start = keyOf (startOf s); end = keyOf (endOf s) }
+
+-- the Rust's own order: fixed, start, end, net
+unfoldable pub words : Row → List ℕ
+words r = r .line ∷ r .start ∷ r .end ∷ r .net ∷ []
+
+abbrev pub rowsInOrder : Row → Row → Bool
+rowsInOrder a b = rowLe (words a) (words b)
+
+-- the segments of one orientation: "Each measure walks as if its segments came in the order net, orientation byte, fixed, start, end .. The Rust's own orders then follow, and what they leave tied keeps this order"
+unfoldable pub oriented : ℕ → List Segment → List Row
+oriented o l = sortBy rowsInOrder (chosen (λ s. eqb (s .orientation) o) rowOf (segmentsInOrder l))
+
+-- ---- the events
+-- each segment ends and starts; its index is its place in the Rust's own order
+pub data Event : Type 0 where
+  ends starts : ℕ → Row → Event
+
+-- events come by coordinate, ends before starts, then by index
+unfoldable pub moment : Event → List ℕ
+moment (ends i r) = r .end ∷ 0 ∷ i ∷ []
+moment (starts i r) = r .start ∷ 1 ∷ i ∷ []
+
+abbrev pub eventsInOrder : Event → Event → Bool
+eventsInOrder d e = rowLe (moment d) (moment e)
+
+-- the events of rows whose indices begin at i
+unfoldable pub eventsFrom : ℕ → List Row → List Event
+eventsFrom i [] = []
+eventsFrom i (r ∷ l) = ends i r ∷ starts i r ∷ eventsFrom (suc i) l
+
+-- the events in order
+unfoldable pub events : List Row → List Event
+events l = sortBy eventsInOrder (eventsFrom 0 l)

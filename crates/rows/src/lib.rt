@@ -1,0 +1,7 @@
+// The segments of one orientation as rows in the Rust's own order, and their events in order: what the sweeps of separation and of congestion go over.
+pub mod events;
+pub mod rows;
+
+pub use events::order_events;
+pub use rows::order_rows;
+pub use rows::spread_rows;

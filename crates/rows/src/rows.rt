@@ -1,0 +1,146 @@
+// The segments of one orientation as rows of four words, put in the Rust's own order and spread over columns.
+ghost use mathlib.Core.Path.{_≡_};
+ghost use mathlib.Core.List.{List};
+ghost use Prim.Native.Nat.{_+_, _*_, _≤_, _<_};
+ghost use lib.ListN.{length, drop};
+ghost use lib.Seq.{paste};
+ghost use Rattle.floats.specs.TotalOrder.{keyOf};
+ghost use Rattle.floats.specs.Values.{canonicalZero};
+ghost use Rattle.drawing.specs.Entries.{segmentColumns, segments};
+ghost use Rattle.rows.specs.Rows.{Row, words, oriented};
+ghost use Rattle.rows.specs.Tables.{Orderable, RowsOrdered, Spreadable, Spread, RowAdded, Gathered, ColumnSpread};
+use drawing::segments_differ;
+use floats::canonical_zero;
+use floats::key_of;
+use sorting::fill_places;
+use sorting::rows_fit;
+use sorting::sort_indices;
+
+// The four words of a row, from `at` on. Zeros become +0.
+fn put_row(s: &mut [u64], at: usize, net: u32, fixed: f64, start: f64, end: f64)
+    requires { ⌜ at + 4 ≤ length (now s) ⌝ }
+    ensures { λ _. ⌜ now (s .exit) ≡ paste (now (s .entry)) at (words (record { net = net; line = keyOf (canonicalZero fixed); start = keyOf (canonicalZero start); end = keyOf (canonicalZero end) })) 4 ⌝ }
+{
+    let line = key_of(canonical_zero(fixed));
+    let first = key_of(canonical_zero(start));
+    let last = key_of(canonical_zero(end));
+    s[at] = line;
+    s[at + 1] = first;
+    s[at + 2] = last;
+    s[at + 3] = net as u64;
+}
+
+// The row of a segment goes behind the n rows of the table that begins at word t, where its orientation is the wanted one. The answer is how many rows there are then.
+fn add_row(
+    p: &mut [u64],
+    t: usize,
+    n: usize,
+    wanted: u8,
+    net: u32,
+    orientation: u8,
+    fixed: f64,
+    start: f64,
+    end: f64,
+) -> usize
+    requires { ⌜ t + 4 * n + 4 ≤ length (now p) ⌝ }
+    ensures { λ r. ⌜ RowAdded t n wanted (record { net = net; orientation = orientation; fixed = fixed; start = start; end = end }) (now (p .entry)) (now (p .exit)) r ⌝ }
+{
+    if orientation != wanted {
+        return n;
+    }
+    let at = t + 4 * n;
+    put_row(p, at, net, fixed, start, end);
+    n + 1
+}
+
+// The rows of the segments with the wanted orientation byte, in a table that begins at the word net.len(). The answer is how many there are.
+fn gather_rows(
+    p: &mut [u64],
+    wanted: u8,
+    net: &[u32],
+    orientation: &[u8],
+    fixed: &[f64],
+    start: &[f64],
+    end: &[f64],
+) -> usize
+    requires { ⌜ Orderable (segmentColumns (now net) (now orientation) (now fixed) (now start) (now end)) (length (now p)) ⌝ }
+    ensures { λ r. ⌜ Gathered (length (now (net .entry))) wanted (segmentColumns (now (net .entry)) (now (orientation .entry)) (now (fixed .entry)) (now (start .entry)) (now (end .entry))) (now (p .entry)) (now (p .exit)) r ⌝ }
+{
+    let t = net.len();
+    let mut n = 0;
+    let mut i = 0;
+    while i < net.len() {
+        n = add_row(
+            p,
+            t,
+            n,
+            wanted,
+            net[i],
+            orientation[i],
+            fixed[i],
+            start[i],
+            end[i],
+        );
+        i += 1;
+    }
+    n
+}
+
+// The places of these rows in the Rust's own order, in the first words of p, and behind net.len() words the rows themselves. The answer is how many there are. Where the columns differ in length or p is too short, the answer is 0 and p stays as it is.
+pub fn order_rows(
+    p: &mut [u64],
+    wanted: u8,
+    net: &[u32],
+    orientation: &[u8],
+    fixed: &[f64],
+    start: &[f64],
+    end: &[f64],
+) -> usize
+    ensures ordered { λ r. ⌜ (Orderable (segmentColumns (now (net .entry)) (now (orientation .entry)) (now (fixed .entry)) (now (start .entry)) (now (end .entry))) (length (now (p .entry))) → (r ≡ length (oriented wanted (segments (segmentColumns (now (net .entry)) (now (orientation .entry)) (now (fixed .entry)) (now (start .entry)) (now (end .entry)))))) × RowsOrdered (oriented wanted (segments (segmentColumns (now (net .entry)) (now (orientation .entry)) (now (fixed .entry)) (now (start .entry)) (now (end .entry))))) (length (now (net .entry))) (now (p .exit))) ⌝ }
+    ensures refused { λ r. ⌜ ((Orderable (segmentColumns (now (net .entry)) (now (orientation .entry)) (now (fixed .entry)) (now (start .entry)) (now (end .entry))) (length (now (p .entry))) → ⊥) → (r ≡ 0) × (now (p .exit) ≡ now (p .entry))) ⌝ }
+{
+    if segments_differ(net, orientation, fixed, start, end) {
+        return 0;
+    }
+    if p.len() / 5 < net.len() {
+        return 0;
+    }
+    let n = gather_rows(p, wanted, net, orientation, fixed, start, end);
+    fill_places(&mut p[0..n]);
+    sort_indices(p, n, net.len(), 4);
+    n
+}
+
+// One word of each row, in the order of the rows, from word `to` on. The places of the rows stand from word `from` on, their table `table` words further on.
+fn spread_column(s: &mut [u64], n: usize, from: usize, table: usize, word: usize, to: usize)
+    requires { ⌜ Spreadable n from table (now s) × (word < 4) × (to + n ≤ from) ⌝ }
+    ensures { λ _. ⌜ ColumnSpread n from table word to (now (s .entry)) (now (s .exit)) ⌝ }
+{
+    let mut j = 0;
+    while j < n {
+        let row = s[from + j] as usize;
+        let value = s[from + table + 4 * row + word];
+        s[to + j] = value;
+        j += 1;
+    }
+}
+
+// The ordered rows column by column: the nets, the lines, the starts and the ends. The last column is written first, so that behind each one nothing changes any more. A slice that has no room for the columns, or not the whole row of every place, stays as it is.
+pub fn spread_rows(s: &mut [u64], n: usize, from: usize, table: usize)
+    ensures spread { λ _. ⌜ (Spreadable n from table (now (s .entry)) → (l : List Row) → length l ≡ n → RowsOrdered l table (drop from (now (s .entry))) → Spread l (now (s .exit))) ⌝ }
+    ensures refused { λ _. ⌜ ((Spreadable n from table (now (s .entry)) → ⊥) → now (s .exit) ≡ now (s .entry)) ⌝ }
+{
+    if from / 6 < n {
+        return;
+    }
+    if s.len() < from {
+        return;
+    }
+    if !rows_fit(&s[from..], n, table, 4) {
+        return;
+    }
+    spread_column(s, n, from, table, 3, 5 * n);
+    spread_column(s, n, from, table, 0, 4 * n);
+    spread_column(s, n, from, table, 1, 3 * n);
+    spread_column(s, n, from, table, 2, 2 * n);
+}

@@ -1,0 +1,31 @@
+-- The lines of one orientation: the different fixed values of its rows, and the levels of the tree over them.
+use mathlib.Core.Bool.{Bool, true, not, cond}
+use mathlib.Core.List.{List, [], _∷_, map}
+use Prim.Native.Nat.{ℕ, suc, _-_}
+use lib.Dec.{ltb, eqb}
+use lib.Ieee.{size}
+use Rattle.laws.specs.Lists.{put}
+use Rattle.rows.specs.Rows.{Row}
+
+-- p differs from the first entry of a list
+abbrev pub differs : ℕ → List ℕ → Bool
+differs p [] = true
+differs p (q ∷ l) = not (eqb p q)
+
+-- of entries that are equal and stand side by side only the last stays
+unfoldable pub distinct : List ℕ → List ℕ
+distinct [] = []
+distinct (p ∷ l) = put (differs p l) p (distinct l)
+
+-- the different fixed values of segments in order, rising
+unfoldable pub lines : List Row → List ℕ
+lines l = distinct (map (λ r. r .line) l)
+
+-- the place of a fixed value among them
+unfoldable pub index : List ℕ → ℕ → ℕ
+index [] p = 0
+index (q ∷ l) p = let i = index l p in cond (ltb q p) (suc i) 0
+
+-- the levels h of the tree over n lines: "2 to the power h its leaf count", the least power that is not below n. h is the number of binary digits of n - 1.
+unfoldable pub levels : ℕ → ℕ
+levels n = size (n - 1)
