@@ -1,6 +1,7 @@
 -- The laws of the definitions, a file for each notion. Other crates cite these.
 pub mod Oriented
 pub mod ColumnParts
+pub mod LentRows
 -- what the functions' proofs lean on
 pub mod RowTables
 pub mod SpreadTables
