@@ -1,23 +1,22 @@
 -- Tables of rows of five words, filled row by row, and the places of the segments put in order by theirs. Assumes nothing.
 use mathlib.Core.Path.{_≡_, refl, sym, ap, subst, _∙_}
-use mathlib.Core.Logic.{inl, inr}
 use mathlib.Core.Bool.{Bool, true, false}
-use mathlib.Core.List.{List, [], _∷_, _++_, append-assoc, map}
+use mathlib.Core.List.{List, [], _∷_, _++_, map}
 use Prim.Native.Nat.{ℕ, zero, suc, _+_, _*_, _≤_, _<_}
-use native.Mathlib.Numerals.{add-one}
 use native.Mathlib.Omega.{arith}
 use borrow.Author.Count.{below-more}
 use lib.ListN.{length, getD, take, drop, set}
-use lib.Seq.{paste, sets-eq, length-paste, drop-paste, length-front, take-at, drop-at, take-all, take-take, drop-drop, drop-cons, set-at, append-snoc, length-take-le}
-use Rattle.laws.specs.Lists.{Mem, All}
+use lib.Seq.{paste, sets-eq, length-paste, drop-paste, length-front, take-at, drop-at, drop-drop, length-take-le}
+use Rattle.laws.specs.Lists.{All}
 use Rattle.laws.specs.Perm.{Perm}
 use Rattle.laws.specs.Sort.{sortBy}
 use Rattle.laws.proofs.ListLaws.{mem-all, mem-map}
-use Rattle.laws.proofs.Parts.{drop-past}
+use Rattle.laws.proofs.Parts.{drop-past, part-same}
 use Rattle.laws.proofs.Perms.{perm-all, perm-sym}
 use Rattle.laws.proofs.Sorting.{sort-perm}
 use Rattle.sorting.specs.Sorted.{upTo, sortable, sorted, before}
-use Rattle.sorting.proofs.Entries.{sorted-length, sorted-rest, sorted-column, sorted-entries, upTo-next, upTo-below, upTo-entries, upTo-sortable, length-upTo}
+use Rattle.sorting.proofs.Entries.{sorted-length, sorted-rest, sorted-column, sorted-entries, upTo-below, upTo-placed, upTo-sortable, length-upTo}
+use Rattle.sorting.proofs.Tables.{row-front, row-there}
 use Rattle.floats.specs.TotalOrder.{keyOf}
 use Rattle.drawing.specs.Entries.{Segment, SegmentColumns, NodeColumns, segments}
 use Rattle.drawing.specs.Lengths.{SegmentsAgree}
@@ -38,28 +37,7 @@ five-stores s at a b c d e h =
     let four : at + 4 ≡ suc (suc (suc (suc at))) = omega arith in
     (λ i. set (set (set (set (set s at a) (one i) b) (two i) c) (three i) d) (four i) e) ∙ sets-eq (a ∷ b ∷ c ∷ d ∷ e ∷ []) s at h
 
--- ---- the column of all places
-pub place-more : (s : List ℕ) (n : ℕ) → n < length s → set (upTo n ++ drop n s) n n ≡ upTo (n + 1) ++ drop (n + 1) s
-place-more s n h =
-    ap (λ (l : List ℕ). set (upTo n ++ l) n n) (drop-cons s n 0 h)
-    ∙ set-at (upTo n) (getD s n 0) (drop (suc n) s) n n (length-upTo n)
-    ∙ sym (append-snoc (upTo n) n (drop (suc n) s))
-    ∙ (λ i. sym (upTo-next n) i ++ drop (sym (add-one n) i) s)
-
-pub places-all : (s r : List ℕ) (i n : ℕ) → i ≤ n → n ≤ i → r ≡ upTo i ++ drop i s → r ≡ upTo n ++ drop n s
-places-all s r i n a b e = let h : i ≡ n = omega arith in subst (λ (k : ℕ). r ≡ upTo k ++ drop k s) h e
-
 -- ---- a table, row by row
--- a part that ends within the first n words is a part of these
-part-of : (j m n : ℕ) (l : List ℕ) → j + m ≤ n → take m (drop j (take n l)) ≡ take m (drop j l)
-part-of zero m n l h = take-take m n l (omega arith)
-part-of (suc j) m zero l h = absurd (omega arith)
-part-of (suc j) m (suc n) [] h = refl
-part-of (suc j) m (suc n) (x ∷ l) h = part-of j m n l (omega arith)
-
-part-same : (j m n : ℕ) (r s : List ℕ) → take n r ≡ take n s → j + m ≤ n → take m (drop j r) ≡ take m (drop j s)
-part-same j m n r s e h = sym (part-of j m n r h) ∙ ap (λ (l : List ℕ). take m (drop j l)) e ∙ part-of j m n s h
-
 take-same : (m n : ℕ) (r s : List ℕ) → take n r ≡ take n s → m ≤ n → take m r ≡ take m s
 take-same m n r s e h = part-same zero m n r s e (omega arith)
 
@@ -72,18 +50,8 @@ module _ (s r row : List ℕ) (at : ℕ) (h : at + 5 ≤ length s) (wide : lengt
   row-length : length r ≡ length s
   row-length = ap length e ∙ length-paste s at row 5 h (omega arith)
 
-  row-front : take at r ≡ take at s
-  row-front = ap (take at) (e ∙ append-assoc (take at s) (take 5 row) (drop (at + 5) s)) ∙ take-at (take at s) (take 5 row ++ drop (at + 5) s) at (length-take-le at s (omega arith))
-
   row-behind : drop (at + 5) r ≡ drop (at + 5) s
   row-behind = ap (drop (at + 5)) e ∙ drop-paste s at row 5 (omega arith) (omega arith)
-
-  row-there : take 5 (drop at r) ≡ row
-  row-there =
-      ap (λ (l : List ℕ). take 5 (drop at l)) (e ∙ append-assoc (take at s) (take 5 row) (drop (at + 5) s))
-      ∙ ap (take 5) (drop-at (take at s) (take 5 row ++ drop (at + 5) s) at (length-take-le at s (omega arith)))
-      ∙ take-at (take 5 row) (drop (at + 5) s) 5 (length-take-le 5 row (omega arith))
-      ∙ take-all 5 row (omega arith)
 
 module _ (f : ℕ → List ℕ) (t : ℕ) (s : List ℕ) where
   pub filled-none : Filled f t 0 s s
@@ -97,11 +65,11 @@ module _ (f : ℕ → List ℕ) (t : ℕ) (s : List ℕ) where
       let past : drop (at + 5) r ≡ drop (at + 5) s = drop-past at (at + 5) r s (u .behind) (omega arith) in
       record {
         same = row-length r q row at room wide e ∙ u .same;
-        front = take-same t at q r (row-front r q row at room wide e) (omega arith) ∙ u .front;
+        front = take-same t at q r (row-front r q row at 5 room wide e) (omega arith) ∙ u .front;
         behind = ap (λ (k : ℕ). drop k q) next ∙ row-behind r q row at room wide e ∙ past ∙ ap (λ (k : ℕ). drop k s) (sym next);
         rows = below-more _ n
-            (λ k b. row-kept t k at q r (row-front r q row at room wide e) (omega arith) ∙ u .rows k b)
-            (let there : t + n * 5 ≡ at = omega arith in ap (take 5) (drop-drop (n * 5) t q ∙ ap (λ (k : ℕ). drop k q) there) ∙ row-there r q row at room wide e ∙ g);
+            (λ k b. row-kept t k at q r (row-front r q row at 5 room wide e) (omega arith) ∙ u .rows k b)
+            (let there : t + n * 5 ≡ at = omega arith in ap (take 5) (drop-drop (n * 5) t q ∙ ap (λ (k : ℕ). drop k q) there) ∙ row-there r q row at 5 room wide e ∙ g);
       }
 
 pub filled-all : (f : ℕ → List ℕ) (t : ℕ) (s : List ℕ) (i n : ℕ) (r : List ℕ) → i ≤ n → n ≤ i → Filled f t i s r → Filled f t n s r
@@ -150,26 +118,15 @@ segment-next c t s n r q f b e u h m x y z g =
     filled-next (segmentRowAt c) t s n r q (segmentAt c n .net ∷ segmentAt c n .orientation ∷ f ∷ b ∷ e ∷ []) u (omega arith) refl (λ i. segmentAt c n .net ∷ segmentAt c n .orientation ∷ x i ∷ y i ∷ z i ∷ []) g
 
 -- ---- the segments in order
-map-same : {A B : Type 0} (f g : A → B) (l : List A) → ((x : A) → Mem x l → f x ≡ g x) → map f l ≡ map g l
-map-same f g [] h = refl
-map-same f g (x ∷ l) h = λ i. h x (inl refl) i ∷ map-same f g l (λ y m. h y (inr m)) i
-
 pub all-places : (n : ℕ) → All (λ i. i < n) (upTo n)
 all-places n = mem-all (λ i. i < n) (upTo n) (upTo-below n)
 
--- the places of n entries stand for the entries, and what holds at every place holds of every entry
-module _ {A : Type 0} (entries : List A) (entry : ℕ → A) (n : ℕ) (whole : length entries ≡ n) (at : (i : ℕ) → i < n → getD entries i (entry 0) ≡ entry i) where
-  pub placed : map entry (upTo n) ≡ entries
-  placed =
-      map-same entry (λ i. getD entries i (entry 0)) (upTo n) (λ i m. sym (at i (upTo-below n i m)))
-      ∙ ap (λ (k : ℕ). map (λ i. getD entries i (entry 0)) (upTo k)) (sym whole)
-      ∙ upTo-entries entries (entry 0)
-
-  pub all-placed : (P : A → Type 0) → ((i : ℕ) → P (entry i)) → All P entries
-  all-placed P h = subst (All P) placed (mem-all P (map entry (upTo n)) (λ x m. let r = mem-map entry (upTo n) x m in subst P (sym (r .2)) (h (r .0))))
+-- what holds at every place of n entries holds of every entry
+pub all-placed : {A : Type 0} (entries : List A) (entry : ℕ → A) (n : ℕ) → length entries ≡ n → ((i : ℕ) → i < n → getD entries i (entry 0) ≡ entry i) → (P : A → Type 0) → ((i : ℕ) → P (entry i)) → All P entries
+all-placed entries entry n whole at P h = subst (All P) (upTo-placed entries entry n whole at) (mem-all P (map entry (upTo n)) (λ x m. let r = mem-map entry (upTo n) x m in subst P (sym (r .2)) (h (r .0))))
 
 segments-placed : (c : SegmentColumns) → SegmentsAgree c → map (segmentAt c) (upTo (length (c .net))) ≡ segments c
-segments-placed c a = placed (segments c) (segmentAt c) (length (c .net)) (length-segments c a) (segments-at c a (segmentAt c 0))
+segments-placed c a = upTo-placed (segments c) (segmentAt c) (length (c .net)) (length-segments c a) (segments-at c a (segmentAt c 0))
 
 segment-wide : (s : Segment) → length (segmentRow s) ≡ 5
 unfolding segmentRow

@@ -18,7 +18,7 @@ use Rattle.laws.proofs.Parts.{tail-lent, tail-back}
 use Rattle.laws.proofs.Tests.{le-or-lt}
 use Rattle.laws.proofs.Runs.{within-enough, within-short, within-free}
 use Rattle.sorting.specs.Sorted.{upTo}
-use Rattle.sorting.proofs.Entries.{length-upTo}
+use Rattle.sorting.proofs.Entries.{length-upTo, upTo-placed}
 use Rattle.drawing.specs.declared.gap.Gap.the-variants.{Absent}
 use Rattle.drawing.specs.declared.refusal.Check.{Check}
 use Rattle.drawing.specs.declared.refusal.Check.the-variants.{Refused as Stopped}
@@ -56,7 +56,7 @@ use Rattle.clearance.proofs.WalkSteps.{walk-bare}
 use Rattle.clearance.proofs.UnionTrees.{rejoined, walk-all-rejoined}
 use Rattle.clearance.proofs.LeafTrees.{build-over}
 use Rattle.clearance.proofs.NodeOrder.{tree-any-nodes}
-use Rattle.clearance.proofs.TableLaws.{all-places, placed, all-placed}
+use Rattle.clearance.proofs.TableLaws.{all-places, all-placed}
 
 -- ---- what the checks tell of the lists
 pub record Sizes (s : SegmentColumns) (n : NodeColumns) (e : ExemptionColumns) (words : ℕ) : Type 0 where
@@ -108,7 +108,7 @@ walked-none ex t ss n a h allowance =
 
 -- ---- the tree in the scratch is the definition's, with the union of the children's boxes at each branch
 nodes-placed : (n : NodeColumns) → NodesAgree n → map (indexedAt n) (upTo (length (n .id))) ≡ map indexed (nodes n)
-nodes-placed n a = sym (map-map indexed (nodeAt n) (upTo (length (n .id)))) ∙ ap (map indexed) (placed (nodes n) (nodeAt n) (length (n .id)) (length-nodes n a) (nodes-at n a (nodeAt n 0)))
+nodes-placed n a = sym (map-map indexed (nodeAt n) (upTo (length (n .id)))) ∙ ap (map indexed) (upTo-placed (nodes n) (nodeAt n) (length (n .id)) (length-nodes n a) (nodes-at n a (nodeAt n 0)))
 
 pub grown-tree : (n : NodeColumns) (g : List ℕ) → NodesAgree n → All FitNode (nodes n) → Grown n g → storedTree (length (n .id)) (drop (11 * length (n .id)) g) 0 (length (n .id)) ≡ rejoined (treeOf (nodes n))
 grown-tree n g a f w =

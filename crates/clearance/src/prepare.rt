@@ -8,7 +8,7 @@ use crate::order::build_clearance_bvh;
 use crate::stored::put_leaves;
 use crate::stored::put_splits;
 use crate::tables::fill_node_tables;
-use crate::tables::fill_places;
+use crate::tables::places_in_front;
 
 pub(crate) fn prepare_nodes(
     s: &mut [u64],
@@ -22,7 +22,7 @@ pub(crate) fn prepare_nodes(
     ensures { λ _. ⌜ Grown (nodeColumns (now (id .entry)) (now (x .entry)) (now (y .entry)) (now (width .entry)) (now (height .entry))) (now (s .exit)) ⌝ }
 {
     let m = id.len();
-    fill_places(s, m);
+    places_in_front(s, m);
     fill_node_tables(s, m, id, x, y, width, height);
     build_clearance_bvh(s, m, m, id, x, y, width, height);
     put_leaves(s, 11 * m, id, x, y, width, height);

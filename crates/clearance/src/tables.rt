@@ -11,6 +11,7 @@ ghost use Rattle.clearance.specs.Tree.{indexedRow};
 ghost use Rattle.clearance.specs.Tables.{nodeRowAt, segmentRowAt, Filled, NodesFilled, SegmentsOrdered};
 use crate::aabb::Aabb;
 use floats::key_of;
+use sorting::fill_places;
 use sorting::sort_indices;
 
 // Five words from `at` on.
@@ -26,15 +27,11 @@ pub(crate) fn put_row(s: &mut [u64], at: usize, a: u64, b: u64, c: u64, d: u64, 
 }
 
 // The first n words become 0, 1, .., n - 1.
-pub(crate) fn fill_places(s: &mut [u64], n: usize)
+pub(crate) fn places_in_front(s: &mut [u64], n: usize)
     requires { ⌜ n ≤ length (now s) ⌝ }
     ensures { λ _. ⌜ now (s .exit) ≡ upTo n ++ drop n (now (s .entry)) ⌝ }
 {
-    let mut i = 0;
-    while i < n {
-        s[i] = i as u64;
-        i += 1;
-    }
+    fill_places(&mut s[0..n]);
 }
 
 // The words by which `compare_indexed_nodes` compares a node along an axis, from `at` on.
@@ -128,7 +125,7 @@ pub(crate) fn order_segments(
     ensures { λ _. ⌜ SegmentsOrdered (segmentColumns (now (net .entry)) (now (orientation .entry)) (now (fixed .entry)) (now (start .entry)) (now (end .entry))) (now (s .entry)) (now (s .exit)) ⌝ }
 {
     let n = net.len();
-    fill_places(s, n);
+    places_in_front(s, n);
     fill_segment_table(s, n, net, orientation, fixed, start, end);
     sort_indices(s, n, n, 5);
 }

@@ -83,7 +83,7 @@ both-passed (Refused r) b e = (e, absurd (subst is-refused e tt))
 
 module _ (s : SegmentColumns) (cutoff : Float) (words : ℕ) (passed : firstOf (congestionConditions s cutoff words) ≡ Passed) where
   -- the conditions of separation come first
-  first-four : firstOf (separationConditions s words) ≡ Passed
+  pub first-four : firstOf (separationConditions s words) ≡ Passed
   unfolding congestionConditions
   first-four = both-passed (firstOf (separationConditions s words)) _ (sym (first-append (separationConditions s words) _) ∙ passed) .0
 

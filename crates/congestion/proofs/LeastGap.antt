@@ -4,7 +4,7 @@ use mathlib.Core.Logic.{inl, inr}
 use mathlib.Core.List.{List, [], _∷_, map}
 use mathlib.Core.Option.{Option, none, some}
 use mathlib.Core.Bool.{Bool, true, false, not, _&&_, cond}
-use Prim.Native.Nat.{ℕ, _^_, _<_}
+use Prim.Native.Nat.{ℕ, _^_, _≤_, _<_}
 use native.Mathlib.Omega.{arith}
 use lib.Dec.{T, ltb, eqb}
 use borrow.Author.Tests.{lt-ltb, le-ltb, eq-eqb, ne-eqb}
@@ -20,7 +20,7 @@ use Rattle.floats.proofs.Units.{of-units-value, unit-bound, gap-units, lt-lengt
 use Rattle.drawing.specs.Entries.{Segment}
 use Rattle.drawing.specs.Gaps.{gapFrom, leastGap, lesserGap}
 use Rattle.drawing.proofs.GapLaws.{gap-from-lesser}
-use Rattle.congestion.specs.Wires.{wireOf}
+use Rattle.congestion.specs.Wires.{Wire, wireOf}
 use Rattle.congestion.specs.Figures.{apart, closeOther}
 use Rattle.congestion.specs.Profile.{gapped, leastNonzero}
 use Rattle.congestion.specs.Sweep.{nonzero, gap, gapOfUnits}
@@ -118,6 +118,10 @@ pub held-gap : (b z : Bool) (n : ℕ) → n < 2 ^ 53 → Held (cond b (nonzero z
 held-gap true true n h = tt
 held-gap true false n h = h
 held-gap false z n h = tt
+
+-- the gaps of wires on the grid are numbers that floats hold
+pub held-least : (c : ℕ) (l : List Wire) → ((w : Wire) → Mem w l → w .fixed ≤ 134217728) → Held (leastUnits c l)
+held-least c l low = held-fold (λ p. cond (closeOther c (p .0) (p .1)) (gap (p .0) (p .1)) none) (pairs l) (λ p m. let h = mem-pairs p l m in let a = low (p .0) (h .0) in let b = low (p .1) (h .1) in held-gap (closeOther c (p .0) (p .1)) (eqb (p .0 .fixed) (p .1 .fixed)) (apart (p .0 .fixed) (p .1 .fixed)) (omega arith))
 
 -- ---- the least nonzero gap of a drawing
 pub least-gap : (c : ℕ) (l : List Segment) → ((s : Segment) → Mem s l → T (onGrid (s .fixed))) → leastNonzero c l ≡ gapOfUnits (leastUnits c (map wireOf l))

@@ -44,3 +44,7 @@ mod EventLoop
 mod RowWires
 mod RowTabled
 mod BothWays
+mod AlongWires
+mod SweptBoth
+-- the whole call
+mod WholeCall

@@ -1,9 +1,9 @@
--- The range of each wire is found by halving and written to its two columns. Assumes nothing.
+-- The range of each wire is found from the last wire's, and written to its two columns. Assumes nothing.
 use mathlib.Core.Path.{_≡_, refl, sym, ap, ap₂, _∙_, subst}
 use mathlib.Core.Logic.{inl, inr}
 use mathlib.Core.Bool.{_&&_}
 use mathlib.Core.List.{List}
-use Prim.Native.Nat.{ℕ, _+_, _-_, _*_, _/_, _^_, _≤_, _<_}
+use Prim.Native.Nat.{ℕ, _+_, _-_, _*_, _^_, _≤_, _<_}
 use native.Mathlib.Omega.{arith}
 use borrow.Rule.Slice.PartMut.{midOf, mid-len}
 use lib.Dec.{T, leb, ltb, leb→le, le→leb, ltb→lt, lt→ltb}
@@ -17,40 +17,31 @@ use Rattle.floats.specs.Grid.{onGrid}
 use Rattle.congestion.specs.declared.ranges.Range.{Range}
 use Rattle.congestion.specs.Wires.{Wire, cutoffOf}
 use Rattle.congestion.specs.Tables.{itemAt, Key}
-use Rattle.congestion.specs.Ranges.{Ascending, Bound, Reached, Rangeable, RangesOnly, Ranged, FillsRanges}
+use Rattle.congestion.specs.Ranges.{Ascending, Passed, Bound, Within, Reached, Rangeable, RangesOnly, Ranged, FillsRanges}
 use Rattle.congestion.proofs.RangeFloats.{key-next, above-low, below-high}
 
--- ---- the search by halving: the place that is looked for is one of the n from `at` on, or the one behind them
-pub record Halving (l : List ℕ) (v at n : ℕ) : Type 0 where
-  pub order : Ascending l
-  pub to : at + n ≤ length l
-  pub below : (i : ℕ) → i < at → getD l i 0 < v
-  pub above : (i : ℕ) → at + n ≤ i → i < length l → v ≤ getD l i 0
-
+-- ---- a search from any place: down to where all words before are less than v, then up to the first that is not
 module _ (l : List ℕ) (v : ℕ) where
-  pub halving-start : Ascending l → Halving l v 0 (length l)
-  halving-start o = record { order = o; to = omega arith; below = λ i h. absurd (omega arith); above = λ i h k. absurd (omega arith) }
+  pub passed-none : (at : ℕ) → at ≤ 0 → Passed l v at
+  passed-none at h = record { inside = omega arith; below = λ i p. absurd (omega arith) }
 
-  module _ (at n : ℕ) (s : Halving l v at n) where
-    pub halving-end : n ≤ 0 → Bound l v at
-    halving-end h = record { inside = omega (arith, s .to); below = s .below; above = λ i p q. s .above i (omega arith) q }
+  -- the words before the last one are no greater
+  pub passed-down : (at : ℕ) → Ascending l → at ≤ length l → 0 < at → getD l (at - 1) 0 < v → Passed l v at
+  passed-down at o k h p = record { inside = k; below = λ i q. let z = o i (at - 1) (omega arith) (omega arith) in omega arith }
 
-    -- the word in the middle is looked at
-    pub halving-up : 0 < n → getD l (at + (n - n / 2) - 1) 0 < v → Halving l v (at + (n - n / 2)) (n / 2)
-    halving-up h k = record {
-      order = s .order;
-      to = omega (arith, s .to);
-      below = λ i p. let z = s .order i (at + (n - n / 2) - 1) (omega arith) (omega (arith, s .to)) in omega arith;
-      above = λ i p q. s .above i (omega arith) q;
+  module _ (at : ℕ) (s : Passed l v at) where
+    pub passed-up : at < length l → getD l at 0 < v → Passed l v (at + 1)
+    passed-up h k = record {
+      inside = omega arith;
+      below = λ i p. elim (le-or-lt at i) [ inl q ↦ let e : i ≡ at = omega arith in rw e k | inr q ↦ s .below i q ];
     }
 
-    pub halving-stay : 0 < n → v ≤ getD l (at + (n - n / 2) - 1) 0 → Halving l v at (n / 2)
-    halving-stay h k = record {
-      order = s .order;
-      to = omega (arith, s .to);
-      below = s .below;
-      above = λ i p q. let z = s .order (at + (n - n / 2) - 1) i (omega arith) q in omega arith;
-    }
+    -- the words behind are no less
+    pub bound-here : Ascending l → v ≤ getD l at 0 → Bound l v at
+    bound-here o k = record { inside = s .inside; below = s .below; above = λ i p q. let z = o at i p q in omega arith }
+
+    pub bound-end : length l ≤ at → Bound l v at
+    bound-end h = record { inside = s .inside; below = s .below; above = λ i p q. absurd (omega arith) }
 
 -- ---- one wire's range
 -- the word behind the lower key
@@ -90,19 +81,20 @@ module _ (n : ℕ) (s keys : List ℕ) (len : length keys ≡ n) (same : (i : �
     high = λ i q. by-high (keyOf (add binary64 (floatAt (getD s (4 * n + j) 0)) cutoff)) (r .to) i (subst (λ (w : ℕ). Bound keys (keyOf (add binary64 (floatAt w) cutoff)) (r .to)) (same j h) (f .to)) q;
   }
 
--- ---- the ranges of the first j wires are written
-pub record Filling (n : ℕ) (cutoff : Float) (s₀ s : List ℕ) (j : ℕ) : Type 0 where
+-- ---- the ranges of the first j wires are written, and the search for the next one begins at `last`
+pub record Filling (n : ℕ) (cutoff : Float) (s₀ s : List ℕ) (j : ℕ) (last : Range) : Type 0 where
   pub given : Rangeable s₀ n
   pub small : j ≤ n
+  pub near : Within n last
   pub len : length s ≡ length s₀
   pub kept : RangesOnly n s₀ s
   pub done : (i : ℕ) → i < j → Found n cutoff s₀ i (getD s (6 * n + i) 0) (getD s (7 * n + i) 0)
 
 module _ (n : ℕ) (cutoff : Float) (s₀ : List ℕ) where
-  pub filling-start : Rangeable s₀ n → Filling n cutoff s₀ s₀ 0
-  filling-start g = record { given = g; small = omega arith; len = refl; kept = record { front = refl; behind = refl }; done = λ i h. absurd (omega arith) }
+  pub filling-start : Rangeable s₀ n → Filling n cutoff s₀ s₀ 0 (record { from = 0; to = 0 })
+  filling-start g = record { given = g; small = omega arith; near = record { from = omega arith; to = omega arith }; len = refl; kept = record { front = refl; behind = refl }; done = λ i h. absurd (omega arith) }
 
-  module _ (s : List ℕ) (j : ℕ) (f : Filling n cutoff s₀ s j) where
+  module _ (s : List ℕ) (j : ℕ) (last : Range) (f : Filling n cutoff s₀ s j last) where
     -- column 4 as it is lent
     abbrev column : List ℕ
     column = midOf (4 * n) (5 * n - 4 * n) s
@@ -115,10 +107,11 @@ module _ (n : ℕ) (cutoff : Float) (s₀ : List ℕ) where
         getD-take (5 * n - 4 * n) (drop (4 * n) s) i 0 (omega arith) ∙ getD-drop (4 * n) s i 0
         ∙ sym (getD-take (6 * n) s (4 * n + i) 0 (omega arith)) ∙ ap (λ (l : List ℕ). getD l (4 * n + i) 0) (f .kept .front) ∙ getD-take (6 * n) s₀ (4 * n + i) 0 (omega arith)
 
-    pub askable : j < n → Ascending column × (j < length column)
+    pub askable : j < n → Ascending column × (j < length column) × Within (length column) last
     askable h = (
       λ i k p q. let r : k < n = omega (arith, column-length) in rw (column-at i (omega arith), column-at k r) (f .given .ascending i k p r),
       omega (arith, column-length),
+      rw column-length (f .near),
     )
 
     module _ (h : j < n) (r : Range) (found-r : Reached column j cutoff r) where
@@ -143,10 +136,11 @@ module _ (n : ℕ) (cutoff : Float) (s₀ : List ℕ) where
         | inl q ↦ let e : j ≡ i = omega arith in subst (λ (k : ℕ). Found n cutoff s₀ k (getD next (6 * n + k) 0) (getD next (7 * n + k) 0)) e (rw (from-at, to-at) (found n s₀ column column-length column-at cutoff j r h found-r))
       ]
 
-      pub filling-next : Filling n cutoff s₀ next (j + 1)
+      pub filling-next : Filling n cutoff s₀ next (j + 1) r
       filling-next = record {
         given = f .given;
         small = omega arith;
+        near = record { from = omega (arith, column-length, found-r .from .inside); to = omega (arith, column-length, found-r .to .inside) };
         len = length-set (set s (6 * n + j) (r .from)) (7 * n + j) (r .to) ∙ length-set s (6 * n + j) (r .from) ∙ f .len;
         kept = record {
           front = take-set-le (6 * n) (set s (6 * n + j) (r .from)) (7 * n + j) (r .to) (omega arith) ∙ take-set-le (6 * n) s (6 * n + j) (r .from) (omega arith) ∙ f .kept .front;
@@ -178,5 +172,5 @@ module _ (c : ℕ) (L : List Wire) (cutoff : Float) (s₀ s : List ℕ) (words :
   ranged : (n : ℕ) → length L ≡ n → Keyed n → AllFound n → Ranged c L s
   ranged n size = subst (λ (n : ℕ). Keyed n → AllFound n → Ranged c L s) size all-ranged
 
-pub filled : (n : ℕ) (cutoff : Float) (s₀ s : List ℕ) (j : ℕ) → Filling n cutoff s₀ s j → n ≤ j → ((i : ℕ) → getD s₀ i 0 < 2 ^ 64) → FillsRanges s₀ s n cutoff
-filled n cutoff s₀ s j f h words = λ c L size e p g keys. ranged c L cutoff s₀ s words e p g n size keys (λ i q. f .done i (omega arith))
+pub filled : (n : ℕ) (cutoff : Float) (s₀ s : List ℕ) (j : ℕ) (last : Range) → Filling n cutoff s₀ s j last → n ≤ j → ((i : ℕ) → getD s₀ i 0 < 2 ^ 64) → FillsRanges s₀ s n cutoff
+filled n cutoff s₀ s j last f h words = λ c L size e p g keys. ranged c L cutoff s₀ s words e p g n size keys (λ i q. f .done i (omega arith))

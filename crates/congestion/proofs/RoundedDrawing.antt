@@ -3,29 +3,29 @@ use mathlib.Core.Path.{_≡_, refl, sym, ap, ap₂, _∙_, subst}
 use mathlib.Core.Logic.{inl, inr}
 use mathlib.Core.List.{List, _∷_, map}
 use mathlib.Core.Option.{Option, none}
-use mathlib.Core.Bool.{Bool, true, false, Bool·beq, cond}
-use Prim.Native.Nat.{ℕ, suc, _+_, _^_, _≤_, _<_}
+use mathlib.Core.Bool.{Bool, true, false, Bool·beq}
+use Prim.Native.Nat.{ℕ, suc, _+_, _^_, _<_}
 use native.Mathlib.Omega.{arith}
 use native.Mathlib.Nat.{le-trans, le-of-eq}
-use lib.Dec.{T, ltb, eqb}
+use lib.Dec.{T, ltb}
 use lib.Ieee.{Float, binary64, add}
 use lib.ListN.{length, length-map, getD}
 use borrow.Author.Tests.{ltb-true}
-use Rattle.laws.specs.Lists.{Mem, pairs}
+use Rattle.laws.specs.Lists.{Mem}
 use Rattle.laws.specs.Least.{lesser}
 use Rattle.laws.proofs.Tests.{decide, cond-true, cond-false}
-use Rattle.laws.proofs.ListLaws.{mem-map, mem-pairs, mem-chosen}
+use Rattle.laws.proofs.ListLaws.{mem-chosen}
 use Rattle.laws.proofs.Folds.{idr, count-at-most, count-chosen}
 use Rattle.floats.specs.Values.{plusZero, canonicalZero}
 use Rattle.floats.specs.Grid.{onGrid, unit, ofUnits}
 use Rattle.floats.proofs.Zeros.{canonical-again}
-use Rattle.floats.proofs.Units.{unit-bound, add-units, canonical-unit, canonical-grid}
+use Rattle.floats.proofs.Units.{add-units, canonical-unit, canonical-grid}
 use Rattle.drawing.specs.Entries.{Segment}
 use Rattle.drawing.specs.Gaps.{lesserGap}
 use Rattle.congestion.specs.Wires.{Wire, wireOf, cutoffOf}
-use Rattle.congestion.specs.Figures.{apart, closeOther, congested, pairOverlap}
+use Rattle.congestion.specs.Figures.{closeOther, congested, pairOverlap}
 use Rattle.congestion.specs.Profile.{lengths, allPairs}
-use Rattle.congestion.specs.Sweep.{Item, numbered, gap, only, gapOfUnits}
+use Rattle.congestion.specs.Sweep.{Item, numbered, only, gapOfUnits}
 use Rattle.congestion.specs.Tables.{Held}
 use Rattle.congestion.specs.Rounded.{roundedTotal, roundedOverlap}
 use Rattle.congestion.specs.RoundedSweep.{coordinatesOf, roundedOriented, onlyOf, Sums, roundedJoin, roundedSweep}
@@ -35,8 +35,8 @@ use Rattle.congestion.proofs.Oriented.{leastUnits}
 use Rattle.congestion.proofs.Orientations.{of-only, alike, congested-two, overlap-two, least-two}
 use Rattle.congestion.proofs.SweepFigures.{no-congested, no-overlap, no-least, alone}
 use Rattle.congestion.proofs.Bounds.{congested-small, overlap-small}
-use Rattle.congestion.proofs.RoundedSums.{zero-units, small-wires, total-exact, overlap-exact}
-use Rattle.congestion.proofs.LeastGap.{held-lesser, held-fold, held-gap, lesser-gap, least-gap}
+use Rattle.congestion.proofs.RoundedSums.{zero-units, small-wires, low-wires, total-exact, overlap-exact}
+use Rattle.congestion.proofs.LeastGap.{held-lesser, held-least, lesser-gap, least-gap}
 use Rattle.congestion.proofs.RoundedSweep.{ItemStands, amounts-exact}
 
 -- ---- the floats by index are those of the segment behind an item
@@ -90,13 +90,6 @@ only-alike h l s t m n = alike h (s .horizontal) (t .horizontal) (so s m) (so t 
     so : (w : Wire) → Mem w (map wireOf (onlyOf h l)) → Bool·beq h (w .horizontal) ≡ true
     so w k = of-only h w (map wireOf l) (subst (Mem w) (only-wires h l) k) .1
 
--- the gaps of segments on the grid are numbers that floats hold
-held-least : (c : ℕ) (l : List Segment) → FitList l → Held (leastUnits c (map wireOf l))
-held-least c l f = held-fold (λ p. cond (closeOther c (p .0) (p .1)) (gap (p .0) (p .1)) none) (pairs (map wireOf l)) (λ p m. let h = mem-pairs p (map wireOf l) m in let a = low (p .0) (h .0) in let b = low (p .1) (h .1) in held-gap (closeOther c (p .0) (p .1)) (eqb (p .0 .fixed) (p .1 .fixed)) (apart (p .0 .fixed) (p .1 .fixed)) (omega arith))
-  where
-    low : (w : Wire) → Mem w (map wireOf l) → w .fixed ≤ 134217728
-    low w m = let r = mem-map wireOf l w m in subst (λ (v : Wire). v .fixed ≤ 134217728) (sym (r .2)) (unit-bound (r .0 .fixed) (f .each (r .0) (r .1) .fixed))
-
 -- ---- one orientation joins the sums
 abbrev sums : ℕ → ℕ → Option ℕ → Sums
 sums a b g = (ofUnits a, ofUnits b, gapOfUnits g)
@@ -126,7 +119,7 @@ join-exact c l f like a b g ha hb hg = elim (decide (ltb (length l) 2)) [
         let e = amounts-exact c w v m like (coordinatesOf l) (stands l f) in
         let x = ap (add binary64 (ofUnits a)) (e .0) ∙ add-units a (congested c w) ha (congested-small c w v m) in
         let y = ap (add binary64 (ofUnits b)) (e .1) ∙ add-units b (pairOverlap c w) hb (overlap-small c w v m) in
-        let z = ap (lesserGap (gapOfUnits g)) (e .2) ∙ lesser-gap g (leastUnits c w) hg (held-least c l f) in
+        let z = ap (lesserGap (gapOfUnits g)) (e .2) ∙ lesser-gap g (leastUnits c w) hg (held-least c w (low-wires l f)) in
         λ i. (x i, y i, z i)
 
 -- ---- and so the drawing's
@@ -144,7 +137,7 @@ sweep-sums-exact c l f =
     let z : lesser ltb (lesser ltb none (leastUnits c flat)) (leastUnits c upright) ≡ leastUnits c (map wireOf l) = ap₂ (λ (p q : List Wire). lesser ltb (lesser ltb none (leastUnits c p)) (leastUnits c q)) (only-wires true l) (only-wires false l) ∙ ap (λ (o : Option ℕ). lesser ltb o (leastUnits c (only false (map wireOf l)))) (fewest .idl (leastUnits c (only true (map wireOf l)))) ∙ sym (least-two c (map wireOf l)) in
     ap (λ (s : Sums). roundedJoin c (roundedJoin c s (onlyOf true l)) (onlyOf false l)) (λ i. (sym zero-units i, sym zero-units i, gapOfUnits none))
     ∙ ap (λ (s : Sums). roundedJoin c s (onlyOf false l)) (join-exact c (onlyOf true l) fh (only-alike true l) 0 0 none (omega arith) (omega arith) tt)
-    ∙ join-exact c (onlyOf false l) fv (only-alike false l) (0 + congested c flat) (0 + pairOverlap c flat) (lesser ltb none (leastUnits c flat)) (let h = congested-small c flat v m in omega arith) (let h = overlap-small c flat v m in omega arith) (held-lesser none (leastUnits c flat) tt (held-least c (onlyOf true l) fh))
+    ∙ join-exact c (onlyOf false l) fv (only-alike false l) (0 + congested c flat) (0 + pairOverlap c flat) (lesser ltb none (leastUnits c flat)) (let h = congested-small c flat v m in omega arith) (let h = overlap-small c flat v m in omega arith) (held-lesser none (leastUnits c flat) tt (held-least c flat (low-wires (onlyOf true l) fh)))
     ∙ (λ i. sums (x i) (y i) (z i))
   where
     last : (a b : ℕ) → 0 + a + b ≡ a + b

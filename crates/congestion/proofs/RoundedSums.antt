@@ -100,6 +100,9 @@ stretches-exact l h b r q =
 pub small-wires : (l : List Segment) → FitList l → Small (map wireOf l)
 small-wires l f w m = let r = mem-map wireOf l w m in subst (λ (v : Wire). v .end ≤ 134217728) (sym (r .2)) (unit-bound (r .0 .end) (f .each (r .0) (r .1) .end))
 
+pub low-wires : (l : List Segment) → FitList l → (w : Wire) → Mem w (map wireOf l) → w .fixed ≤ 134217728
+low-wires l f w m = let r = mem-map wireOf l w m in subst (λ (v : Wire). v .fixed ≤ 134217728) (sym (r .2)) (unit-bound (r .0 .fixed) (f .each (r .0) (r .1) .fixed))
+
 module _ (l : List Segment) (f : FitList l) where
   pub total-any-order : (r : List Float) → Perm (map (λ s. span (s .start) (s .end)) l) r → runningSum plusZero r ≡ ofUnits (total (map wireOf l))
   unfolding total

@@ -33,19 +33,12 @@ use Rattle.congestion.specs.Wires.{Wire}
 use Rattle.congestion.specs.Sweep.{Event, numbered, events, inOrder, eventRow}
 use Rattle.congestion.specs.Tables.{noWire, itemAt, eventAt, Key, Tabled}
 use Rattle.congestion.specs.Ranges.{Ranged}
-use Rattle.congestion.specs.Measuring.{wireOfRow}
+use Rattle.congestion.specs.Measuring.{wireOfRow, Coordinate, Proper}
 use Rattle.congestion.proofs.Fitness.{FitSegment}
 use Rattle.congestion.proofs.FoldLaws.{map-same}
-use Rattle.congestion.proofs.RowWires.{canonical-fits}
+use Rattle.congestion.proofs.RowWires.{canonical-fits, key-unit}
 
 -- ---- a key of a coordinate on the grid
-pub record Coordinate (w : ℕ) : Type 0 where
-  pub float : Float
-  pub held : T (fits binary64 float)
-  pub grid : T (onGrid float)
-  pub plain : canonicalZero float ≡ float
-  pub is : w ≡ keyOf float
-
 pub coordinate-of : (x : Float) → T (fits binary64 x) → T (onGrid x) → Coordinate (keyOf (canonicalZero x))
 coordinate-of x h g = record { float = canonicalZero x; held = canonical-fits x h; grid = subst T (sym (canonical-grid x)) g; plain = canonical-again x; is = refl }
 
@@ -106,14 +99,14 @@ module _ {A B : Type 0} (le : A → A → Bool) (leq : B → B → Bool) (g : A 
       ∙ ap (insertBy leq (g x)) (sort-map l (λ a b m n. h a b (inr m) (inr n)))
 
 -- ---- the events of rows and of their wires
-pub record RowFit (r : Row) : Type 0 where
-  pub line : Coordinate (r .line)
-  pub start : Coordinate (r .start)
-  pub end : Coordinate (r .end)
-
-pub row-fit : (s : Segment) → SegmentHeld s → FitSegment s → RowFit (rowOf s)
+pub row-proper : (s : Segment) → SegmentHeld s → FitSegment s → Proper (rowOf s)
 unfolding rowOf fixedOf startOf endOf
-row-fit s h f = record { line = coordinate-of (s .fixed) (h .fixed) (f .fixed); start = coordinate-of (s .start) (h .start) (f .start); end = coordinate-of (s .end) (h .end) (f .end) }
+row-proper s h f = record {
+  line = coordinate-of (s .fixed) (h .fixed) (f .fixed);
+  start = coordinate-of (s .start) (h .start) (f .start);
+  end = coordinate-of (s .end) (h .end) (f .end);
+  rises = omega (arith, f .rises, key-unit (s .start) (h .start), key-unit (s .end) (h .end));
+}
 
 module _ (h : Bool) where
   abbrev pub eventOf : rows.Event → Event
@@ -124,7 +117,7 @@ module _ (h : Bool) where
   rowIn (ends i r) = r
   rowIn (starts i r) = r
 
-  same-order : (d e : rows.Event) → RowFit (rowIn d) → RowFit (rowIn e) → eventsInOrder d e ≡ rowLe (eventRow (eventOf d)) (eventRow (eventOf e))
+  same-order : (d e : rows.Event) → Proper (rowIn d) → Proper (rowIn e) → eventsInOrder d e ≡ rowLe (eventRow (eventOf d)) (eventRow (eventOf e))
   unfolding moment
   same-order (ends i r) (ends j t) p q = first-word-same (r .end) (t .end) (p .end) (q .end) (0 ∷ i ∷ []) (0 ∷ j ∷ [])
   same-order (ends i r) (starts j t) p q = first-word-same (r .end) (t .start) (p .end) (q .start) (0 ∷ i ∷ []) (1 ∷ j ∷ [])
@@ -143,14 +136,14 @@ module _ (h : Bool) where
   event-row k (r ∷ l) e (inr (inl p)) = inl (ap rowIn p)
   event-row k (r ∷ l) e (inr (inr m)) = inr (event-row (suc k) l e m)
 
-  pub events-in-order : (l : List Row) → ((r : Row) → Mem r l → RowFit r) → map eventOf (rows.events l) ≡ inOrder (events (numbered 0 (map (wireOfRow h) l)))
+  pub events-in-order : (l : List Row) → ((r : Row) → Mem r l → Proper r) → map eventOf (rows.events l) ≡ inOrder (events (numbered 0 (map (wireOfRow h) l)))
   unfolding rows.events inOrder
   events-in-order l fit =
       sort-map eventsInOrder (λ a b. rowLe (eventRow a) (eventRow b)) eventOf (eventsFrom 0 l) (λ d e m n. same-order d e (fit (rowIn d) (event-row 0 l d m)) (fit (rowIn e) (event-row 0 l e n)))
       ∙ ap (sortBy (λ a b. rowLe (eventRow a) (eventRow b))) (events-map 0 l)
 
 -- ---- the tables
-module _ (h : Bool) (l : List Row) (fit : (r : Row) → Mem r l → RowFit r) where
+module _ (h : Bool) (l : List Row) (fit : (r : Row) → Mem r l → Proper r) where
   abbrev L : List Wire
   L = map (wireOfRow h) l
 
@@ -160,7 +153,7 @@ module _ (h : Bool) (l : List Row) (fit : (r : Row) → Mem r l → RowFit r) wh
   wire-at : (j : ℕ) → j < length l → itemAt L j .wire ≡ wireOfRow h (rowFrom l j)
   wire-at j b = getD-map (wireOfRow h) l j noRow noWire b
 
-  fit-at : (j : ℕ) → j < length l → RowFit (rowFrom l j)
+  fit-at : (j : ℕ) → j < length l → Proper (rowFrom l j)
   fit-at j b = fit (rowFrom l j) (at-mem l j noRow b)
 
   -- a word of a column

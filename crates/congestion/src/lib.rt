@@ -1,11 +1,16 @@
 // The congestion measure of parallel wires: its report.
 // The definitions that the contracts cite are in specs/, the laws of these definitions in proofs/.
+pub mod along;
+pub mod measure;
 pub mod meet;
 pub mod ranges;
 pub mod report;
 pub mod run;
 pub mod sweep;
 
+pub use measure::measure_parallel_congestion;
+pub use measure::measure_parallel_congestion_profile_bounded;
+pub use measure::measure_parallel_density_profile_bounded;
 pub use report::CongestionAnswer;
 pub use report::CongestionReport;
 pub use report::ParallelCongestion;

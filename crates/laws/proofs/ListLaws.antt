@@ -12,6 +12,11 @@ use lib.Seq.{drop-cons}
 use Rattle.laws.specs.Lists.{Mem, All, every, some-of, put, chosen, beside, cross, pairs}
 use Rattle.laws.proofs.Tests.{clash, and-left, and-right, and-both, or-elim, or-left, or-right, neither-left, neither-right}
 
+-- functions that agree on the entries map alike
+pub map-same : {A B : Type 0} (f g : A → B) (l : List A) → ((x : A) → Mem x l → f x ≡ g x) → map f l ≡ map g l
+map-same f g [] h = refl
+map-same f g (x ∷ l) h = λ i. h x (inl refl) i ∷ map-same f g l (λ y m. h y (inr m)) i
+
 module _ {A : Type 0} where
   -- ---- what holds of each entry
   pub all-mem : (P : A → Type 0) (l : List A) → All P l → (x : A) → Mem x l → P x

@@ -1,10 +1,10 @@
 -- A part of a slice that is lent and comes back, and what the rest of the slice is meanwhile. Assumes nothing.
-use mathlib.Core.Path.{_≡_, sym, ap, _∙_}
-use mathlib.Core.List.{List, [], _++_, append-nil}
-use Prim.Native.Nat.{ℕ, _+_, _-_, _≤_}
+use mathlib.Core.Path.{_≡_, refl, sym, ap, _∙_}
+use mathlib.Core.List.{List, [], _∷_, _++_, append-nil}
+use Prim.Native.Nat.{ℕ, zero, suc, _+_, _-_, _≤_}
 use native.Mathlib.Omega.{arith}
 use lib.ListN.{length, getD, take, drop, length-append, length-drop, drop-of-length-le}
-use lib.Seq.{take-at, drop-at, take-all, drop-drop, getD-drop}
+use lib.Seq.{take-at, drop-at, take-all, take-take, drop-drop, getD-drop}
 use borrow.Rule.Slice.PartMut.{midOf, putMid, postOf, post-is}
 
 module _ {A : Type 0} where
@@ -38,3 +38,13 @@ module _ {A : Type 0} where
   getD-past n i s r d e h =
       let k : n + (i - n) ≡ i = omega arith in
       ap (λ (j : ℕ). getD s j d) (sym k) ∙ sym (getD-drop n s (i - n) d) ∙ ap (λ (l : List A). getD l (i - n) d) e ∙ getD-drop n r (i - n) d ∙ ap (λ (j : ℕ). getD r j d) k
+
+  -- a part that ends within the first n entries is a part of these, so lists that agree there have it alike
+  part-of : (j m n : ℕ) (l : List A) → j + m ≤ n → take m (drop j (take n l)) ≡ take m (drop j l)
+  part-of zero m n l h = take-take m n l (omega arith)
+  part-of (suc j) m zero l h = absurd (omega arith)
+  part-of (suc j) m (suc n) [] h = refl
+  part-of (suc j) m (suc n) (x ∷ l) h = part-of j m n l (omega arith)
+
+  pub part-same : (j m n : ℕ) (r s : List A) → take n r ≡ take n s → j + m ≤ n → take m (drop j r) ≡ take m (drop j s)
+  part-same j m n r s e h = sym (part-of j m n r h) ∙ ap (λ (l : List A). take m (drop j l)) e ∙ part-of j m n s h

@@ -5,20 +5,20 @@ use borrow.Author.Needs.{needs}
 use Rattle.clearance.proofs.prepare.prepare_nodes.Statement.{statement}
 use Rattle.clearance.proofs.prepare.prepare_nodes.Tie as tie
 
-fill-places-requires : tie.Need-fill-places-requires
-fill-places-requires c κs = search needs
+places-in-front-requires : tie.Need-places-in-front-requires
+places-in-front-requires c κs = search needs
 
 fill-node-tables-requires : tie.Need-fill-node-tables-requires
 fill-node-tables-requires c κs = search needs
 
 build-clearance-bvh-requires : tie.Need-build-clearance-bvh-requires
-build-clearance-bvh-requires c κs = buildable (nodeColumns _ _ _ _ _) (c .before .before .before .before .before .before .before .before .before .before .before .before .before .before .before .pre .0) _ _ _ (c .before .before .before .before .before .before .before .before .before .before .before .before .before .before .before .pre .2) (c .before .before .before .before .before .before .before .fill-places .kept .0) (c .before .before .before .before .before .before .before .fill-places .ensures) (c .before .before .before .fill-node-tables .ensures)
+build-clearance-bvh-requires c κs = buildable (nodeColumns _ _ _ _ _) (c .before .before .before .before .before .before .before .before .before .before .before .before .before .before .before .pre .0) _ _ _ (c .before .before .before .before .before .before .before .before .before .before .before .before .before .before .before .pre .2) (c .before .before .before .before .before .before .before .places-in-front .kept .0) (c .before .before .before .before .before .before .before .places-in-front .ensures) (c .before .before .before .fill-node-tables .ensures)
 
 mul-put-leaves : tie.Need-mul-put-leaves
 mul-put-leaves c = search needs
 
 put-leaves-requires : tie.Need-put-leaves-requires
-put-leaves-requires c κs = (leaves-placed (nodeColumns _ _ _ _ _) (c .before .before .before .before .before .before .before .before .before .before .before .before .before .before .before .before .before .before .before .pre .0) _ _ _ (c .before .before .before .before .before .before .before .before .before .before .before .before .before .before .before .before .before .before .before .pre .2) (c .before .before .before .before .before .before .before .before .before .before .before .fill-places .kept .0) (c .before .before .before .before .before .before .before .before .before .before .before .fill-places .ensures) (c .before .before .before .before .before .before .before .fill-node-tables .ensures) _ (c .before .before .before .build-clearance-bvh .kept .0) (c .before .before .before .build-clearance-bvh .ensures), search needs, omega (arith, c .before .before .before .before .before .before .before .before .before .before .before .before .before .before .before .before .before .before .before .pre .2, c .before .before .before .before .before .before .before .before .before .before .before .fill-places .kept .0, c .before .before .before .before .before .before .before .fill-node-tables .kept .0, c .before .before .before .build-clearance-bvh .kept .0))
+put-leaves-requires c κs = (leaves-placed (nodeColumns _ _ _ _ _) (c .before .before .before .before .before .before .before .before .before .before .before .before .before .before .before .before .before .before .before .pre .0) _ _ _ (c .before .before .before .before .before .before .before .before .before .before .before .before .before .before .before .before .before .before .before .pre .2) (c .before .before .before .before .before .before .before .before .before .before .before .places-in-front .kept .0) (c .before .before .before .before .before .before .before .before .before .before .before .places-in-front .ensures) (c .before .before .before .before .before .before .before .fill-node-tables .ensures) _ (c .before .before .before .build-clearance-bvh .kept .0) (c .before .before .before .build-clearance-bvh .ensures), search needs, omega (arith, c .before .before .before .before .before .before .before .before .before .before .before .before .before .before .before .before .before .before .before .pre .2, c .before .before .before .before .before .before .before .before .before .before .before .places-in-front .kept .0, c .before .before .before .before .before .before .before .fill-node-tables .kept .0, c .before .before .before .build-clearance-bvh .kept .0))
 
 mul-put-splits : tie.Need-mul-put-splits
 mul-put-splits c = search needs
@@ -36,19 +36,19 @@ part-put-splits-end : tie.Need-part-put-splits-end
 part-put-splits-end c = search needs
 
 put-splits-requires : tie.Need-put-splits-requires
-put-splits-requires c κs = (c .before .before .before .before .before .before .before .before .before .before .before .before .before .before .before .before .before .before .before .before .before .before .before .pre .1, rest-long (nodeColumns _ _ _ _ _) (c .before .before .before .before .before .before .before .before .before .before .before .before .before .before .before .before .before .before .before .before .before .before .before .pre .0) _ _ _ (c .before .before .before .before .before .before .before .before .before .before .before .before .before .before .before .before .before .before .before .before .before .before .before .pre .2) (c .before .before .before .before .before .before .before .before .before .before .before .before .before .before .before .fill-places .kept .0) (c .before .before .before .before .before .before .before .before .before .before .before .before .before .before .before .fill-places .ensures) (c .before .before .before .before .before .before .before .before .before .before .before .fill-node-tables .ensures) _ (c .before .before .before .before .before .before .before .build-clearance-bvh .kept .0) (c .before .before .before .before .before .before .before .build-clearance-bvh .ensures) _ (c .before .before .before .put-leaves .ensures))
+put-splits-requires c κs = (c .before .before .before .before .before .before .before .before .before .before .before .before .before .before .before .before .before .before .before .before .before .before .before .pre .1, rest-long (nodeColumns _ _ _ _ _) (c .before .before .before .before .before .before .before .before .before .before .before .before .before .before .before .before .before .before .before .before .before .before .before .pre .0) _ _ _ (c .before .before .before .before .before .before .before .before .before .before .before .before .before .before .before .before .before .before .before .before .before .before .before .pre .2) (c .before .before .before .before .before .before .before .before .before .before .before .before .before .before .before .places-in-front .kept .0) (c .before .before .before .before .before .before .before .before .before .before .before .before .before .before .before .places-in-front .ensures) (c .before .before .before .before .before .before .before .before .before .before .before .fill-node-tables .ensures) _ (c .before .before .before .before .before .before .before .build-clearance-bvh .kept .0) (c .before .before .before .before .before .before .before .build-clearance-bvh .ensures) _ (c .before .before .before .put-leaves .ensures))
 
 same-length : tie.Need-same-length
 same-length c = search needs
 
 returns : tie.Need-returns
-returns c = grown (nodeColumns _ _ _ _ _) (c .before .before .before .before .before .before .before .before .before .before .before .before .before .before .before .before .before .before .before .before .before .before .before .before .before .before .pre .0) _ _ _ (c .before .before .before .before .before .before .before .before .before .before .before .before .before .before .before .before .before .before .before .before .before .before .before .before .before .before .pre .2) (c .before .before .before .before .before .before .before .before .before .before .before .before .before .before .before .before .before .before .fill-places .kept .0) (c .before .before .before .before .before .before .before .before .before .before .before .before .before .before .before .before .before .before .fill-places .ensures) (c .before .before .before .before .before .before .before .before .before .before .before .before .before .before .fill-node-tables .ensures) _ (c .before .before .before .before .before .before .before .before .before .before .build-clearance-bvh .kept .0) (c .before .before .before .before .before .before .before .before .before .before .build-clearance-bvh .ensures) _ (c .before .before .before .before .before .before .put-leaves .ensures) _ _ (c .before .before .put-splits .ensures)
+returns c = grown (nodeColumns _ _ _ _ _) (c .before .before .before .before .before .before .before .before .before .before .before .before .before .before .before .before .before .before .before .before .before .before .before .before .before .before .pre .0) _ _ _ (c .before .before .before .before .before .before .before .before .before .before .before .before .before .before .before .before .before .before .before .before .before .before .before .before .before .before .pre .2) (c .before .before .before .before .before .before .before .before .before .before .before .before .before .before .before .before .before .before .places-in-front .kept .0) (c .before .before .before .before .before .before .before .before .before .before .before .before .before .before .before .before .before .before .places-in-front .ensures) (c .before .before .before .before .before .before .before .before .before .before .before .before .before .before .fill-node-tables .ensures) _ (c .before .before .before .before .before .before .before .before .before .before .build-clearance-bvh .kept .0) (c .before .before .before .before .before .before .before .before .before .before .build-clearance-bvh .ensures) _ (c .before .before .before .before .before .before .put-leaves .ensures) _ _ (c .before .before .put-splits .ensures)
 
 pub prepare-nodes-spec : {M : Type 1} → statement M
 prepare-nodes-spec =
     tie.close
     (tie.spec
-    fill-places-requires
+    places-in-front-requires
     fill-node-tables-requires
     build-clearance-bvh-requires
     mul-put-leaves

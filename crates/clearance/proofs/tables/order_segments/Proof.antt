@@ -6,8 +6,8 @@ use borrow.Author.Needs.{needs}
 use Rattle.clearance.proofs.tables.order_segments.Statement.{statement}
 use Rattle.clearance.proofs.tables.order_segments.Tie as tie
 
-fill-places-requires : tie.Need-fill-places-requires
-fill-places-requires c κs = search needs
+places-in-front-requires : tie.Need-places-in-front-requires
+places-in-front-requires c κs = search needs
 
 fill-segment-table-requires : tie.Need-fill-segment-table-requires
 fill-segment-table-requires c κs = search needs
@@ -24,13 +24,13 @@ returns c =
     let a = k .before .before .before .before .before .before in
     let columns = segmentColumns (a .args .net .now) (a .args .orientation .now) (a .args .fixed .now) (a .args .start .now) (a .args .end .now) in
     let held = segments-held columns (a .pre .0) (k .before .before .shared-slice-known3 .given) (k .before .shared-slice-known4 .given) (k .shared-slice-known5 .given) in
-    segments-ordered columns (a .args .s .now) _ _ _ (a .pre .0) (a .pre .1) held (c .before .before .before .before .before .before .before .before .before .before .fill-places .ensures) (c .before .before .before .before .before .before .fill-segment-table .ensures) (c .before .before .sort-indices .ensures)
+    segments-ordered columns (a .args .s .now) _ _ _ (a .pre .0) (a .pre .1) held (c .before .before .before .before .before .before .before .before .before .before .places-in-front .ensures) (c .before .before .before .before .before .before .fill-segment-table .ensures) (c .before .before .sort-indices .ensures)
 
 pub order-segments-spec : {M : Type 1} → statement M
 order-segments-spec =
     tie.close
     (tie.spec
-    fill-places-requires
+    places-in-front-requires
     fill-segment-table-requires
     sort-indices-requires
     same-length

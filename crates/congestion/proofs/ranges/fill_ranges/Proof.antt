@@ -1,4 +1,4 @@
--- `congestion::ranges::fill_ranges` meets its contract: after j turns the first j ranges are written. Assumes nothing.
+-- `congestion::ranges::fill_ranges` meets its contract: after j turns the first j ranges are written, and the last of them is where the next search begins. Assumes nothing.
 use Prim.Native.Nat.{_-_}
 use native.Mathlib.Omega.{arith}
 use borrow.Author.Needs.{needs}
@@ -8,10 +8,10 @@ use Rattle.congestion.proofs.ranges.fill_ranges.Statement.{statement}
 use Rattle.congestion.proofs.ranges.fill_ranges.Tie as tie
 
 abbrev Inv-loop : tie.InvT-loop
-Inv-loop s₀ n cutoff j₀ s j = Filling n cutoff s₀ s j
+Inv-loop s₀ n cutoff range₀ j₀ s range j = Filling n cutoff s₀ s j range
 
 abbrev μ-loop : tie.MeasureT-loop
-μ-loop s₀ n cutoff j₀ s j = n - j
+μ-loop s₀ n cutoff range₀ j₀ s range j = n - j
 
 loop-holds : tie.Need-loop-holds Inv-loop μ-loop
 loop-holds c = filling-start _ _ _ (c .before .pre)
@@ -35,7 +35,7 @@ part-range-of-end : tie.Need-part-range-of-end Inv-loop μ-loop
 part-range-of-end c = search needs
 
 range-of-requires : tie.Need-range-of-requires Inv-loop μ-loop
-range-of-requires c κs = askable _ _ _ _ _ (c .before .before .before .loop .inv) (c .before .before .loop-test .taken)
+range-of-requires c κs = askable _ _ _ _ _ _ (c .before .before .before .loop .inv) (c .before .before .loop-test .taken)
 
 mul-from : tie.Need-mul-from Inv-loop μ-loop
 mul-from c = search needs
@@ -68,13 +68,13 @@ loop-less : tie.Need-loop-less Inv-loop μ-loop
 loop-less c = search needs
 
 loop-again : tie.Need-loop-again Inv-loop μ-loop
-loop-again c = filling-next _ _ _ _ _ (c .before .before .before .before .loop .inv) (c .before .before .before .loop-test .taken) _ (c .range-of .ensures)
+loop-again c = filling-next _ _ _ _ _ _ (c .before .before .before .before .loop .inv) (c .before .before .before .loop-test .taken) _ (c .range-of .ensures)
 
 same-length : tie.Need-same-length Inv-loop μ-loop
 same-length c = c .before .loop .inv .len
 
 returns : tie.Need-returns Inv-loop μ-loop
-returns c = (c .before .loop .inv .kept, filled _ _ _ _ _ (c .before .loop .inv) (c .loop-test .left) (λ i. c .before .before .slice-known .given i .fits))
+returns c = (c .before .loop .inv .kept, filled _ _ _ _ _ _ (c .before .loop .inv) (c .loop-test .left) (λ i. c .before .before .slice-known .given i .fits))
 
 pub fill-ranges-spec : {M : Type 1} → statement M
 fill-ranges-spec =

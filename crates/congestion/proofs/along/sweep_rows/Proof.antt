@@ -1,0 +1,71 @@
+-- `congestion::along::sweep_rows` meets its contract: the rows spread, the events in order, the ranges, the words behind them cleared, the sweep. Assumes nothing.
+use borrow.Author.Needs.{needs}
+use Rattle.congestion.proofs.AlongWires.{rows-spread, rows-rangeable, rows-first}
+use Rattle.congestion.specs.Sweeping.{sweptOf}
+use Rattle.laws.specs.Charged.{within}
+use denote.Ref.{now}
+use native.Mathlib.Omega.{arith}
+use mathlib.Core.Path.{ap, _∙_}
+use Rattle.congestion.proofs.along.sweep_rows.Statement.{statement}
+use Rattle.congestion.proofs.along.sweep_rows.Tie as tie
+
+spread-rows-requires : tie.Need-spread-rows-requires
+spread-rows-requires c κs = search needs
+
+order-events-requires : tie.Need-order-events-requires
+order-events-requires c κs = search needs
+
+fill-ranges-requires : tie.Need-fill-ranges-requires
+fill-ranges-requires c κs = rows-rangeable (now (c .before .before .before .before .before .before .before .before .before .before .args .s)) _ _ (c .before .before .before .before .before .before .before .before .before .before .args .n) (c .before .before .before .before .before .before .before .before .before .before .args .from) (c .before .before .before .before .before .before .before .before .before .before .args .table) (c .before .before .before .before .before .before .before .spread-rows .ensures .0 (rows-spread _ _ _ _ (c .before .before .before .before .before .before .before .before .before .before .pre .0))) (c .before .before .before .order-events .kept .0 ∙ c .before .before .before .before .before .before .before .spread-rows .kept .0) (c .before .before .before .order-events .ensures .0 (omega (arith, c .before .before .before .before .before .before .before .before .before .before .pre .0 .front, c .before .before .before .before .before .before .before .before .before .before .pre .0 .room, c .before .before .before .before .before .before .before .spread-rows .kept .0))) (c .before .before .before .before .before .before .before .before .before .before .pre .0)
+
+mul-end : tie.Need-mul-end
+mul-end c = search needs
+
+add-end : tie.Need-add-end
+add-end c = search needs
+
+mul-clear : tie.Need-mul-clear
+mul-clear c = search needs
+
+mul-clear-2 : tie.Need-mul-clear-2
+mul-clear-2 c = search needs
+
+sub-clear : tie.Need-sub-clear
+sub-clear c = search needs
+
+part-clear-start : tie.Need-part-clear-start
+part-clear-start c = search needs
+
+part-clear-end : tie.Need-part-clear-end
+part-clear-end c = search needs
+
+clear-requires : tie.Need-clear-requires
+clear-requires c κs = search needs
+
+run-events-requires : tie.Need-run-events-requires
+run-events-requires c κs = rows-first (now (c .before .before .before .before .before .before .before .before .before .before .before .before .before .before .before .before .before .before .args .s)) _ _ (c .before .before .before .before .before .before .before .before .before .before .before .before .before .before .before .before .before .before .args .n) (c .before .before .before .before .before .before .before .before .before .before .before .before .before .before .before .before .before .before .args .from) (c .before .before .before .before .before .before .before .before .before .before .before .before .before .before .before .before .before .before .args .table) (c .before .before .before .before .before .before .before .before .before .before .before .before .before .before .before .spread-rows .ensures .0 (rows-spread _ _ _ _ (c .before .before .before .before .before .before .before .before .before .before .before .before .before .before .before .before .before .before .pre .0))) (c .before .before .before .before .before .before .before .before .before .before .before .order-events .kept .0 ∙ c .before .before .before .before .before .before .before .before .before .before .before .before .before .before .before .spread-rows .kept .0) (c .before .before .before .before .before .before .before .before .before .before .before .order-events .ensures .0 (omega (arith, c .before .before .before .before .before .before .before .before .before .before .before .before .before .before .before .before .before .before .pre .0 .front, c .before .before .before .before .before .before .before .before .before .before .before .before .before .before .before .before .before .before .pre .0 .room, c .before .before .before .before .before .before .before .before .before .before .before .before .before .before .before .spread-rows .kept .0))) _ (c .before .before .before .before .before .before .before .fill-ranges .kept .0) _ (c .before .before .before .before .before .before .before .before .before .before .before .before .before .before .before .before .before .before .pre .1) (c .before .before .before .before .before .before .before .fill-ranges .ensures .0) (c .before .before .before .before .before .before .before .fill-ranges .ensures .1) _ (c .before .before .before .clear .ensures) (c .before .before .before .before .before .before .before .before .before .before .before .before .before .before .before .before .before .before .pre .0) .0
+
+same-length : tie.Need-same-length
+same-length c = search needs
+
+returns : tie.Need-returns
+returns c = λ a. let k = rows-first (now (c .before .before .before .before .before .before .before .before .before .before .before .before .before .before .before .before .before .before .before .before .before .args .s)) _ _ (c .before .before .before .before .before .before .before .before .before .before .before .before .before .before .before .before .before .before .before .before .before .args .n) (c .before .before .before .before .before .before .before .before .before .before .before .before .before .before .before .before .before .before .before .before .before .args .from) (c .before .before .before .before .before .before .before .before .before .before .before .before .before .before .before .before .before .before .before .before .before .args .table) (c .before .before .before .before .before .before .before .before .before .before .before .before .before .before .before .before .before .before .spread-rows .ensures .0 (rows-spread _ _ _ _ (c .before .before .before .before .before .before .before .before .before .before .before .before .before .before .before .before .before .before .before .before .before .pre .0))) (c .before .before .before .before .before .before .before .before .before .before .before .before .before .before .order-events .kept .0 ∙ c .before .before .before .before .before .before .before .before .before .before .before .before .before .before .before .before .before .before .spread-rows .kept .0) (c .before .before .before .before .before .before .before .before .before .before .before .before .before .before .order-events .ensures .0 (omega (arith, c .before .before .before .before .before .before .before .before .before .before .before .before .before .before .before .before .before .before .before .before .before .pre .0 .front, c .before .before .before .before .before .before .before .before .before .before .before .before .before .before .before .before .before .before .before .before .before .pre .0 .room, c .before .before .before .before .before .before .before .before .before .before .before .before .before .before .before .before .before .before .spread-rows .kept .0))) _ (c .before .before .before .before .before .before .before .before .before .before .fill-ranges .kept .0) _ (c .before .before .before .before .before .before .before .before .before .before .before .before .before .before .before .before .before .before .before .before .before .pre .1) (c .before .before .before .before .before .before .before .before .before .before .fill-ranges .ensures .0) (c .before .before .before .before .before .before .before .before .before .before .fill-ranges .ensures .1) _ (c .before .before .before .before .before .before .clear .ensures) a in c .before .before .run-events .ensures (k .0) ∙ ap (λ z. sweptOf (within (c .before .before .before .before .before .before .before .before .before .before .before .before .before .before .before .before .before .before .before .before .before .args .allowance) z)) (k .1)
+
+pub sweep-rows-spec : {M : Type 1} → statement M
+sweep-rows-spec =
+    tie.close
+    (tie.spec
+    spread-rows-requires
+    order-events-requires
+    fill-ranges-requires
+    mul-end
+    add-end
+    mul-clear
+    mul-clear-2
+    sub-clear
+    part-clear-start
+    part-clear-end
+    clear-requires
+    run-events-requires
+    same-length
+    returns)

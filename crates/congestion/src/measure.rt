@@ -1,0 +1,245 @@
+// The congestion measures by columns.
+ghost use mathlib.Core.Path.{_≡_};
+ghost use lib.ListN.{length};
+ghost use Rattle.laws.specs.Charged.{within};
+ghost use Rattle.drawing.specs.declared.refusal.Check.the-variants.{Passed};
+ghost use Rattle.drawing.specs.Refusals.{firstOf, scratchAfter};
+ghost use Rattle.drawing.specs.Entries.{segmentColumns, segments};
+ghost use Rattle.drawing.specs.Lengths.{SegmentsAgree};
+ghost use Rattle.drawing.specs.Checks.{congestionConditions};
+ghost use Rattle.congestion.specs.Profile.{allPairs};
+ghost use Rattle.congestion.specs.Rounded.{roundedTotal};
+ghost use Rattle.congestion.specs.Measuring.{foundOf, togetherOf, Remains, Answers, plainly};
+ghost use Rattle.congestion.specs.Answer.{densityAnswer, profileAnswer, congestionAnswer};
+use crate::along::sweep_along;
+use crate::report::CongestionAnswer;
+use crate::report::CongestionReport;
+use crate::report::ParallelCongestion;
+use crate::run::Found;
+use crate::run::Swept;
+use drawing::Check;
+use drawing::Gap;
+use drawing::Refusal;
+use drawing::check_congestion;
+use drawing::clear;
+use drawing::minimum_option;
+use floats::canonical_zero;
+
+// The summed length of all segments.
+fn total_length(net: &[u32], orientation: &[u8], fixed: &[f64], start: &[f64], end: &[f64]) -> f64
+    requires { ⌜ SegmentsAgree (segmentColumns (now net) (now orientation) (now fixed) (now start) (now end)) ⌝ }
+    ensures { λ r. ⌜ r ≡ roundedTotal (segments (segmentColumns (now (net .entry)) (now (orientation .entry)) (now (fixed .entry)) (now (start .entry)) (now (end .entry)))) ⌝ }
+{
+    let mut total = 0.0;
+    let mut i = 0;
+    while i < net.len() {
+        let from = canonical_zero(start[i]);
+        let to = canonical_zero(end[i]);
+        total = total + (to - from);
+        i += 1;
+    }
+    total
+}
+
+// The figures of both orientations, with what the second sweep left.
+fn together(across: Found, down: Found) -> Found
+    ensures { λ r. ⌜ r ≡ togetherOf across down ⌝ }
+{
+    let one = across.minimum_positive;
+    let other = down.minimum_positive;
+    let minimum = minimum_option(one, other);
+    let mut peak = across.peak_close_neighbors;
+    if peak < down.peak_close_neighbors {
+        peak = down.peak_close_neighbors;
+    }
+    Found {
+        congested_length: across.congested_length + down.congested_length,
+        pair_overlap_length: across.pair_overlap_length + down.pair_overlap_length,
+        peak_close_neighbors: peak,
+        minimum_positive: minimum,
+        left: down.left,
+    }
+}
+
+// The sweep over a fit drawing: horizontal segments first, then vertical ones with what is left of the allowance. A cutoff of 0 or less costs nothing.
+fn sweep_both(
+    net: &[u32],
+    orientation: &[u8],
+    fixed: &[f64],
+    start: &[f64],
+    end: &[f64],
+    cutoff: f64,
+    allowance: usize,
+    scratch: &mut [u64],
+) -> Swept
+    requires { ⌜ firstOf (congestionConditions (segmentColumns (now net) (now orientation) (now fixed) (now start) (now end)) cutoff (length (now scratch))) ≡ Passed ⌝ }
+    ensures { λ r. ⌜ r ≡ foundOf (within allowance (allPairs cutoff (segments (segmentColumns (now (net .entry)) (now (orientation .entry)) (now (fixed .entry)) (now (start .entry)) (now (end .entry)))))) ⌝ }
+{
+    if cutoff <= 0.0 {
+        return Swept::Went(Found {
+            congested_length: 0.0,
+            pair_overlap_length: 0.0,
+            peak_close_neighbors: 0,
+            minimum_positive: Gap::Absent,
+            left: allowance,
+        });
+    }
+    let first = sweep_along(
+        scratch,
+        1,
+        net,
+        orientation,
+        fixed,
+        start,
+        end,
+        cutoff,
+        allowance,
+    );
+    let Swept::Went(across) = first else {
+        return Swept::Spent;
+    };
+    let second = sweep_along(
+        scratch,
+        0,
+        net,
+        orientation,
+        fixed,
+        start,
+        end,
+        cutoff,
+        across.left,
+    );
+    let Swept::Went(down) = second else {
+        return Swept::Spent;
+    };
+    Swept::Went(together(across, down))
+}
+
+// The visits used are those that are no longer left.
+fn answer_of(swept: Swept, total: f64, allowance: usize) -> CongestionAnswer
+    requires { ⌜ Remains swept allowance ⌝ }
+    ensures { λ r. ⌜ Answers swept total allowance r ⌝ }
+{
+    let Swept::Went(found) = swept else {
+        return CongestionAnswer::Refused(Refusal::WorkLimitExceeded);
+    };
+    let minimum = found.minimum_positive;
+    let visits = allowance - found.left;
+    let congestion = ParallelCongestion {
+        total_length: total,
+        congested_length: found.congested_length,
+        pair_overlap_length: found.pair_overlap_length,
+        peak_close_neighbors: found.peak_close_neighbors,
+    };
+    CongestionAnswer::Report(CongestionReport {
+        congestion: congestion,
+        minimum_positive: minimum,
+        visits: visits,
+    })
+}
+
+pub fn measure_parallel_density_profile_bounded(
+    net: &[u32],
+    orientation: &[u8],
+    fixed: &[f64],
+    start: &[f64],
+    end: &[f64],
+    cutoff: f64,
+    allowance: usize,
+    scratch: &mut [u64],
+) -> CongestionAnswer
+    ensures { λ r. ⌜ r ≡ densityAnswer (segmentColumns (now (net .entry)) (now (orientation .entry)) (now (fixed .entry)) (now (start .entry)) (now (end .entry))) cutoff allowance (length (now (scratch .entry))) ⌝ }
+    ensures { λ _. ⌜ now (scratch .exit) ≡ scratchAfter (firstOf (congestionConditions (segmentColumns (now (net .entry)) (now (orientation .entry)) (now (fixed .entry)) (now (start .entry)) (now (end .entry))) cutoff (length (now (scratch .entry))))) (now (scratch .entry)) ⌝ }
+{
+    let words = scratch.len();
+    let check = check_congestion(net, orientation, fixed, start, end, cutoff, words);
+    if let Check::Refused(why) = check {
+        return CongestionAnswer::Refused(why);
+    }
+    let total = total_length(net, orientation, fixed, start, end);
+    let swept = sweep_both(
+        net,
+        orientation,
+        fixed,
+        start,
+        end,
+        cutoff,
+        allowance,
+        scratch,
+    );
+    clear(scratch);
+    answer_of(swept, total, allowance)
+}
+
+// The answer with pair overlap and peak zero.
+fn without_density(answer: CongestionAnswer) -> CongestionAnswer
+    ensures { λ r. ⌜ r ≡ plainly answer ⌝ }
+{
+    let CongestionAnswer::Report(report) = answer else {
+        return answer;
+    };
+    let congestion = report.congestion;
+    let minimum = report.minimum_positive;
+    let lengths = ParallelCongestion {
+        total_length: congestion.total_length,
+        congested_length: congestion.congested_length,
+        pair_overlap_length: 0.0,
+        peak_close_neighbors: 0,
+    };
+    CongestionAnswer::Report(CongestionReport {
+        congestion: lengths,
+        minimum_positive: minimum,
+        visits: report.visits,
+    })
+}
+
+pub fn measure_parallel_congestion_profile_bounded(
+    net: &[u32],
+    orientation: &[u8],
+    fixed: &[f64],
+    start: &[f64],
+    end: &[f64],
+    cutoff: f64,
+    allowance: usize,
+    scratch: &mut [u64],
+) -> CongestionAnswer
+    ensures { λ r. ⌜ r ≡ profileAnswer (segmentColumns (now (net .entry)) (now (orientation .entry)) (now (fixed .entry)) (now (start .entry)) (now (end .entry))) cutoff allowance (length (now (scratch .entry))) ⌝ }
+    ensures { λ _. ⌜ now (scratch .exit) ≡ scratchAfter (firstOf (congestionConditions (segmentColumns (now (net .entry)) (now (orientation .entry)) (now (fixed .entry)) (now (start .entry)) (now (end .entry))) cutoff (length (now (scratch .entry))))) (now (scratch .entry)) ⌝ }
+{
+    let answer = measure_parallel_density_profile_bounded(
+        net,
+        orientation,
+        fixed,
+        start,
+        end,
+        cutoff,
+        allowance,
+        scratch,
+    );
+    without_density(answer)
+}
+
+// No drawing takes as many visits as there are words: the allowance always reaches.
+pub fn measure_parallel_congestion(
+    net: &[u32],
+    orientation: &[u8],
+    fixed: &[f64],
+    start: &[f64],
+    end: &[f64],
+    cutoff: f64,
+    scratch: &mut [u64],
+) -> CongestionAnswer
+    ensures { λ r. ⌜ r ≡ congestionAnswer (segmentColumns (now (net .entry)) (now (orientation .entry)) (now (fixed .entry)) (now (start .entry)) (now (end .entry))) cutoff (length (now (scratch .entry))) ⌝ }
+    ensures { λ _. ⌜ now (scratch .exit) ≡ scratchAfter (firstOf (congestionConditions (segmentColumns (now (net .entry)) (now (orientation .entry)) (now (fixed .entry)) (now (start .entry)) (now (end .entry))) cutoff (length (now (scratch .entry))))) (now (scratch .entry)) ⌝ }
+{
+    measure_parallel_density_profile_bounded(
+        net,
+        orientation,
+        fixed,
+        start,
+        end,
+        cutoff,
+        0xffff_ffff_ffff_ffff,
+        scratch,
+    )
+}
