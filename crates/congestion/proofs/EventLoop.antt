@@ -8,14 +8,14 @@ use Prim.Native.Nat.{ℕ, zero, suc, _+_, _-_, _*_, _/_, _%_, _^_, _≤_, _<_}
 use native.Mathlib.Numerals.{add-one}
 use native.Mathlib.Omega.{arith}
 use native.Mathlib.Nat.{le-of-eq, lt-of-le-of-lt, le-of-suc-le-suc, not-suc-le-zero}
-use lib.Ieee.{Float, binary64, ofBits}
+use lib.Ieee.{Float, binary64, inf, ofBits}
 use lib.ListN.{length, getD, take, drop, length-map, length-drop, drop-of-length-le, List·getD-map}
 use lib.Seq.{drop-cons, getD-take, getD-drop, length-take-le}
 use Rattle.laws.specs.Lists.{Mem}
 use Rattle.laws.specs.Charged.{Charged, Outcome, left, within, runs, onward}
 use Rattle.laws.proofs.Tests.{le-or-lt}
 use Rattle.laws.proofs.Places.{first-at}
-use Rattle.laws.proofs.ListLaws.{mem-map}
+use Rattle.laws.proofs.ListLaws.{mem-map, map-same}
 use Rattle.laws.proofs.Runs.{within-none, within-next, within-enough, within-short, onward-spent, onward-left}
 use Rattle.sorting.specs.Sorted.{upTo}
 use Rattle.sorting.proofs.Entries.{upTo-below, upTo-entries, upTo-placed}
@@ -23,7 +23,7 @@ use Rattle.bitset.specs.Members.{member}
 use Rattle.bitset.proofs.Digits.{bit-zero}
 use Rattle.floats.specs.TotalOrder.{floatAt}
 use Rattle.floats.proofs.Units.{unit-bound}
-use Rattle.drawing.specs.declared.gap.Gap.the-variants.{Absent}
+use Rattle.drawing.specs.declared.gap.Gap.{Gap}
 use Rattle.congestion.specs.declared.sweep.Sweeping.{Sweeping}
 use Rattle.congestion.specs.declared.sweep.Handled.{Handled}
 use Rattle.congestion.specs.declared.sweep.Handled.the-variants.{Went, Spent}
@@ -31,8 +31,7 @@ use Rattle.congestion.specs.declared.run.Swept.the-variants.{Went as Don
 use Rattle.congestion.specs.Wires.{Wire}
 use Rattle.congestion.specs.Sweep.{Item, Event, State, numbered, at, events, inOrder, step, firstAt, begin, oriented}
 use Rattle.congestion.specs.Tables.{noWire, itemAt, eventAt, Key, Tabled, rowFrom, rowsFrom, Stored}
-use Rattle.congestion.specs.Sweeping.{Follows, AtEvent, Steps, Handles, AtFirst, sweptOf}
-use Rattle.congestion.proofs.FoldLaws.{map-same}
+use Rattle.congestion.specs.Sweeping.{Follows, AtEvent, Steps, Handles, AtFirst, gapOfFloat, sweptOf}
 use Rattle.congestion.proofs.Moments.{Fit, event}
 use Rattle.congestion.proofs.Passing.{run}
 use Rattle.congestion.proofs.Beginning.{Sound, wires-of, fit-numbered}
@@ -41,6 +40,7 @@ use Rattle.congestion.proofs.Bounds.{Small, congested-small, overlap-sm
 use Rattle.congestion.proofs.Reaching.{Reached, at-first, one-more}
 use Rattle.congestion.proofs.RoundedSums.{zero-units}
 use Rattle.congestion.proofs.DueEvents.{due}
+use Rattle.congestion.proofs.GapFloats.{gap-again}
 use Rattle.congestion.proofs.EventSteps.{ends-at, starts-at}
 
 -- ---- the items are the wires with their places
@@ -169,9 +169,9 @@ module _ (s₀ : List ℕ) (n allowance : ℕ) (a : AtFirst s₀ n) where
         rw (add-one q) (drop-cons order q none (omega (arith, order-long)) ∙ ap (λ (e : Event). e ∷ drop (suc q) order) here)
 
   -- ---- before the first event
-  pub going-first : (x : Float) → x ≡ floatAt (getD s₀ (2 * n + getD s₀ 0 0) 0) → Going (record { «congested_active» = 0; «congested_length» = ofBits binary64 0; «close_pairs» = 0; «pair_overlap_length» = ofBits binary64 0; «peak_close_neighbors» = 0; «minimum_positive» = Absent; previous = x; left = allowance }) s₀ 0
+  pub going-first : (x top : Float) → x ≡ floatAt (getD s₀ (2 * n + getD s₀ 0 0) 0) → top ≡ inf false → Going (record { «congested_active» = 0; «congested_length» = ofBits binary64 0; «close_pairs» = 0; «pair_overlap_length» = ofBits binary64 0; «peak_close_neighbors» = 0; «minimum_positive» = top; previous = x; left = allowance }) s₀ 0
   unfolding oriented ofBits
-  going-first x e = record {
+  going-first x top e f = record {
     st = begin items;
     room = a .room;
     tabled = a .tabled;
@@ -185,7 +185,7 @@ module _ (s₀ : List ℕ) (n allowance : ℕ) (a : AtFirst s₀ n) where
       congested = sym zero-units;
       overlap = sym zero-units;
       peak = refl;
-      least = refl;
+      least = f;
       held = tt;
       word = getD s₀ (2 * n + getD s₀ 0 0) 0;
       last = e;
@@ -273,12 +273,13 @@ module _ (s₀ : List ℕ) (n allowance : ℕ) (a : AtFirst s₀ n) where
         ]
 
     -- ---- after the last
-    pub going-all : 2 * n ≤ q → Done (record { «congested_length» = state .«congested_length»; «pair_overlap_length» = state .«pair_overlap_length»; «peak_close_neighbors» = state .«peak_close_neighbors»; «minimum_positive» = state .«minimum_positive»; left = state .left }) ≡ sweptOf (within allowance all)
+    pub going-all : 2 * n ≤ q → (r : Gap) → r ≡ gapOfFloat (state .«minimum_positive») → Done (record { «congested_length» = state .«congested_length»; «pair_overlap_length» = state .«pair_overlap_length»; «peak_close_neighbors» = state .«peak_close_neighbors»; «minimum_positive» = r; left = state .left }) ≡ sweptOf (within allowance all)
     unfolding sweptOf
-    going-all h =
+    going-all h r f =
+        let gap = f ∙ ap gapOfFloat (g .follows .least) ∙ gap-again (g .st .minimumPositive) (g .follows .held) in
         let e : drop q order ≡ [] = drop-of-length-le order {i = q} (omega (arith, order-long s (g .room) (g .tabled) q)) in
         let z : within allowance all ≡ left (g .st) (state .left) = sym (g .onwards) ∙ ap (λ (l : List Event). within (state .left) (runs (step (a .c)) (g .st) l)) e ∙ within-none (step (a .c)) (state .left) (g .st) in
-        (λ i. Done (record { «congested_length» = g .follows .congested i; «pair_overlap_length» = g .follows .overlap i; «peak_close_neighbors» = g .follows .peak i; «minimum_positive» = g .follows .least i; left = state .left })) ∙ sym (ap sweptOf z)
+        (λ i. Done (record { «congested_length» = g .follows .congested i; «pair_overlap_length» = g .follows .overlap i; «peak_close_neighbors» = g .follows .peak i; «minimum_positive» = gap i; left = state .left })) ∙ sym (ap sweptOf z)
 
 pub first-small : (s₀ : List ℕ) (n : ℕ) → AtFirst s₀ n → getD s₀ 0 0 < 2 * n
 first-small s₀ n a = number-small s₀ n 0 a s₀ (a .room) (a .tabled) 0 (omega (arith, a .some))

@@ -27,9 +27,9 @@ use Rattle.congestion.specs.declared.sweep.Sweeping.{Sweeping}
 use Rattle.congestion.specs.declared.sweep.Handled.the-variants.{Went, Spent}
 use Rattle.congestion.specs.Wires.{Wire}
 use Rattle.congestion.specs.Figures.{apart}
-use Rattle.congestion.specs.Sweep.{Item, Event, Row, State, at, neighbor, neighbors, gap, leastHere, wasCongested, risen, fallen, atStart, atEnd, step, gapOfUnits}
+use Rattle.congestion.specs.Sweep.{Item, Event, Row, State, at, neighbor, neighbors, gap, leastHere, wasCongested, risen, fallen, atStart, atEnd, step}
 use Rattle.congestion.specs.Tables.{itemAt, eventAt, Key, Tabled, rowFrom, rowsFrom, Stored, Held}
-use Rattle.congestion.specs.Meeting.{visitsOf, Meetable, MeetableEnd, CountsOnly, MeetsAtStart, MeetsAtEnd}
+use Rattle.congestion.specs.Meeting.{visitsOf, leastFloat, Meetable, MeetableEnd, CountsOnly, MeetsAtStart, MeetsAtEnd}
 use Rattle.congestion.specs.Sweeping.{passedTo, startedBy, endedBy, activated, deactivated, Follows, Ending, Due, AtEvent, Onward, Steps, Handles}
 use Rattle.congestion.proofs.Moments.{event}
 use Rattle.congestion.proofs.Fitness.{Stands}
@@ -159,7 +159,7 @@ module _ (s : List ℕ) (n j : ℕ) (state : Sweeping) where
       neighbors = neighbors (a .c) starting (a .st);
       changed = count (λ x. neighbor (a .c) (starting .wire) x && eqb (x .neighbors) 0) (a .st .rows);
       highest = fold max 0 (λ x. cond (neighbor (a .c) (starting .wire) x) (x .neighbors + 1) 0) (a .st .rows);
-      minimum = gapOfUnits (lesser ltb (a .st .minimumPositive) (leastHere (a .c) starting (a .st)));
+      least = leastFloat (lesser ltb (a .st .minimumPositive) (leastHere (a .c) starting (a .st)));
       left = m - visitsOf (a .c) (a .L) j (a .st);
     }
 
@@ -257,7 +257,7 @@ module _ (s : List ℕ) (n j : ℕ) (state : Sweeping) (inside : j < n) where
       neighbors = neighbors (a .c) ending (a .st);
       changed = count (λ x. neighbor (a .c) (ending .wire) x && eqb (x .neighbors) 1) (a .st .rows);
       highest = 0;
-      minimum = gapOfUnits (lesser ltb (a .st .minimumPositive) (leastHere (a .c) ending (a .st)));
+      least = leastFloat (lesser ltb (a .st .minimumPositive) (leastHere (a .c) ending (a .st)));
       left = m - visitsOf (a .c) (a .L) j (a .st);
     }
 

@@ -39,11 +39,7 @@ unfolding lesser anything
 lesser-same none = refl
 lesser-same (some n) = lesser-first numbers-ranked n n tt tt (le-refl n)
 
--- ---- mapped and chosen entries
-pub map-same : {A B : Type 0} (f g : A → B) (l : List A) → ((x : A) → Mem x l → f x ≡ g x) → map f l ≡ map g l
-map-same f g [] h = refl
-map-same f g (x ∷ l) h = ap₂ _∷_ (h x (inl refl)) (map-same f g l (λ y m. h y (inr m)))
-
+-- ---- chosen entries
 module _ {M : Type 0} {_⊕_ : M → M → M} {u : M} (L : Monoid _⊕_ u) where
   pub fold-chosen : {A C : Type 0} (f : C → M) (p : A → Bool) (h : A → C) (l : List A) → fold _⊕_ u f (chosen p h l) ≡ fold _⊕_ u (λ x. cond (p x) (f (h x)) u) l
   unfolding fold chosen

@@ -17,7 +17,8 @@ use Rattle.drawing.specs.declared.gap.Gap.the-variants.{Absent, Present}
 use Rattle.congestion.specs.Figures.{apart}
 use Rattle.congestion.specs.Sweep.{nonzero, gapOfUnits}
 use Rattle.congestion.specs.Tables.{Key, Held}
-use Rattle.congestion.specs.Meeting.{floatOfGap, gapOfFloat, withGap}
+use Rattle.congestion.specs.Meeting.{leastFloat, withGap}
+use Rattle.congestion.specs.Sweeping.{gapOfFloat}
 use Rattle.congestion.proofs.FoldLaws.{fewest}
 use Rattle.congestion.proofs.Oriented.{apart-turn}
 use Rattle.congestion.proofs.LeastGap.{held-lesser, lt-units, grid-gap, above-zero}
@@ -40,15 +41,20 @@ not-below : lt (inf false) (inf false) ≡ false
 unfolding lt
 not-below = refl
 
--- the float of a least gap in 64ths
-abbrev pub floatOf : Option ℕ → Float
-floatOf o = floatOfGap (gapOfUnits o)
+-- ---- when the sweep is done it becomes a gap
+module _ (x top : Float) (is : top ≡ inf false) where
+  pub gap-present : lt x top ≡ true → Present x ≡ gapOfFloat x
+  gap-present b = sym (cond-true (lt x (inf false)) (Present x) Absent (ap (lt x) (sym is) ∙ b))
 
-pub gap-again : (o : Option ℕ) → Held o → gapOfFloat (floatOf o) ≡ gapOfUnits o
+  pub gap-absent : lt x top ≡ false → Absent ≡ gapOfFloat x
+  gap-absent b = sym (cond-false (lt x (inf false)) (Present x) Absent (ap (lt x) (sym is) ∙ b))
+
+pub gap-again : (o : Option ℕ) → Held o → gapOfFloat (leastFloat o) ≡ gapOfUnits o
 gap-again none h = cond-false (lt (inf false) (inf false)) (Present (inf false)) Absent not-below
 gap-again (some n) h = cond-true (lt (ofUnits n) (inf false)) (Present (ofUnits n)) Absent (units-below n h)
 
-lesser-float : (o : Option ℕ) (a : ℕ) → Held o → a < 2 ^ 53 → lesserOf (floatOf o) (ofUnits a) ≡ floatOf (lesser ltb o (some a))
+-- ---- a gap joins it
+lesser-float : (o : Option ℕ) (a : ℕ) → Held o → a < 2 ^ 53 → lesserOf (leastFloat o) (ofUnits a) ≡ leastFloat (lesser ltb o (some a))
 unfolding lesserOf lesser
 lesser-float none a h k = cond-true (lt (ofUnits a) (inf false)) (ofUnits a) (inf false) (units-below a k)
 lesser-float (some n) a h k = ap (λ (t : Bool). cond t (ofUnits a) (ofUnits n)) (lt-units a n k h) ∙ go (ltb a n)
@@ -57,11 +63,11 @@ lesser-float (some n) a h k = ap (λ (t : Bool). cond t (ofUnits a) (ofUnits n))
     go true = refl
     go false = refl
 
-joined-units : (o : Option ℕ) (b : Bool) (a : ℕ) (g : Float) → Held o → a < 2 ^ 53 → g ≡ ofUnits a → lt plusZero g ≡ not b → (withGap (floatOf o) g ≡ floatOf (lesser ltb o (nonzero b a))) × Held (lesser ltb o (nonzero b a))
-joined-units o true a g h k e z = (cond-false (lt plusZero g) (lesserOf (floatOf o) g) (floatOf o) z ∙ sym (ap floatOf (lesser-none o)), subst Held (sym (lesser-none o)) h)
-joined-units o false a g h k e z = (cond-true (lt plusZero g) (lesserOf (floatOf o) g) (floatOf o) z ∙ ap (lesserOf (floatOf o)) e ∙ lesser-float o a h k, held-lesser o (some a) h k)
+joined-units : (o : Option ℕ) (b : Bool) (a : ℕ) (g : Float) → Held o → a < 2 ^ 53 → g ≡ ofUnits a → lt plusZero g ≡ not b → (withGap (leastFloat o) g ≡ leastFloat (lesser ltb o (nonzero b a))) × Held (lesser ltb o (nonzero b a))
+joined-units o true a g h k e z = (cond-false (lt plusZero g) (lesserOf (leastFloat o) g) (leastFloat o) z ∙ sym (ap leastFloat (lesser-none o)), subst Held (sym (lesser-none o)) h)
+joined-units o false a g h k e z = (cond-true (lt plusZero g) (lesserOf (leastFloat o) g) (leastFloat o) z ∙ ap (lesserOf (leastFloat o)) e ∙ lesser-float o a h k, held-lesser o (some a) h k)
 
-pub keys-join : (o : Option ℕ) (w w' u u' : ℕ) → Held o → Key w u → Key w' u' → (withGap (floatOf o) (gapOf (floatAt w) (floatAt w')) ≡ floatOf (lesser ltb o (nonzero (eqb u' u) (apart u' u)))) × Held (lesser ltb o (nonzero (eqb u' u) (apart u' u)))
+pub keys-join : (o : Option ℕ) (w w' u u' : ℕ) → Held o → Key w u → Key w' u' → (withGap (leastFloat o) (gapOf (floatAt w) (floatAt w')) ≡ leastFloat (lesser ltb o (nonzero (eqb u' u) (apart u' u)))) × Held (lesser ltb o (nonzero (eqb u' u) (apart u' u)))
 keys-join o w w' u u' h k k' =
     let g = grid-gap (floatAt w) (floatAt w') (k .grid) (k' .grid) in
     let e : apart (unit (floatAt w)) (unit (floatAt w')) ≡ apart u' u = ap₂ apart (k .is) (k' .is) ∙ apart-turn u u' in

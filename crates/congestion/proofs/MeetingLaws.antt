@@ -11,6 +11,7 @@ use lib.Ieee.{Float}
 use lib.ListN.{length, getD, drop, set}
 use lib.Seq.{getD-take, getD-drop, drop-drop, getD-set-same, getD-set-other, take-set-le, drop-set-lt}
 use borrow.Author.Tests.{lt-ltb, le-ltb, le-leb, lt-leb, eq-eqb, ne-eqb}
+use Rattle.laws.proofs.ListLaws.{map-same}
 use Rattle.laws.specs.Lists.{bit, fold, count}
 use Rattle.laws.specs.Least.{lesser}
 use Rattle.laws.proofs.Tests.{le-or-lt, same-or-not, cond-true, cond-false}
@@ -22,15 +23,14 @@ use Rattle.bitset.proofs.Lasts.{NoneIn, Greatest}
 use Rattle.floats.specs.Values.{gapOf}
 use Rattle.floats.specs.TotalOrder.{floatAt}
 use Rattle.congestion.specs.declared.meet.Meeting.{Meeting}
-use Rattle.congestion.specs.declared.meet.Tally.{Tally}
 use Rattle.congestion.specs.declared.meet.Met.the-variants.{Went, Spent}
 use Rattle.congestion.specs.Wires.{Wire}
 use Rattle.congestion.specs.Figures.{other}
-use Rattle.congestion.specs.Sweep.{Row, State, inRange, visited, neighbor, gap, neighbors, leastHere, gapOfUnits}
+use Rattle.congestion.specs.Sweep.{Row, State, inRange, visited, neighbor, gap, neighbors, leastHere}
 use Rattle.congestion.specs.Tables.{itemAt, Key, Tabled, rowFrom, rowsFrom, Stored, Held}
-use Rattle.congestion.specs.Meeting.{visitsOf, CountsOnly, moved, turning, topmost, gapOfFloat, meetingOf, withGap, countAfter, highestAfter, withNeighbor, paid, Visits}
-use Rattle.congestion.proofs.FoldLaws.{fewest, map-same}
-use Rattle.congestion.proofs.GapFloats.{floatOf, lesser-none, gap-again, keys-join}
+use Rattle.congestion.specs.Meeting.{visitsOf, CountsOnly, moved, turning, topmost, leastFloat, withGap, countAfter, highestAfter, withNeighbor, paid, Visits}
+use Rattle.congestion.proofs.FoldLaws.{fewest}
+use Rattle.congestion.proofs.GapFloats.{lesser-none, keys-join}
 use Rattle.congestion.proofs.PlaceFolds.{since, since-none, since-next, since-all, since-at-most, since-below-all}
 
 -- ---- a row under an event
@@ -101,7 +101,7 @@ module _ (starts : Bool) (n j : ℕ) (s₀ : List ℕ) (least₀ : Float) (allow
   abbrev countAt : ℕ → ℕ
   countAt k = moved starts (near k) (row k) .neighbors
 
-  pub record Going (met : Tally) (s : List ℕ) (p : ℕ) : Type 0 where
+  pub record Going (met : Meeting) (s : List ℕ) (p : ℕ) : Type 0 where
     pub only : CountsOnly n s₀ s
     pub within : p ≤ hi
     pub counts : (k : ℕ) → k < n → getD (drop (8 * n) s) k 0 ≡ cond (leb p k) (countAt k) (row k .neighbors)
@@ -109,9 +109,9 @@ module _ (starts : Bool) (n j : ℕ) (s₀ : List ℕ) (least₀ : Float) (allow
     pub neighbors : met .neighbors ≡ since _+_ 0 n p (λ k. bit (near k))
     pub changed : met .changed ≡ since _+_ 0 n p (λ k. bit (turned k))
     pub highest : met .highest ≡ since max 0 n p reached
-    pub least : (m : Option ℕ) → least₀ ≡ floatOf m → Held m → (met .least ≡ floatOf (lesser ltb m (since (lesser ltb) none n p gapAt))) × Held (lesser ltb m (since (lesser ltb) none n p gapAt))
+    pub least : (m : Option ℕ) → least₀ ≡ leastFloat m → Held m → (met .least ≡ leastFloat (lesser ltb m (since (lesser ltb) none n p gapAt))) × Held (lesser ltb m (since (lesser ltb) none n p gapAt))
 
-  pub going-few : (met : Tally) (s : List ℕ) (p : ℕ) → Going met s p → (met .neighbors ≤ n) × (met .changed ≤ n)
+  pub going-few : (met : Meeting) (s : List ℕ) (p : ℕ) → Going met s p → (met .neighbors ≤ n) × (met .changed ≤ n)
   going-few met s p g = let a = g .neighbors in let b = g .changed in (omega (arith, since-at-most n p near), omega (arith, since-at-most n p turned))
 
   -- ---- a place that is not visited contributes nothing
@@ -132,7 +132,7 @@ module _ (starts : Bool) (n j : ℕ) (s₀ : List ℕ) (least₀ : Float) (allow
     unseen-count = ap (λ (b : Bool). moved starts b (row k) .neighbors) unseen-near ∙ ap (λ (r : Row). r .neighbors) (moved-not starts (row k))
 
   -- ---- one place more: the scratch s becomes t
-  pub record Adds (met next : Tally) (s t : List ℕ) (i : ℕ) : Type 0 where
+  pub record Adds (met next : Meeting) (s t : List ℕ) (i : ℕ) : Type 0 where
     pub only : CountsOnly n s t
     pub count : getD (drop (8 * n) t) i 0 ≡ countAt i
     pub counts : (k : ℕ) → (k ≡ i → ⊥) → getD (drop (8 * n) t) k 0 ≡ getD (drop (8 * n) s) k 0
@@ -140,7 +140,7 @@ module _ (starts : Bool) (n j : ℕ) (s₀ : List ℕ) (least₀ : Float) (allow
     pub neighbors : next .neighbors ≡ met .neighbors + bit (near i)
     pub changed : next .changed ≡ met .changed + bit (turned i)
     pub highest : next .highest ≡ max (met .highest) (reached i)
-    pub least : (o : Option ℕ) → met .least ≡ floatOf o → Held o → (next .least ≡ floatOf (lesser ltb o (gapAt i))) × Held (lesser ltb o (gapAt i))
+    pub least : (o : Option ℕ) → met .least ≡ leastFloat o → Held o → (next .least ≡ leastFloat (lesser ltb o (gapAt i))) × Held (lesser ltb o (gapAt i))
 
   -- the next place below p that is visited
   pub record Next (p i : ℕ) : Type 0 where
@@ -149,11 +149,11 @@ module _ (starts : Bool) (n j : ℕ) (s₀ : List ℕ) (least₀ : Float) (allow
     pub here : seen i ≡ true
     pub between : (k : ℕ) → k < n → i < k → k < p → seen k ≡ false
 
-  module _ (met : Tally) (s : List ℕ) (p : ℕ) (g : Going met s p) (i : ℕ) (x : Next p i) where
+  module _ (met : Meeting) (s : List ℕ) (p : ℕ) (g : Going met s p) (i : ℕ) (x : Next p i) where
     paid-since : since _+_ 0 n i (λ k. bit (seen k)) ≡ since _+_ 0 n p (λ k. bit (seen k)) + 1
     paid-since = since-next plus n i p (λ k. bit (seen k)) (x .inside) (x .below) (λ k a b d. ap bit (x .between k a b d)) ∙ ap (λ (b : Bool). since _+_ 0 n p (λ k. bit (seen k)) + bit b) (x .here)
 
-    module _ (next : Tally) (t : List ℕ) (a : Adds met next s t i) where
+    module _ (next : Meeting) (t : List ℕ) (a : Adds met next s t i) where
       new-counts : (k : ℕ) → k < n → getD (drop (8 * n) t) k 0 ≡ cond (leb i k) (countAt k) (row k .neighbors)
       new-counts k h = elim (le-or-lt i k) [
         | inr d ↦ a .counts k (λ e. omega arith) ∙ g .counts k h ∙ cond-false (leb p k) (countAt k) (row k .neighbors) (lt-leb p k (omega (arith, x .below))) ∙ sym (cond-false (leb i k) (countAt k) (row k .neighbors) (lt-leb i k d))
@@ -169,13 +169,13 @@ module _ (starts : Bool) (n j : ℕ) (s₀ : List ℕ) (least₀ : Float) (allow
             ]
           ]
 
-      new-least : (m : Option ℕ) → least₀ ≡ floatOf m → Held m → (next .least ≡ floatOf (lesser ltb m (since (lesser ltb) none n i gapAt))) × Held (lesser ltb m (since (lesser ltb) none n i gapAt))
+      new-least : (m : Option ℕ) → least₀ ≡ leastFloat m → Held m → (next .least ≡ leastFloat (lesser ltb m (since (lesser ltb) none n i gapAt))) × Held (lesser ltb m (since (lesser ltb) none n i gapAt))
       new-least m e h =
           let old = since (lesser ltb) none n p gapAt in
           let l = g .least m e h in
           let k = a .least (lesser ltb m old) (l .0) (l .1) in
           let z : lesser ltb (lesser ltb m old) (gapAt i) ≡ lesser ltb m (since (lesser ltb) none n i gapAt) = fewest .assoc m old (gapAt i) ∙ ap (lesser ltb m) (sym (since-next fewest n i p gapAt (x .inside) (x .below) (λ q u v w. unseen-gap q (x .between q u v w)))) in
-          (k .0 ∙ ap floatOf z, subst Held z (k .1))
+          (k .0 ∙ ap leastFloat z, subst Held z (k .1))
 
       pub going-next : Going next t i
       going-next = record {
@@ -222,8 +222,8 @@ module _ (starts : Bool) (n j : ℕ) (s₀ : List ℕ) (least₀ : Float) (allow
     past-range k h a = seen-is k h ∙ rw (le-ltb k hi a, and-false (leb lo k)) (and-false (member (drop (9 * n) s₀) k))
 
     -- ---- before the loop
-    pub going-none : (met : Tally) → met ≡ record { neighbors = 0; changed = 0; highest = 0; least = least₀; left = allowance } → Going met s₀ hi
-    going-none met e = subst (λ (m : Tally). Going m s₀ hi) (sym e) (record {
+    pub going-none : (met : Meeting) → met ≡ record { neighbors = 0; changed = 0; highest = 0; least = least₀; left = allowance } → Going met s₀ hi
+    going-none met e = subst (λ (m : Meeting). Going m s₀ hi) (sym e) (record {
       only = record { front = refl; behind = refl };
       within = omega arith;
       counts = λ k h. elim (le-or-lt hi k) [
@@ -236,11 +236,11 @@ module _ (starts : Bool) (n j : ℕ) (s₀ : List ℕ) (least₀ : Float) (allow
       highest = sym (since-none greatest n hi reached (λ k h a. unseen-reached k (past-range k h a)));
       least = λ m f h.
           let z : m ≡ lesser ltb m (since (lesser ltb) none n hi gapAt) = sym (lesser-none m) ∙ ap (lesser ltb m) (sym (since-none fewest n hi gapAt (λ k h a. unseen-gap k (past-range k h a)))) in
-          (f ∙ ap floatOf z, subst Held z h);
+          (f ∙ ap leastFloat z, subst Held z h);
     })
 
     -- ---- in the loop
-    module _ (met : Tally) (s : List ℕ) (p : ℕ) (g : Going met s p) where
+    module _ (met : Meeting) (s : List ℕ) (p : ℕ) (g : Going met s p) where
       front-word : (k : ℕ) → k < 8 * n → getD s k 0 ≡ getD s₀ k 0
       front-word k h = sym (getD-take (8 * n) s k 0 h) ∙ ap (λ (l : List ℕ). getD l k 0) (g .only .front) ∙ getD-take (8 * n) s₀ k 0 h
 
@@ -285,7 +285,7 @@ module _ (starts : Bool) (n j : ℕ) (s₀ : List ℕ) (least₀ : Float) (allow
             neighbors = rw e (omega arith);
             changed = rw e (omega arith);
             highest = rw e (omega arith);
-            least = λ o f h. rw e (f ∙ ap floatOf (sym (lesser-none o)), subst Held (sym (lesser-none o)) h);
+            least = λ o f h. rw e (f ∙ ap leastFloat (sym (lesser-none o)), subst Held (sym (lesser-none o)) h);
           }
 
           module _ (here : Float) (at : here ≡ floatAt (getD s₀ (4 * n + j) 0)) (room : 9 * n ≤ length s) where
@@ -318,14 +318,14 @@ module _ (starts : Bool) (n j : ℕ) (s₀ : List ℕ) (least₀ : Float) (allow
                   rw e (ap₂ withGap f gap-is ∙ k .0, k .1);
             }
 
-            pub visit-next : 1 ≤ met .left → (t : List ℕ) (next : Tally) → Visits s t n i net here starts met next → Going next t i
+            pub visit-next : 1 ≤ met .left → (t : List ℕ) (next : Meeting) → Visits s t n i net here starts met next → Going next t i
             visit-next left t next v = elim (same-or-not (getD s (5 * n + i) 0) net) [
               | inl d ↦ let q = v .passes d in arrive (paid met) s (q .0) (q .1) (passing left (alike d))
               | inr d ↦ let q = v .meets d in arrive (withNeighbor starts met-count met-gap met) (set s (8 * n + i) (countAfter starts met-count)) (q .0) (q .1) (meeting left (differ d))
             ]
               where
-                arrive : (m : Tally) (l : List ℕ) → next ≡ m → t ≡ l → Adds met m s l i → Going next t i
-                arrive m l e x a = subst (λ (z : Tally). Going z t i) (sym e) (subst (λ (z : List ℕ). Going m z i) (sym x) (going-next met s p g i next-place m l a))
+                arrive : (m : Meeting) (l : List ℕ) → next ≡ m → t ≡ l → Adds met m s l i → Going next t i
+                arrive m l e x a = subst (λ (z : Meeting). Going z t i) (sym e) (subst (λ (z : List ℕ). Going m z i) (sym x) (going-next met s p g i next-place m l a))
 
         pub visit-stops : met .left ≡ 0 → allowance < fold _+_ 0 (λ k. bit (seen k)) (upTo n)
         visit-stops e =
@@ -350,14 +350,14 @@ module _ (starts : Bool) (n j : ℕ) (s₀ : List ℕ) (least₀ : Float) (allow
         neighbors = neighbors c (itemAt L j) st;
         changed = count (λ x. neighbor c wire x && eqb (x .neighbors) (turning starts)) (st .rows);
         highest = topmost starts (neighbor c wire) (st .rows);
-        minimum = gapOfUnits (lesser ltb m (leastHere c (itemAt L j) st));
+        least = leastFloat (lesser ltb m (leastHere c (itemAt L j) st));
         left = allowance - visits;
       }
 
       pub spent-meets : allowance < fold _+_ 0 (λ k. bit (seen k)) (upTo n) → (m : Option ℕ) (t : List ℕ) → (allowance < visits → Spent ≡ Spent) × (visits ≤ allowance → (Spent ≡ Went (outcome m)) × (rowsFrom L (drop (8 * n) t) ≡ map (λ x. moved starts (neighbor c wire x) x) (st .rows)))
       spent-meets h m t = (λ a. refl, λ a. absurd (omega (arith, visits-are)))
 
-      module _ (met : Tally) (s : List ℕ) (p : ℕ) (g : Going met s p) (last : NoneIn (drop (9 * n) s) lo p) where
+      module _ (met : Meeting) (s : List ℕ) (p : ℕ) (g : Going met s p) (last : NoneIn (drop (9 * n) s) lo p) where
         rest-unseen : (k : ℕ) → k < n → k < p → seen k ≡ false
         rest-unseen k h a = elim (le-or-lt lo k) [
           | inl b ↦ no-member k h (subst (λ (l : List ℕ). member l k ≡ false) (g .only .behind) (last k b a))
@@ -367,15 +367,15 @@ module _ (starts : Bool) (n j : ℕ) (s₀ : List ℕ) (least₀ : Float) (allow
         left-is : met .left + visits ≡ allowance
         left-is = let e = visits-are in let d = since-all plus n p (λ k. bit (seen k)) (λ k h a. ap bit (rest-unseen k h a)) in let f = g .paid in omega arith
 
-        met-is : (m : Option ℕ) → least₀ ≡ floatOf m → Held m → meetingOf met ≡ outcome m
+        met-is : (m : Option ℕ) → least₀ ≡ leastFloat m → Held m → met ≡ outcome m
         met-is m e h =
             let a : met .neighbors ≡ neighbors c (itemAt L j) st = g .neighbors ∙ since-all plus n p (λ k. bit (near k)) (λ k h a. ap bit (unseen-near k (rest-unseen k h a))) ∙ sym (over-rows plus (λ x. bit (neighbor c wire x))) in
             let b : met .changed ≡ count (λ x. neighbor c wire x && eqb (x .neighbors) (turning starts)) (st .rows) = g .changed ∙ since-all plus n p (λ k. bit (turned k)) (λ k h a. unseen-turned k (rest-unseen k h a)) ∙ sym (over-rows plus (λ x. bit (neighbor c wire x && eqb (x .neighbors) (turning starts)))) in
             let d : met .highest ≡ topmost starts (neighbor c wire) (st .rows) = g .highest ∙ since-all greatest n p reached (λ k h a. unseen-reached k (rest-unseen k h a)) ∙ sym (over-rows greatest (λ x. cond (neighbor c wire x) (top starts (x .neighbors)) 0)) ∙ topmost-is starts (neighbor c wire) (st .rows) in
             let k = g .least m e h in
-            let f : gapOfFloat (met .least) ≡ gapOfUnits (lesser ltb m (leastHere c (itemAt L j) st)) = ap gapOfFloat (k .0) ∙ gap-again (lesser ltb m (since (lesser ltb) none n p gapAt)) (k .1) ∙ ap (λ (o : Option ℕ). gapOfUnits (lesser ltb m o)) (since-all fewest n p gapAt (λ k h a. unseen-gap k (rest-unseen k h a)) ∙ sym (over-rows fewest (λ x. cond (neighbor c wire x) (gap wire (x .item .wire)) none))) in
+            let f : met .least ≡ leastFloat (lesser ltb m (leastHere c (itemAt L j) st)) = k .0 ∙ ap (λ (o : Option ℕ). leastFloat (lesser ltb m o)) (since-all fewest n p gapAt (λ k h a. unseen-gap k (rest-unseen k h a)) ∙ sym (over-rows fewest (λ x. cond (neighbor c wire x) (gap wire (x .item .wire)) none))) in
             let l : met .left ≡ allowance - visits = omega (arith, left-is) in
-            λ i. record { neighbors = a i; changed = b i; highest = d i; minimum = f i; left = l i }
+            λ i. record { neighbors = a i; changed = b i; highest = d i; least = f i; left = l i }
 
         counted : (k : ℕ) → k < n → getD (drop (8 * n) s) k 0 ≡ countAt k
         counted k h = g .counts k h ∙ elim (le-or-lt p k) [
@@ -394,5 +394,5 @@ module _ (starts : Bool) (n j : ℕ) (s₀ : List ℕ) (least₀ : Float) (allow
             ∙ sym (map-map (λ x. moved starts (neighbor c wire x) x) row (upTo (length L)))
             ∙ ap (map (λ x. moved starts (neighbor c wire x) x)) (sym (stored .rows))
 
-        pub went-meets : (m : Option ℕ) → least₀ ≡ floatOf m → Held m → (r : Meeting) → r ≡ meetingOf met → (allowance < visits → Went r ≡ Spent) × (visits ≤ allowance → (Went r ≡ Went (outcome m)) × (rowsFrom L (drop (8 * n) s) ≡ map (λ x. moved starts (neighbor c wire x) x) (st .rows)))
-        went-meets m e h r is = (λ a. absurd (omega (arith, left-is)), λ a. (ap Went (is ∙ met-is m e h), rows-are))
+        pub went-meets : (m : Option ℕ) → least₀ ≡ leastFloat m → Held m → (allowance < visits → Went met ≡ Spent) × (visits ≤ allowance → (Went met ≡ Went (outcome m)) × (rowsFrom L (drop (8 * n) s) ≡ map (λ x. moved starts (neighbor c wire x) x) (st .rows)))
+        went-meets m e h = (λ a. absurd (omega (arith, left-is)), λ a. (ap Went (met-is m e h), rows-are))

@@ -19,14 +19,12 @@ use Rattle.bitset.specs.declared.Last.the-variants.{Found, Empty}
 use Rattle.bitset.specs.Members.{lastBelow}
 use Rattle.bitset.proofs.Lasts.{Greatest, last-found, last-empty}
 use Rattle.floats.specs.TotalOrder.{floatAt}
-use Rattle.drawing.specs.declared.gap.Gap.{Gap}
-use Rattle.congestion.specs.declared.meet.Tally.{Tally}
 use Rattle.congestion.specs.declared.meet.Meeting.{Meeting}
 use Rattle.congestion.specs.declared.meet.Met.the-variants.{Went, Spent}
 use Rattle.congestion.specs.Wires.{Wire}
 use Rattle.congestion.specs.Sweep.{Row}
 use Rattle.congestion.specs.Tables.{Tabled, rowFrom}
-use Rattle.congestion.specs.Meeting.{Meetable, MeetableEnd, CountsOnly, Meets, MeetableAt, floatOfGap, meetingOf, Visitable, Visits}
+use Rattle.congestion.specs.Meeting.{Meetable, MeetableEnd, CountsOnly, Meets, MeetableAt, Visitable, Visits}
 use Rattle.congestion.proofs.MeetingLaws.{Going, Next, going-few, going-none, old-count, next-place, differ, visit-next, visit-stops, spent-meets, went-meets}
 
 -- ---- what the search in the part of the bits answers
@@ -43,13 +41,13 @@ mem-upTo (suc n) i h = elim (same-or-not i n) [
 
 -- ---- the same for whatever wires the tables are of
 module _ (starts : Bool) (n j : ℕ) (s₀ : List ℕ) (least₀ : Float) (allowance : ℕ) where
-  abbrev pub Runs : Tally → List ℕ → ℕ → Type 0
+  abbrev pub Runs : Meeting → List ℕ → ℕ → Type 0
   Runs met s p = (c : ℕ) (L : List Wire) → length L ≡ n → Tabled c L s₀ → Going starts n j s₀ least₀ allowance c L met s p
 
-  pub run-none : j < n → (met : Tally) → met ≡ record { neighbors = 0; changed = 0; highest = 0; least = least₀; left = allowance } → Runs met s₀ (getD s₀ (7 * n + j) 0)
+  pub run-none : j < n → (met : Meeting) → met ≡ record { neighbors = 0; changed = 0; highest = 0; least = least₀; left = allowance } → Runs met s₀ (getD s₀ (7 * n + j) 0)
   run-none h met e c L size tabled = going-none starts n j s₀ least₀ allowance c L size tabled h met e
 
-  module _ (a : MeetableAt starts s₀ n j) (met : Tally) (s : List ℕ) (p : ℕ) (g : Runs met s p) where
+  module _ (a : MeetableAt starts s₀ n j) (met : Meeting) (s : List ℕ) (p : ℕ) (g : Runs met s p) where
     abbrev known : Meetable s₀ n j
     known = a .meetable
 
@@ -82,8 +80,8 @@ module _ (starts : Bool) (n j : ℕ) (s₀ : List ℕ) (least₀ : Float) (allow
       few : (met .neighbors ≤ n) × (met .changed ≤ n)
       few = going-few starts n j s₀ least₀ allowance (known .c) (known .L) met s p the-going
 
-      pub run-stops : met .left ≡ 0 → (minimum : Gap) → Meets starts s₀ s n j minimum allowance Spent
-      run-stops e minimum c L st m size tabled stored f h = spent-meets starts n j s₀ least₀ allowance c L size tabled (known .inside) st stored (visit-stops starts n j s₀ least₀ allowance c L size tabled (known .inside) met s p (g c L size tabled) i last e) m s
+      pub run-stops : met .left ≡ 0 → Meets starts s₀ s n j least₀ allowance Spent
+      run-stops e c L st m size tabled stored f h = spent-meets starts n j s₀ least₀ allowance c L size tabled (known .inside) st stored (visit-stops starts n j s₀ least₀ allowance c L size tabled (known .inside) met s p (g c L size tabled) i last e) m s
 
       module _ (left : met .left ≡ 0 → ⊥) (net : ℕ) (of : net ≡ getD s₀ (5 * n + j) 0) where
         pub run-visitable : Visitable s n i net starts met
@@ -102,11 +100,11 @@ module _ (starts : Bool) (n j : ℕ) (s₀ : List ℕ) (least₀ : Float) (allow
           left = omega arith;
         }
 
-        pub run-next : (here : Float) → here ≡ floatAt (getD s₀ (4 * n + j) 0) → (t : List ℕ) (next : Tally) → Visits s t n i net here starts met next → Runs next t i
+        pub run-next : (here : Float) → here ≡ floatAt (getD s₀ (4 * n + j) 0) → (t : List ℕ) (next : Meeting) → Visits s t n i net here starts met next → Runs next t i
         run-next here at t next v c L size tabled = visit-next starts n j s₀ least₀ allowance c L size tabled (known .inside) met s p (g c L size tabled) i last net of here at room (omega arith) t next v
 
-    pub run-all : lastBelow (drop (9 * n) s) (getD s₀ (6 * n + j) 0) p ≡ Empty → (minimum : Gap) → least₀ ≡ floatOfGap minimum → (r : Meeting) → r ≡ meetingOf met → Meets starts s₀ s n j minimum allowance (Went r)
-    run-all e minimum of r is c L st m size tabled stored f h = went-meets starts n j s₀ least₀ allowance c L size tabled (known .inside) st stored met s p (g c L size tabled) (last-empty (drop (9 * n) s) (getD s₀ (6 * n + j) 0) p e) m (of ∙ ap floatOfGap f) h r is
+    pub run-all : lastBelow (drop (9 * n) s) (getD s₀ (6 * n + j) 0) p ≡ Empty → Meets starts s₀ s n j least₀ allowance (Went met)
+    run-all e c L st m size tabled stored f h = went-meets starts n j s₀ least₀ allowance c L size tabled (known .inside) st stored met s p (g c L size tabled) (last-empty (drop (9 * n) s) (getD s₀ (6 * n + j) 0) p e) m f h
 
 -- ---- a start and an end
 pub at-start : (s : List ℕ) (n j : ℕ) → Meetable s n j → MeetableAt true s n j

@@ -11,14 +11,13 @@ use lib.Seq.{getD-take, take-take}
 use borrow.Author.Tests.{eq-eqb, ne-eqb}
 use Rattle.laws.specs.Lists.{Mem, All, bit, fold, count}
 use Rattle.laws.proofs.Tests.{same-or-not}
-use Rattle.laws.proofs.ListLaws.{append-left, append-right, mem-map, map-mem}
+use Rattle.laws.proofs.ListLaws.{append-left, append-right, mem-map, map-mem, map-same}
 use Rattle.laws.proofs.Folds.{plus, fold-append, fold-map, fold-unit}
 use Rattle.sorting.specs.Sorted.{upTo}
 use Rattle.sorting.proofs.Entries.{length-upTo, upTo-below}
 use Rattle.congestion.specs.Wires.{Wire}
 use Rattle.congestion.specs.Sweep.{Row, State, wasCongested}
 use Rattle.congestion.specs.Tables.{itemAt, eventAt, Key, Tabled, rowFrom, rowsFrom}
-use Rattle.congestion.proofs.FoldLaws.{map-same}
 
 -- ---- places
 up-to-mem : (n i : ℕ) → i < n → Mem i (upTo n)

@@ -13,7 +13,7 @@ use Rattle.laws.specs.Lists.{Mem, All}
 use Rattle.laws.specs.Rows.{rowLe}
 use Rattle.laws.specs.Sort.{sortBy, insertBy}
 use Rattle.laws.proofs.Tests.{decide, clash, le-or-lt, cond-true, cond-false}
-use Rattle.laws.proofs.ListLaws.{all-mem}
+use Rattle.laws.proofs.ListLaws.{all-mem, map-same}
 use Rattle.laws.proofs.Perms.{perm-mem}
 use Rattle.laws.proofs.Sorting.{sort-perm}
 use Rattle.floats.specs.Values.{canonicalZero}
@@ -35,7 +35,6 @@ use Rattle.congestion.specs.Tables.{noWire, itemAt, eventAt, Key, Tabled
 use Rattle.congestion.specs.Ranges.{Ranged}
 use Rattle.congestion.specs.Measuring.{wireOfRow, Coordinate, Proper}
 use Rattle.congestion.proofs.Fitness.{FitSegment}
-use Rattle.congestion.proofs.FoldLaws.{map-same}
 use Rattle.congestion.proofs.RowWires.{canonical-fits, key-unit}
 
 -- ---- a key of a coordinate on the grid

@@ -1,19 +1,18 @@
--- One visit: the tally and the count that it leaves. Assumes nothing.
+-- One visit: the meeting and the count that it leaves. Assumes nothing.
 use mathlib.Core.Path.{_≡_, refl, sym, ap, _∙_}
 use mathlib.Core.List.{List}
 use mathlib.Core.Bool.{Bool, true, false}
 use Prim.Native.Nat.{ℕ, _+_, _-_, _*_, max}
 use native.Mathlib.Omega.{arith}
 use lib.Dec.{eqb}
-use lib.Ieee.{Float, binary64, inf, sub, lt}
+use lib.Ieee.{Float, binary64, sub, lt}
 use lib.ListN.{getD, set}
 use Rattle.laws.specs.Lists.{bit}
 use Rattle.laws.proofs.Tests.{cond-true, cond-false}
 use Rattle.floats.specs.Values.{plusZero, lesserOf, absOf, gapOf}
 use Rattle.floats.specs.TotalOrder.{floatAt}
-use Rattle.drawing.specs.declared.gap.Gap.the-variants.{Absent, Present}
-use Rattle.congestion.specs.declared.meet.Tally.{Tally}
-use Rattle.congestion.specs.Meeting.{gapOfFloat, withGap, countAfter, withNeighbor, paid, Countable, Visitable, Visits}
+use Rattle.congestion.specs.declared.meet.Meeting.{Meeting}
+use Rattle.congestion.specs.Meeting.{withGap, countAfter, withNeighbor, paid, Countable, Visitable, Visits}
 
 pub one-more : (n : ℕ) (b : Bool) → b ≡ true → n + 1 ≡ n + bit b
 one-more n b e = ap (λ (z : Bool). n + bit z) (sym e)
@@ -22,13 +21,6 @@ pub no-more : (n : ℕ) (b : Bool) → b ≡ false → n ≡ n + bit b
 no-more n b e = let z : n ≡ n + 0 = omega arith in z ∙ ap (λ (z : Bool). n + bit z) (sym e)
 
 -- ---- gaps
-module _ (x top : Float) (is : top ≡ inf false) where
-  pub gap-present : lt x top ≡ true → Present x ≡ gapOfFloat x
-  gap-present b = sym (cond-true (lt x (inf false)) (Present x) Absent (ap (lt x) (sym is) ∙ b))
-
-  pub gap-absent : lt x top ≡ false → Absent ≡ gapOfFloat x
-  gap-absent b = sym (cond-false (lt x (inf false)) (Present x) Absent (ap (lt x) (sym is) ∙ b))
-
 module _ (least gap : Float) where
   pub gap-joins : (r : Float) → lt plusZero gap ≡ true → r ≡ lesserOf least gap → r ≡ withGap least gap
   gap-joins r b e = e ∙ sym (cond-true (lt plusZero gap) (lesserOf least gap) least b)
@@ -37,7 +29,7 @@ module _ (least gap : Float) where
   gap-passed b = sym (cond-false (lt plusZero gap) (lesserOf least gap) least b)
 
 -- ---- a neighbor
-module _ (starts : Bool) (s : List ℕ) (at x : ℕ) (gap y : Float) (t : Tally) (f : y ≡ withGap (t .least) gap) where
+module _ (starts : Bool) (s : List ℕ) (at x : ℕ) (gap y : Float) (t : Meeting) (f : y ≡ withGap (t .least) gap) where
   abbrev k : ℕ
   k = getD s at 0
 
@@ -56,7 +48,7 @@ module _ (starts : Bool) (s : List ℕ) (at x : ℕ) (gap y : Float) (t : Tally)
   )
 
 -- ---- a visit
-module _ (s : List ℕ) (n i net : ℕ) (here : Float) (starts : Bool) (t : Tally) where
+module _ (s : List ℕ) (n i net : ℕ) (here : Float) (starts : Bool) (t : Meeting) where
   pub visit-passes : getD s (5 * n + i) 0 ≡ net → Visits s s n i net here starts t (paid t)
   visit-passes e = record { passes = λ d. (refl, refl); meets = λ d. absurd (d e) }
 
@@ -71,7 +63,7 @@ module _ (s : List ℕ) (n i net : ℕ) (here : Float) (starts : Bool) (t : Tall
       left = v .left;
     }
 
-    pub visit-meets : (there gap : Float) (r : Tally) (u : List ℕ) → there ≡ floatAt (getD s (4 * n + i) 0) → gap ≡ absOf (sub binary64 there here)
+    pub visit-meets : (there gap : Float) (r : Meeting) (u : List ℕ) → there ≡ floatAt (getD s (4 * n + i) 0) → gap ≡ absOf (sub binary64 there here)
         → r ≡ withNeighbor starts (getD s (8 * n + i) 0) gap t → u ≡ set s (8 * n + i) (countAfter starts (getD s (8 * n + i) 0)) → Visits s u n i net here starts t r
     unfolding gapOf
     visit-meets there gap r u a b g h =

@@ -1,9 +1,9 @@
 -- The whole call: the total length, segment by segment, then the answer from what the sweep came to, and the answers of the calls that rest on it. Assumes nothing.
 use mathlib.Core.Path.{_≡_, refl, sym, ap, _∙_}
-use mathlib.Core.Logic.{_⊎_, inl, inr}
+use mathlib.Core.Logic.{inl, inr}
 use mathlib.Core.List.{List, _∷_, map}
 use mathlib.Core.Bool.{Bool, true, false, cond}
-use Prim.Native.Nat.{ℕ, _+_, _-_, _*_, _≤_, _<_, max}
+use Prim.Native.Nat.{ℕ, _+_, _-_, _≤_, _<_}
 use native.Mathlib.Nat.{le-trans, mul-le-mul}
 use native.Mathlib.Numerals.{add-one}
 use native.Mathlib.Omega.{arith}
@@ -65,11 +65,6 @@ module _ (c : SegmentColumns) where
   pub summed-all : (total : Float) (i : ℕ) → Summed c total i → length (c .net) ≤ i → total ≡ roundedTotal (segments c)
   unfolding runningSum
   summed-all total i s h = sym (s .rest ∙ ap (lengthsFrom total) (drop-of-length-le (segments c) {i = i} (omega (arith, length-segments c (s .agree)))))
-
--- ---- the greater of two peaks
-pub greater-peak : (a b p : ℕ) → ((a < b) × (p ≡ b)) ⊎ ((b ≤ a) × (p ≡ a)) → p ≡ max a b
-greater-peak a b p (inl h) = omega (arith, h .0, h .1)
-greater-peak a b p (inr h) = omega (arith, h .0, h .1)
 
 -- ---- the answer, by whether the allowance reached
 abbrev Profile : Type 0

@@ -2,7 +2,7 @@
 use mathlib.Core.Path.{_≡_}
 use mathlib.Core.Bool.{Bool, true, false, _&&_, cond}
 use mathlib.Core.List.{List, map}
-use mathlib.Core.Option.{Option}
+use mathlib.Core.Option.{Option, none, some}
 use Prim.Native.Nat.{ℕ, _+_, _-_, _*_, _≤_, _<_, max}
 use lib.Dec.{eqb, ltb}
 use lib.Ieee.{Float, inf, lt}
@@ -11,14 +11,12 @@ use Rattle.laws.specs.Lists.{Mem, bit, fold, count}
 use Rattle.laws.specs.Least.{lesser}
 use Rattle.floats.specs.Values.{plusZero, lesserOf, gapOf}
 use Rattle.floats.specs.TotalOrder.{floatAt}
-use Rattle.drawing.specs.declared.gap.Gap.{Gap}
-use Rattle.drawing.specs.declared.gap.Gap.the-variants.{Absent, Present}
+use Rattle.floats.specs.Grid.{ofUnits}
 use Rattle.congestion.specs.declared.meet.Meeting.{Meeting}
-use Rattle.congestion.specs.declared.meet.Tally.{Tally}
 use Rattle.congestion.specs.declared.meet.Met.{Met}
 use Rattle.congestion.specs.declared.meet.Met.the-variants.{Went, Spent}
 use Rattle.congestion.specs.Wires.{Wire}
-use Rattle.congestion.specs.Sweep.{Row, State, visited, neighbor, neighbors, leastHere, risen, fallen, gapOfUnits}
+use Rattle.congestion.specs.Sweep.{Row, State, visited, neighbor, neighbors, leastHere, risen, fallen}
 use Rattle.congestion.specs.Tables.{itemAt, Tabled, rowsFrom, Stored, Held}
 
 -- how many visits wire j's event costs
@@ -64,47 +62,41 @@ abbrev pub topmost : Bool → (Row → Bool) → List Row → ℕ
 topmost true p l = fold max 0 (λ x. cond (p x) (x .neighbors + 1) 0) l
 topmost false p l = 0
 
-abbrev pub Meets : Bool → List ℕ → List ℕ → ℕ → ℕ → Gap → ℕ → Met → Type 0
-Meets starts s t n j minimum allowance r =
-    (c : ℕ) (L : List Wire) (st : State) (m : Option ℕ) → length L ≡ n → Tabled c L s → Stored L st (drop (8 * n) s) → minimum ≡ gapOfUnits m → Held m
+-- a least gap of 64ths as a float, an infinity where there is none
+abbrev pub leastFloat : Option ℕ → Float
+leastFloat none = inf false
+leastFloat (some n) = ofUnits n
+
+abbrev pub Meets : Bool → List ℕ → List ℕ → ℕ → ℕ → Float → ℕ → Met → Type 0
+Meets starts s t n j least allowance r =
+    (c : ℕ) (L : List Wire) (st : State) (m : Option ℕ) → length L ≡ n → Tabled c L s → Stored L st (drop (8 * n) s) → least ≡ leastFloat m → Held m
     → (allowance < visitsOf c L j st → r ≡ Spent)
     × (visitsOf c L j st ≤ allowance
     → (r ≡ Went (record {
       neighbors = neighbors c (itemAt L j) st;
       changed = count (λ x. neighbor c (itemAt L j .wire) x && eqb (x .neighbors) (turning starts)) (st .rows);
       highest = topmost starts (neighbor c (itemAt L j .wire)) (st .rows);
-      minimum = gapOfUnits (lesser ltb m (leastHere c (itemAt L j) st));
+      least = leastFloat (lesser ltb m (leastHere c (itemAt L j) st));
       left = allowance - visitsOf c L j st;
     }))
     × (rowsFrom L (drop (8 * n) t) ≡ map (λ x. moved starts (neighbor c (itemAt L j .wire) x) x) (st .rows)))
 
-abbrev pub MeetsAtStart : List ℕ → List ℕ → ℕ → ℕ → Gap → ℕ → Met → Type 0
-MeetsAtStart s t n j minimum allowance r = Meets true s t n j minimum allowance r
+abbrev pub MeetsAtStart : List ℕ → List ℕ → ℕ → ℕ → Float → ℕ → Met → Type 0
+MeetsAtStart s t n j least allowance r = Meets true s t n j least allowance r
 
-abbrev pub MeetsAtEnd : List ℕ → List ℕ → ℕ → ℕ → Gap → ℕ → Met → Type 0
-MeetsAtEnd s t n j minimum allowance r = Meets false s t n j minimum allowance r
+abbrev pub MeetsAtEnd : List ℕ → List ℕ → ℕ → ℕ → Float → ℕ → Met → Type 0
+MeetsAtEnd s t n j least allowance r = Meets false s t n j least allowance r
 
 -- ---- its loop
 pub record MeetableAt (starts : Bool) (s : List ℕ) (n j : ℕ) : Type 0 where
   pub meetable : Meetable s n j
   pub some : starts ≡ false → (r : Row) → Mem r (meetable .st .rows) → neighbor (meetable .c) (itemAt (meetable .L) j .wire) r ≡ true → 1 ≤ r .neighbors
 
--- a least gap as a float, an infinity where there is none
-abbrev pub floatOfGap : Gap → Float
-floatOfGap Absent = inf false
-floatOfGap (Present x) = x
-
-abbrev pub gapOfFloat : Float → Gap
-gapOfFloat x = cond (lt x (inf false)) (Present x) Absent
-
-abbrev pub meetingOf : Tally → Meeting
-meetingOf t = record { neighbors = t .neighbors; changed = t .changed; highest = t .highest; minimum = gapOfFloat (t .least); left = t .left }
-
 -- a gap joins the least one where it is above 0
 abbrev pub withGap : Float → Float → Float
 withGap least gap = cond (lt plusZero gap) (lesserOf least gap) least
 
--- a neighbor of the count k at that gap: its new count, the greatest count so far, and the tally with it
+-- a neighbor of the count k at that gap: its new count, the greatest count so far, and the meeting with it
 abbrev pub countAfter : Bool → ℕ → ℕ
 countAfter true k = k + 1
 countAfter false k = k - 1
@@ -113,15 +105,15 @@ abbrev pub highestAfter : Bool → ℕ → ℕ → ℕ
 highestAfter true h k = max h (k + 1)
 highestAfter false h k = h
 
-abbrev pub withNeighbor : Bool → ℕ → Float → Tally → Tally
+abbrev pub withNeighbor : Bool → ℕ → Float → Meeting → Meeting
 withNeighbor starts k gap t = record { neighbors = t .neighbors + 1; changed = t .changed + bit (eqb k (turning starts)); highest = highestAfter starts (t .highest) k; least = withGap (t .least) gap; left = t .left - 1 }
 
 -- a wire of the same net costs a visit and no more
-abbrev pub paid : Tally → Tally
+abbrev pub paid : Meeting → Meeting
 paid t = record { neighbors = t .neighbors; changed = t .changed; highest = t .highest; least = t .least; left = t .left - 1 }
 
 -- the count in the word `at` may be changed
-pub record Countable (s : List ℕ) (at : ℕ) (starts : Bool) (t : Tally) : Type 0 where
+pub record Countable (s : List ℕ) (at : ℕ) (starts : Bool) (t : Meeting) : Type 0 where
   pub inside : at < length s
   pub small : getD s at 0 ≤ 4096
   pub some : starts ≡ false → 1 ≤ getD s at 0
@@ -130,7 +122,7 @@ pub record Countable (s : List ℕ) (at : ℕ) (starts : Bool) (t : Tally) : Typ
   pub left : 1 ≤ t .left
 
 -- wire i may be visited
-pub record Visitable (s : List ℕ) (n i net : ℕ) (starts : Bool) (t : Tally) : Type 0 where
+pub record Visitable (s : List ℕ) (n i net : ℕ) (starts : Bool) (t : Meeting) : Type 0 where
   pub few : n ≤ 4096
   pub inside : i < n
   pub room : 9 * n ≤ length s
@@ -140,7 +132,7 @@ pub record Visitable (s : List ℕ) (n i net : ℕ) (starts : Bool) (t : Tally) 
   pub changed : t .changed ≤ 4096
   pub left : 1 ≤ t .left
 
--- the scratch s becomes u, and the tally t becomes r
-pub record Visits (s u : List ℕ) (n i net : ℕ) (here : Float) (starts : Bool) (t r : Tally) : Type 0 where
+-- the scratch s becomes u, and the meeting t becomes r
+pub record Visits (s u : List ℕ) (n i net : ℕ) (here : Float) (starts : Bool) (t r : Meeting) : Type 0 where
   pub passes : getD s (5 * n + i) 0 ≡ net → (r ≡ paid t) × (u ≡ s)
   pub meets : (getD s (5 * n + i) 0 ≡ net → ⊥) → (r ≡ withNeighbor starts (getD s (8 * n + i) 0) (gapOf (floatAt (getD s (4 * n + i) 0)) here) t) × (u ≡ set s (8 * n + i) (countAfter starts (getD s (8 * n + i) 0)))

@@ -1,17 +1,19 @@
 -- What only private contracts cite: where the sweep over one orientation's wires stands, what each event makes of that, and what all events come to.
 use mathlib.Core.Path.{_≡_}
-use mathlib.Core.Bool.{true, not, _&&_, Bool·beq}
+use mathlib.Core.Bool.{true, false, not, _&&_, Bool·beq, cond}
 use mathlib.Core.List.{List, _++_}
 use Prim.Native.Nat.{ℕ, _+_, _-_, _*_, _^_, _≤_, _<_, max}
 use lib.IntN.{pos}
 use lib.Dec.{eqb}
-use lib.Ieee.{Float, binary64, add, sub, mul, ofInt}
+use lib.Ieee.{Float, binary64, inf, add, sub, mul, ofInt, lt}
 use lib.ListN.{length, getD, take, drop, set}
 use Rattle.laws.specs.Lists.{Mem, bit, count}
 use Rattle.laws.specs.Charged.{Outcome, spent, left}
 use Rattle.bitset.specs.Members.{inserted, removed}
 use Rattle.floats.specs.TotalOrder.{floatAt}
 use Rattle.floats.specs.Grid.{ofUnits}
+use Rattle.drawing.specs.declared.gap.Gap.{Gap}
+use Rattle.drawing.specs.declared.gap.Gap.the-variants.{Absent, Present}
 use Rattle.congestion.specs.declared.meet.Meeting.{Meeting}
 use Rattle.congestion.specs.declared.sweep.Sweeping.{Sweeping}
 use Rattle.congestion.specs.declared.sweep.Handled.{Handled}
@@ -21,6 +23,7 @@ use Rattle.congestion.specs.declared.run.Swept.the-variants.{Went as Don
 use Rattle.congestion.specs.Wires.{Wire}
 use Rattle.congestion.specs.Sweep.{Item, Event, Row, State, at, neighbor, neighbors, wasCongested, step, gapOfUnits}
 use Rattle.congestion.specs.Tables.{eventAt, Key, Tabled, Stored, Held}
+use Rattle.congestion.specs.Meeting.{leastFloat}
 
 -- ---- the steps of an event, on the Rust's variables
 -- `congested_length += congested_active as f64 * (coordinate.0 - previous)`, and so for the pairs
@@ -44,7 +47,7 @@ startedBy s m = record {
   «close_pairs» = s .«close_pairs» + m .neighbors;
   «pair_overlap_length» = s .«pair_overlap_length»;
   «peak_close_neighbors» = max (s .«peak_close_neighbors») (max (m .highest) (m .neighbors));
-  «minimum_positive» = m .minimum;
+  «minimum_positive» = m .least;
   previous = s .previous;
   left = m .left;
 }
@@ -56,7 +59,7 @@ endedBy s own m = record {
   «close_pairs» = s .«close_pairs» - m .neighbors;
   «pair_overlap_length» = s .«pair_overlap_length»;
   «peak_close_neighbors» = s .«peak_close_neighbors»;
-  «minimum_positive» = m .minimum;
+  «minimum_positive» = m .least;
   previous = s .previous;
   left = m .left;
 }
@@ -76,7 +79,7 @@ pub record Follows (s : Sweeping) (st : State) : Type 0 where
   pub congested : s .«congested_length» ≡ ofUnits (st .congestedLength)
   pub overlap : s .«pair_overlap_length» ≡ ofUnits (st .pairOverlapLength)
   pub peak : s .«peak_close_neighbors» ≡ st .peakCloseNeighbors
-  pub least : s .«minimum_positive» ≡ gapOfUnits (st .minimumPositive)
+  pub least : s .«minimum_positive» ≡ leastFloat (st .minimumPositive)
   pub held : Held (st .minimumPositive)
   pub word : ℕ
   pub last : s .previous ≡ floatAt word
@@ -142,6 +145,10 @@ pub record AtFirst (s : List ℕ) (n : ℕ) : Type 0 where
   pub cleared : (i : ℕ) → i < 2 * n → getD s (8 * n + i) 0 ≡ 0
   pub ordered : (w : Wire) → Mem w L → w .start < w .end
   pub alike : (v w : Wire) → Mem v L → Mem w L → Bool·beq (v .horizontal) (w .horizontal) ≡ true
+
+-- the least gap that the sweep kept as a float
+abbrev pub gapOfFloat : Float → Gap
+gapOfFloat x = cond (lt x (inf false)) (Present x) Absent
 
 -- what a sweep within the allowance comes to, as the code answers it
 unfoldable pub sweptOf : Outcome State → Swept

@@ -1,6 +1,7 @@
-// The congestion measure of parallel wires: its report.
+// The length of wires that run beside a close wire of another net.
 // The definitions that the contracts cite are in specs/, the laws of these definitions in proofs/.
 pub mod along;
+pub mod counts;
 pub mod measure;
 pub mod meet;
 pub mod ranges;

@@ -12,6 +12,7 @@ ghost use Rattle.congestion.specs.Rounded.{roundedTotal};
 ghost use Rattle.congestion.specs.Measuring.{foundOf, togetherOf, Remains, Answers, plainly};
 ghost use Rattle.congestion.specs.Answer.{densityAnswer, profileAnswer, congestionAnswer};
 use crate::along::sweep_along;
+use crate::counts::greater;
 use crate::report::CongestionAnswer;
 use crate::report::CongestionReport;
 use crate::report::ParallelCongestion;
@@ -48,10 +49,7 @@ fn together(across: Found, down: Found) -> Found
     let one = across.minimum_positive;
     let other = down.minimum_positive;
     let minimum = minimum_option(one, other);
-    let mut peak = across.peak_close_neighbors;
-    if peak < down.peak_close_neighbors {
-        peak = down.peak_close_neighbors;
-    }
+    let peak = greater(across.peak_close_neighbors, down.peak_close_neighbors);
     Found {
         congested_length: across.congested_length + down.congested_length,
         pair_overlap_length: across.pair_overlap_length + down.pair_overlap_length,

@@ -1,24 +1,23 @@
 // An event's wire meets the active wires within the cutoff.
 ghost use mathlib.Core.Path.{_≡_};
-ghost use mathlib.Core.Bool.{false};
-ghost use Prim.Native.Nat.{_+_, _≤_, max};
-ghost use lib.Ieee.{inf};
+ghost use Prim.Native.Nat.{_+_, _≤_};
 ghost use lib.ListN.{getD, set};
 ghost use Rattle.laws.specs.Lists.{bit};
-ghost use Rattle.congestion.specs.Meeting.{Meetable, MeetableEnd, CountsOnly, MeetsAtStart, MeetsAtEnd, MeetableAt, Meets, floatOfGap, gapOfFloat, meetingOf, withGap, Countable, withNeighbor, countAfter, Visitable, Visits};
+ghost use Rattle.congestion.specs.Meeting.{Meetable, MeetableEnd, CountsOnly, MeetsAtStart, MeetsAtEnd, MeetableAt, Meets, withGap, Countable, withNeighbor, countAfter, Visitable, Visits};
+use crate::counts::greater;
 use bitset::Last;
 use bitset::last_below;
-use drawing::Gap;
 use floats::absolute;
 use floats::float_of_key;
 use floats::lesser;
 
 // How many of the wires met are of another net; how many of these become congested or cease to be; the greatest count among them; the least gap so far; how many visits are left.
+// The least gap is a float, an infinity where there is none: these figures are copied at each visit, and copies of an enum took two thirds of the loop's time.
 pub(crate) struct Meeting {
     pub neighbors: usize,
     pub changed: usize,
     pub highest: usize,
-    pub minimum: Gap,
+    pub least: f64,
     pub left: usize,
 }
 
@@ -26,56 +25,6 @@ pub(crate) struct Meeting {
 pub(crate) enum Met {
     Went(Meeting),
     Spent,
-}
-
-// The figures while the visits go on. Here the least gap is a float, an infinity where there is none: the tally is copied at each visit, and copies of an enum took two thirds of the loop's time.
-struct Tally {
-    neighbors: usize,
-    changed: usize,
-    highest: usize,
-    least: f64,
-    left: usize,
-}
-
-// Above every gap.
-fn infinity() -> f64
-    ensures { λ r. ⌜ r ≡ inf false ⌝ }
-{
-    1.0 / 0.0
-}
-
-// A least gap as a float.
-fn float_of_gap(minimum: Gap) -> f64
-    ensures { λ r. ⌜ r ≡ floatOfGap minimum ⌝ }
-{
-    match minimum {
-        Gap::Absent => infinity(),
-        Gap::Present(x) => x,
-    }
-}
-
-// And back.
-fn gap_of_float(least: f64) -> Gap
-    ensures { λ r. ⌜ r ≡ gapOfFloat least ⌝ }
-{
-    if least < infinity() {
-        return Gap::Present(least);
-    }
-    Gap::Absent
-}
-
-// The figures when all visits are done.
-fn meeting_of(tally: Tally) -> Meeting
-    ensures { λ r. ⌜ r ≡ meetingOf tally ⌝ }
-{
-    let minimum = gap_of_float(tally.least);
-    Meeting {
-        neighbors: tally.neighbors,
-        changed: tally.changed,
-        highest: tally.highest,
-        minimum: minimum,
-        left: tally.left,
-    }
 }
 
 // The gap to a neighbor joins the least gap where it is above 0.
@@ -96,29 +45,22 @@ fn count_if(count: usize, counts: bool) -> usize
     if counts { count + 1 } else { count }
 }
 
-// The greater of two counts.
-fn greater_count(a: usize, b: usize) -> usize
-    ensures { λ r. ⌜ r ≡ max a b ⌝ }
-{
-    if a < b { b } else { a }
-}
-
 // A neighbor, whose count is in word `at`: it rises by one at a start and falls by one at an end.
-fn meet_neighbor(s: &mut [u64], at: usize, starts: bool, gap: f64, tally: Tally) -> Tally
-    requires { ⌜ Countable (now s) at starts tally ⌝ }
-    ensures { λ r. ⌜ r ≡ withNeighbor starts (getD (now (s .entry)) at 0) gap tally ⌝ }
+fn meet_neighbor(s: &mut [u64], at: usize, starts: bool, gap: f64, meeting: Meeting) -> Meeting
+    requires { ⌜ Countable (now s) at starts meeting ⌝ }
+    ensures { λ r. ⌜ r ≡ withNeighbor starts (getD (now (s .entry)) at 0) gap meeting ⌝ }
     ensures { λ _. ⌜ now (s .exit) ≡ set (now (s .entry)) at (countAfter starts (getD (now (s .entry)) at 0)) ⌝ }
 {
     let count = s[at];
-    let neighbors = tally.neighbors + 1;
-    let least = with_gap(tally.least, gap);
-    let left = tally.left - 1;
+    let neighbors = meeting.neighbors + 1;
+    let least = with_gap(meeting.least, gap);
+    let left = meeting.left - 1;
     if starts {
         let more = count + 1;
         s[at] = more;
-        let changed = count_if(tally.changed, count == 0);
-        let highest = greater_count(tally.highest, more as usize);
-        return Tally {
+        let changed = count_if(meeting.changed, count == 0);
+        let highest = greater(meeting.highest, more as usize);
+        return Meeting {
             neighbors: neighbors,
             changed: changed,
             highest: highest,
@@ -128,11 +70,11 @@ fn meet_neighbor(s: &mut [u64], at: usize, starts: bool, gap: f64, tally: Tally)
     }
     let less = count - 1;
     s[at] = less;
-    let changed = count_if(tally.changed, count == 1);
-    Tally {
+    let changed = count_if(meeting.changed, count == 1);
+    Meeting {
         neighbors: neighbors,
         changed: changed,
-        highest: tally.highest,
+        highest: meeting.highest,
         least: least,
         left: left,
     }
@@ -146,66 +88,66 @@ fn visit(
     net: u64,
     here: f64,
     starts: bool,
-    tally: Tally,
-) -> Tally
-    requires { ⌜ Visitable (now s) n i net starts tally ⌝ }
-    ensures { λ r. ⌜ Visits (now (s .entry)) (now (s .exit)) n i net here starts tally r ⌝ }
+    meeting: Meeting,
+) -> Meeting
+    requires { ⌜ Visitable (now s) n i net starts meeting ⌝ }
+    ensures { λ r. ⌜ Visits (now (s .entry)) (now (s .exit)) n i net here starts meeting r ⌝ }
 {
     let other = s[5 * n + i];
     if other == net {
-        let mut paid = tally;
-        paid.left = tally.left - 1;
+        let mut paid = meeting;
+        paid.left = meeting.left - 1;
         return paid;
     }
     let there = float_of_key(s[4 * n + i]);
     let gap = absolute(there - here);
-    meet_neighbor(s, 8 * n + i, starts, gap, tally)
+    meet_neighbor(s, 8 * n + i, starts, gap, meeting)
 }
 
 // The start or the end of wire j: the active wires of its range are visited from the greatest place down.
-fn meet(s: &mut [u64], n: usize, j: usize, starts: bool, minimum: Gap, left: usize) -> Met
+fn meet(s: &mut [u64], n: usize, j: usize, starts: bool, least: f64, left: usize) -> Met
     requires { ⌜ MeetableAt starts (now s) n j ⌝ }
-    ensures { λ r. ⌜ Meets starts (now (s .entry)) (now (s .exit)) n j minimum left r ⌝ }
+    ensures { λ r. ⌜ Meets starts (now (s .entry)) (now (s .exit)) n j least left r ⌝ }
     ensures { λ _. ⌜ CountsOnly n (now (s .entry)) (now (s .exit)) ⌝ }
 {
     let here = float_of_key(s[4 * n + j]);
     let net = s[5 * n + j];
     let from = s[6 * n + j] as usize;
     let mut to = s[7 * n + j] as usize;
-    let mut tally = Tally {
+    let mut meeting = Meeting {
         neighbors: 0,
         changed: 0,
         highest: 0,
-        least: float_of_gap(minimum),
+        least: least,
         left: left,
     };
     loop {
         let last = last_below(&s[9 * n..], from, to);
         let Last::Found(i) = last else {
-            return Met::Went(meeting_of(tally));
+            return Met::Went(meeting);
         };
-        if tally.left == 0 {
+        if meeting.left == 0 {
             return Met::Spent;
         }
-        tally = visit(s, n, i, net, here, starts, tally);
+        meeting = visit(s, n, i, net, here, starts, meeting);
         to = i;
     }
 }
 
 // The start of wire j.
-pub(crate) fn meet_at_start(s: &mut [u64], n: usize, j: usize, minimum: Gap, left: usize) -> Met
+pub(crate) fn meet_at_start(s: &mut [u64], n: usize, j: usize, least: f64, left: usize) -> Met
     requires { ⌜ Meetable (now s) n j ⌝ }
-    ensures { λ r. ⌜ MeetsAtStart (now (s .entry)) (now (s .exit)) n j minimum left r ⌝ }
+    ensures { λ r. ⌜ MeetsAtStart (now (s .entry)) (now (s .exit)) n j least left r ⌝ }
     ensures { λ _. ⌜ CountsOnly n (now (s .entry)) (now (s .exit)) ⌝ }
 {
-    meet(s, n, j, true, minimum, left)
+    meet(s, n, j, true, least, left)
 }
 
 // The end of wire j.
-pub(crate) fn meet_at_end(s: &mut [u64], n: usize, j: usize, minimum: Gap, left: usize) -> Met
+pub(crate) fn meet_at_end(s: &mut [u64], n: usize, j: usize, least: f64, left: usize) -> Met
     requires { ⌜ MeetableEnd (now s) n j ⌝ }
-    ensures { λ r. ⌜ MeetsAtEnd (now (s .entry)) (now (s .exit)) n j minimum left r ⌝ }
+    ensures { λ r. ⌜ MeetsAtEnd (now (s .entry)) (now (s .exit)) n j least left r ⌝ }
     ensures { λ _. ⌜ CountsOnly n (now (s .entry)) (now (s .exit)) ⌝ }
 {
-    meet(s, n, j, false, minimum, left)
+    meet(s, n, j, false, least, left)
 }

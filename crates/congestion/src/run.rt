@@ -1,8 +1,10 @@
 // The sweep over all events of one orientation. The scratch holds the tables of its n wires (8 n words) and behind them the words that the sweep changes.
 ghost use mathlib.Core.Path.{_≡_};
+ghost use mathlib.Core.Bool.{false};
+ghost use lib.Ieee.{inf};
 ghost use Rattle.laws.specs.Charged.{within};
 ghost use Rattle.congestion.specs.Sweep.{oriented};
-ghost use Rattle.congestion.specs.Sweeping.{AtEvent, Handles, AtFirst, sweptOf};
+ghost use Rattle.congestion.specs.Sweeping.{AtEvent, Handles, AtFirst, gapOfFloat, sweptOf};
 use crate::sweep::Handled;
 use crate::sweep::Sweeping;
 use crate::sweep::end_event;
@@ -23,6 +25,23 @@ pub(crate) struct Found {
 pub(crate) enum Swept {
     Went(Found),
     Spent,
+}
+
+// Above every gap.
+fn infinity() -> f64
+    ensures { λ r. ⌜ r ≡ inf false ⌝ }
+{
+    1.0 / 0.0
+}
+
+// The least gap that the sweep kept as a float.
+fn gap_of_float(least: f64) -> Gap
+    ensures { λ r. ⌜ r ≡ gapOfFloat least ⌝ }
+{
+    if least < infinity() {
+        return Gap::Present(least);
+    }
+    Gap::Absent
 }
 
 // Event e: below n it is the end of wire e, else the start of wire e - n.
@@ -49,7 +68,7 @@ pub(crate) fn run_events(s: &mut [u64], n: usize, allowance: usize) -> Swept
         close_pairs: 0,
         pair_overlap_length: 0.0,
         peak_close_neighbors: 0,
-        minimum_positive: Gap::Absent,
+        minimum_positive: infinity(),
         previous: coordinate,
         left: allowance,
     };
@@ -63,7 +82,7 @@ pub(crate) fn run_events(s: &mut [u64], n: usize, allowance: usize) -> Swept
         state = next;
         q += 1;
     }
-    let minimum = state.minimum_positive;
+    let minimum = gap_of_float(state.minimum_positive);
     Swept::Went(Found {
         congested_length: state.congested_length,
         pair_overlap_length: state.pair_overlap_length,

@@ -1,28 +1,28 @@
 // One event of the sweep over an orientation's wires, within what is left of the allowance.
 ghost use mathlib.Core.Path.{_≡_};
 ghost use mathlib.Core.Bool.{not};
-ghost use Prim.Native.Nat.{_+_, _*_, _^_, _≤_, _<_, max};
+ghost use Prim.Native.Nat.{_+_, _*_, _^_, _≤_, _<_};
 ghost use lib.Dec.{eqb};
 ghost use lib.ListN.{length};
 ghost use Rattle.laws.specs.Lists.{bit};
 ghost use Rattle.congestion.specs.Sweeping.{passedTo, startedBy, endedBy, activated, deactivated, AtEvent, Handles};
+use crate::counts::greater;
 use crate::meet::Meeting;
 use crate::meet::Met;
 use crate::meet::meet_at_end;
 use crate::meet::meet_at_start;
 use bitset::insert;
 use bitset::remove;
-use drawing::Gap;
 use floats::float_of_key;
 
-// The Rust's variables, under its names, and how many visits are left.
+// The Rust's variables, under its names, and how many visits are left. The least gap is a float, an infinity where there is none: copies of an enum stalled at each event.
 pub(crate) struct Sweeping {
     pub congested_active: usize,
     pub congested_length: f64,
     pub close_pairs: usize,
     pub pair_overlap_length: f64,
     pub peak_close_neighbors: usize,
-    pub minimum_positive: Gap,
+    pub minimum_positive: f64,
     pub previous: f64,
     pub left: usize,
 }
@@ -56,13 +56,6 @@ fn congested(neighbors: usize) -> usize
     if neighbors == 0 { 0 } else { 1 }
 }
 
-// The greater of two counts.
-fn greater(a: usize, b: usize) -> usize
-    ensures { λ r. ⌜ r ≡ max a b ⌝ }
-{
-    if a < b { b } else { a }
-}
-
 // A start: the wire itself may be congested, and so may be neighbors that were not.
 fn with_start(state: Sweeping, meeting: Meeting) -> Sweeping
     requires { ⌜ state .«congested_active» + meeting .changed + 1 < 2 ^ 64 ⌝ }
@@ -70,7 +63,6 @@ fn with_start(state: Sweeping, meeting: Meeting) -> Sweeping
     ensures { λ r. ⌜ r ≡ startedBy state meeting ⌝ }
 {
     let neighbors = meeting.neighbors;
-    let minimum = meeting.minimum;
     let highest = greater(meeting.highest, neighbors);
     let peak = greater(state.peak_close_neighbors, highest);
     let own = congested(neighbors);
@@ -80,7 +72,7 @@ fn with_start(state: Sweeping, meeting: Meeting) -> Sweeping
         close_pairs: state.close_pairs + neighbors,
         pair_overlap_length: state.pair_overlap_length,
         peak_close_neighbors: peak,
-        minimum_positive: minimum,
+        minimum_positive: meeting.least,
         previous: state.previous,
         left: meeting.left,
     }
@@ -92,7 +84,6 @@ fn with_end(state: Sweeping, count: usize, meeting: Meeting) -> Sweeping
     requires { ⌜ meeting .neighbors ≤ state .«close_pairs» ⌝ }
     ensures { λ r. ⌜ r ≡ endedBy state «count» meeting ⌝ }
 {
-    let minimum = meeting.minimum;
     let own = congested(count);
     Sweeping {
         congested_active: state.congested_active - own - meeting.changed,
@@ -100,7 +91,7 @@ fn with_end(state: Sweeping, count: usize, meeting: Meeting) -> Sweeping
         close_pairs: state.close_pairs - meeting.neighbors,
         pair_overlap_length: state.pair_overlap_length,
         peak_close_neighbors: state.peak_close_neighbors,
-        minimum_positive: minimum,
+        minimum_positive: meeting.least,
         previous: state.previous,
         left: meeting.left,
     }
@@ -135,8 +126,7 @@ pub(crate) fn start_event(s: &mut [u64], n: usize, j: usize, state: Sweeping) ->
 {
     let coordinate = float_of_key(s[3 * n + j]);
     let passed = pass_to(state, coordinate);
-    let minimum = passed.minimum_positive;
-    let met = meet_at_start(s, n, j, minimum, passed.left);
+    let met = meet_at_start(s, n, j, passed.minimum_positive, passed.left);
     let Met::Went(meeting) = met else {
         return Handled::Spent;
     };
@@ -153,8 +143,7 @@ pub(crate) fn end_event(s: &mut [u64], n: usize, j: usize, state: Sweeping) -> H
     let coordinate = float_of_key(s[2 * n + j]);
     let count = s[8 * n + j] as usize;
     let passed = pass_to(state, coordinate);
-    let minimum = passed.minimum_positive;
-    let met = meet_at_end(s, n, j, minimum, passed.left);
+    let met = meet_at_end(s, n, j, passed.minimum_positive, passed.left);
     let Met::Went(meeting) = met else {
         return Handled::Spent;
     };

@@ -7,10 +7,10 @@ use Rattle.congestion.proofs.meet.meet.Statement.{statement}
 use Rattle.congestion.proofs.meet.meet.Tie as tie
 
 abbrev Inv-loop : tie.InvT-loop
-Inv-loop s₀ n j starts left here net from to₀ tally₀ s to tally = (length s ≡ length s₀) × Runs starts n j s₀ (tally₀ .least) left tally s to
+Inv-loop s₀ n j starts least left here net from to₀ meeting₀ s to meeting = (length s ≡ length s₀) × Runs starts n j s₀ least left meeting s to
 
 abbrev μ-loop : tie.MeasureT-loop
-μ-loop s₀ n j starts left here net from to₀ tally₀ s to tally = to
+μ-loop s₀ n j starts least left here net from to₀ meeting₀ s to meeting = to
 
 mul-float-of-key : tie.Need-mul-float-of-key Inv-loop μ-loop
 mul-float-of-key c = search needs
@@ -63,11 +63,8 @@ mul-to-2 c = search needs
 slice-read-to : tie.Need-slice-read-to Inv-loop μ-loop
 slice-read-to c = search needs
 
-float-of-gap-requires : tie.Need-float-of-gap-requires Inv-loop μ-loop
-float-of-gap-requires c κs = search needs
-
 loop-holds : tie.Need-loop-holds Inv-loop μ-loop
-loop-holds c = let a = c .before .before .before .before .before .before .before .args in let p = c .before .before .before .before .before .before .before .pre in (refl, run-none (a .starts) (a .n) (a .j) (a .s .now) _ (a .left) (p .meetable .inside) _ refl)
+loop-holds c = let a = c .before .before .before .before .before .before .args in let p = c .before .before .before .before .before .before .pre in (refl, run-none (a .starts) (a .n) (a .j) (a .s .now) (a .least) (a .left) (p .meetable .inside) _ refl)
 
 mul-last-below : tie.Need-mul-last-below Inv-loop μ-loop
 mul-last-below c = search needs
@@ -93,29 +90,26 @@ enum-known-last c = search needs
 enum-told : tie.Need-enum-told Inv-loop μ-loop
 enum-told c = search needs
 
-meeting-of-requires : tie.Need-meeting-of-requires Inv-loop μ-loop
-meeting-of-requires c κs = search needs
-
 same-length : tie.Need-same-length Inv-loop μ-loop
 same-length c = search needs
 
 returns : tie.Need-returns Inv-loop μ-loop
-returns c = let a = c .before .before .before .before .before .before .before .before .before .before .before .before .before .before .args in let p = c .before .before .before .before .before .before .before .before .before .before .before .before .before .before .pre in let l = c .before .before .before .before .before .before .loop in (run-all (a .starts) (a .n) (a .j) (a .s .now) _ (a .left) p (l .tally) (l .s) (l .to) (l .inv .1) (answer (a .n) (l .s) _ _ _ _ (c .before .before .before .last-below .ensures) (c .before .enum-told .given .1)) (a .minimum) (c .before .before .before .before .before .before .before .float-of-gap .ensures) _ (c .meeting-of .ensures), run-only (a .starts) (a .n) (a .j) (a .s .now) _ (a .left) p (l .tally) (l .s) (l .to) (l .inv .1))
+returns c = let a = c .before .before .before .before .before .before .before .before .before .before .before .before .args in let p = c .before .before .before .before .before .before .before .before .before .before .before .before .pre in let l = c .before .before .before .before .before .loop in (run-all (a .starts) (a .n) (a .j) (a .s .now) (a .least) (a .left) p (l .meeting) (l .s) (l .to) (l .inv .1) (answer (a .n) (l .s) _ _ _ _ (c .before .before .last-below .ensures) (c .enum-told .given .1)), run-only (a .starts) (a .n) (a .j) (a .s .now) (a .least) (a .left) p (l .meeting) (l .s) (l .to) (l .inv .1))
 
 same-length-2 : tie.Need-same-length-2 Inv-loop μ-loop
 same-length-2 c = search needs
 
 returns-2 : tie.Need-returns-2 Inv-loop μ-loop
-returns-2 c = let a = c .before .before .before .before .before .before .before .before .before .before .before .before .before .before .before .before .args in let p = c .before .before .before .before .before .before .before .before .before .before .before .before .before .before .before .before .pre in let l = c .before .before .before .before .before .before .before .before .loop in (run-stops (a .starts) (a .n) (a .j) (a .s .now) _ (a .left) p (l .tally) (l .s) (l .to) (l .inv .1) (l .inv .0) _ (answer (a .n) (l .s) _ _ _ _ (c .before .before .before .before .before .last-below .ensures) (c .before .before .before .last .given .1)) (c .if1 .taken) (a .minimum), run-only (a .starts) (a .n) (a .j) (a .s .now) _ (a .left) p (l .tally) (l .s) (l .to) (l .inv .1))
+returns-2 c = let a = c .before .before .before .before .before .before .before .before .before .before .before .before .before .before .before .args in let p = c .before .before .before .before .before .before .before .before .before .before .before .before .before .before .before .pre in let l = c .before .before .before .before .before .before .before .before .loop in (run-stops (a .starts) (a .n) (a .j) (a .s .now) (a .least) (a .left) p (l .meeting) (l .s) (l .to) (l .inv .1) (l .inv .0) _ (answer (a .n) (l .s) _ _ _ _ (c .before .before .before .before .before .last-below .ensures) (c .before .before .before .last .given .1)) (c .if1 .taken), run-only (a .starts) (a .n) (a .j) (a .s .now) (a .least) (a .left) p (l .meeting) (l .s) (l .to) (l .inv .1))
 
 visit-requires : tie.Need-visit-requires Inv-loop μ-loop
-visit-requires c κs = let a = c .before .before .before .before .before .before .before .before .before .before .before .before .before .before .before .before .before .args in let p = c .before .before .before .before .before .before .before .before .before .before .before .before .before .before .before .before .before .pre in let l = c .before .before .before .before .before .before .before .before .before .loop in run-visitable (a .starts) (a .n) (a .j) (a .s .now) _ (a .left) p (l .tally) (l .s) (l .to) (l .inv .1) (l .inv .0) _ (answer (a .n) (l .s) _ _ _ _ (c .before .before .before .before .before .before .last-below .ensures) (c .before .before .before .before .last .given .1)) (c .before .if1 .left) _ refl
+visit-requires c κs = let a = c .before .before .before .before .before .before .before .before .before .before .before .before .before .before .before .before .args in let p = c .before .before .before .before .before .before .before .before .before .before .before .before .before .before .before .before .pre in let l = c .before .before .before .before .before .before .before .before .before .loop in run-visitable (a .starts) (a .n) (a .j) (a .s .now) (a .least) (a .left) p (l .meeting) (l .s) (l .to) (l .inv .1) (l .inv .0) _ (answer (a .n) (l .s) _ _ _ _ (c .before .before .before .before .before .before .last-below .ensures) (c .before .before .before .before .last .given .1)) (c .before .if1 .left) _ refl
 
 loop-less : tie.Need-loop-less Inv-loop μ-loop
-loop-less c = let a = c .before .before .before .before .before .before .before .before .before .before .before .before .before .before .before .before .before .before .before .before .args in let p = c .before .before .before .before .before .before .before .before .before .before .before .before .before .before .before .before .before .before .before .before .pre in let l = c .before .before .before .before .before .before .before .before .before .before .before .before .loop in run-falls (a .starts) (a .n) (a .j) (a .s .now) _ (a .left) p (l .tally) (l .s) (l .to) (l .inv .1) (l .inv .0) _ (answer (a .n) (l .s) _ _ _ _ (c .before .before .before .before .before .before .before .before .before .last-below .ensures) (c .before .before .before .before .before .before .before .last .given .1))
+loop-less c = let a = c .before .before .before .before .before .before .before .before .before .before .before .before .before .before .before .before .before .before .before .args in let p = c .before .before .before .before .before .before .before .before .before .before .before .before .before .before .before .before .before .before .before .pre in let l = c .before .before .before .before .before .before .before .before .before .before .before .before .loop in run-falls (a .starts) (a .n) (a .j) (a .s .now) (a .least) (a .left) p (l .meeting) (l .s) (l .to) (l .inv .1) (l .inv .0) _ (answer (a .n) (l .s) _ _ _ _ (c .before .before .before .before .before .before .before .before .before .last-below .ensures) (c .before .before .before .before .before .before .before .last .given .1))
 
 loop-again : tie.Need-loop-again Inv-loop μ-loop
-loop-again c = let a = c .before .before .before .before .before .before .before .before .before .before .before .before .before .before .before .before .before .before .before .before .args in let p = c .before .before .before .before .before .before .before .before .before .before .before .before .before .before .before .before .before .before .before .before .pre in let l = c .before .before .before .before .before .before .before .before .before .before .before .before .loop in (search needs, run-next (a .starts) (a .n) (a .j) (a .s .now) _ (a .left) p (l .tally) (l .s) (l .to) (l .inv .1) (l .inv .0) _ (answer (a .n) (l .s) _ _ _ _ (c .before .before .before .before .before .before .before .before .before .last-below .ensures) (c .before .before .before .before .before .before .before .last .given .1)) (c .before .before .before .before .if1 .left) _ refl _ (c .before .before .before .before .before .before .before .before .before .before .before .before .before .before .before .before .before .float-of-key .ensures) _ _ (c .before .before .visit .ensures))
+loop-again c = let a = c .before .before .before .before .before .before .before .before .before .before .before .before .before .before .before .before .before .before .before .args in let p = c .before .before .before .before .before .before .before .before .before .before .before .before .before .before .before .before .before .before .before .pre in let l = c .before .before .before .before .before .before .before .before .before .before .before .before .loop in (search needs, run-next (a .starts) (a .n) (a .j) (a .s .now) (a .least) (a .left) p (l .meeting) (l .s) (l .to) (l .inv .1) (l .inv .0) _ (answer (a .n) (l .s) _ _ _ _ (c .before .before .before .before .before .before .before .before .before .last-below .ensures) (c .before .before .before .before .before .before .before .last .given .1)) (c .before .before .before .before .if1 .left) _ refl _ (c .before .before .before .before .before .before .before .before .before .before .before .before .before .before .before .before .float-of-key .ensures) _ _ (c .before .before .visit .ensures))
 
 pub meet-spec : {M : Type 1} → statement M
 meet-spec =
@@ -140,7 +134,6 @@ meet-spec =
     add-to
     mul-to-2
     slice-read-to
-    float-of-gap-requires
     loop-holds
     mul-last-below
     mul-last-below-2
@@ -150,7 +143,6 @@ meet-spec =
     last-below-requires
     enum-known-last
     enum-told
-    meeting-of-requires
     same-length
     returns
     same-length-2

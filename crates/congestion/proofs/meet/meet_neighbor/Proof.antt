@@ -31,14 +31,14 @@ slice-write-s c = search needs
 count-if-requires : tie.Need-count-if-requires
 count-if-requires c κs = search needs
 
-greater-count-requires : tie.Need-greater-count-requires
-greater-count-requires c κs = search needs
+greater-requires : tie.Need-greater-requires
+greater-requires c κs = search needs
 
 same-length : tie.Need-same-length
 same-length c = search needs
 
 returns : tie.Need-returns
-returns c = let a = c .before .before .before .before .before .before .before .before .args in neighbor-start (a .starts) (a .s .now) (a .at) _ (a .gap) _ (a .tally) (c .before .before .before .before .with-gap .ensures) _ (c .before .before .if1 .taken) (c .before .count-if .ensures) (c .greater-count .ensures)
+returns c = let a = c .before .before .before .before .before .before .before .before .args in neighbor-start (a .starts) (a .s .now) (a .at) _ (a .gap) _ (a .meeting) (c .before .before .before .before .with-gap .ensures) _ (c .before .before .if1 .taken) (c .before .count-if .ensures) (c .greater .ensures)
 
 sub-less : tie.Need-sub-less
 sub-less c = c .before .before .before .before .before .before .pre .some (c .if1 .left)
@@ -56,7 +56,7 @@ same-length-2 : tie.Need-same-length-2
 same-length-2 c = search needs
 
 returns-2 : tie.Need-returns-2
-returns-2 c = let a = c .before .before .before .before .before .before .before .args in neighbor-end (a .starts) (a .s .now) (a .at) _ (a .gap) _ (a .tally) (c .before .before .before .with-gap .ensures) (c .before .if1 .left) (c .count-if2 .ensures)
+returns-2 c = let a = c .before .before .before .before .before .before .before .args in neighbor-end (a .starts) (a .s .now) (a .at) _ (a .gap) _ (a .meeting) (c .before .before .before .with-gap .ensures) (c .before .if1 .left) (c .count-if2 .ensures)
 
 pub meet-neighbor-spec : {M : Type 1} → statement M
 meet-neighbor-spec =
@@ -71,7 +71,7 @@ meet-neighbor-spec =
     mul-s
     slice-write-s
     count-if-requires
-    greater-count-requires
+    greater-requires
     same-length
     returns
     sub-less

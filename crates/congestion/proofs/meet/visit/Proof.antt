@@ -20,7 +20,7 @@ sub-paid : tie.Need-sub-paid
 sub-paid c = search needs
 
 returns : tie.Need-returns
-returns c = let a = c .before .before .before .before .args in visit-passes (a .s .now) (a .n) (a .i) (a .net) (a .here) (a .starts) (a .tally) (c .before .if1 .taken)
+returns c = let a = c .before .before .before .before .args in visit-passes (a .s .now) (a .n) (a .i) (a .net) (a .here) (a .starts) (a .meeting) (c .before .if1 .taken)
 
 mul-float-of-key : tie.Need-mul-float-of-key
 mul-float-of-key c = search needs
@@ -47,13 +47,13 @@ add-meet-neighbor : tie.Need-add-meet-neighbor
 add-meet-neighbor c = search needs
 
 meet-neighbor-requires : tie.Need-meet-neighbor-requires
-meet-neighbor-requires c κs = let a = c .before .before .before .before .before .before .before .args in visit-countable (a .s .now) (a .n) (a .i) (a .net) (a .here) (a .starts) (a .tally) (c .before .before .before .before .if1 .left) (c .before .before .before .before .before .before .before .pre)
+meet-neighbor-requires c κs = let a = c .before .before .before .before .before .before .before .args in visit-countable (a .s .now) (a .n) (a .i) (a .net) (a .here) (a .starts) (a .meeting) (c .before .before .before .before .if1 .left) (c .before .before .before .before .before .before .before .pre)
 
 same-length : tie.Need-same-length
 same-length c = search needs
 
 returns-2 : tie.Need-returns-2
-returns-2 c = let a = c .before .before .before .before .before .before .before .before .before .before .args in visit-meets (a .s .now) (a .n) (a .i) (a .net) (a .here) (a .starts) (a .tally) (c .before .before .before .before .before .before .before .if1 .left) _ _ _ _ (c .before .before .before .before .before .float-of-key .ensures) (c .before .before .before .before .absolute .ensures) (c .before .before .meet-neighbor .ensures .0) (c .before .before .meet-neighbor .ensures .1)
+returns-2 c = let a = c .before .before .before .before .before .before .before .before .before .before .args in visit-meets (a .s .now) (a .n) (a .i) (a .net) (a .here) (a .starts) (a .meeting) (c .before .before .before .before .before .before .before .if1 .left) _ _ _ _ (c .before .before .before .before .before .float-of-key .ensures) (c .before .before .before .before .absolute .ensures) (c .before .before .meet-neighbor .ensures .0) (c .before .before .meet-neighbor .ensures .1)
 
 pub visit-spec : {M : Type 1} → statement M
 visit-spec =

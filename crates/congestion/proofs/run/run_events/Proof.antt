@@ -32,8 +32,11 @@ slice-read-float-of-key c = let h = first-small _ _ (c .before .before .before .
 float-of-key-requires : tie.Need-float-of-key-requires Inv-loop μ-loop
 float-of-key-requires c κs = search needs
 
+infinity-requires : tie.Need-infinity-requires Inv-loop μ-loop
+infinity-requires c κs = search needs
+
 loop-holds : tie.Need-loop-holds Inv-loop μ-loop
-loop-holds c = (refl, λ a. going-first _ _ _ a _ (c .float-of-key .ensures))
+loop-holds c = (refl, λ a. going-first _ _ _ a _ _ (c .before .float-of-key .ensures) (c .infinity .ensures))
 
 mul-loop : tie.Need-mul-loop Inv-loop μ-loop
 mul-loop c = search needs
@@ -45,7 +48,7 @@ slice-read-e : tie.Need-slice-read-e Inv-loop μ-loop
 slice-read-e c = search needs
 
 handle-event-requires : tie.Need-handle-event-requires Inv-loop μ-loop
-handle-event-requires c κs = run-event _ _ _ _ _ _ (c .before .before .before .loop .inv .1) (c .before .before .before .before .before .before .before .before .pre) (c .before .before .loop-test .taken)
+handle-event-requires c κs = run-event _ _ _ _ _ _ (c .before .before .before .loop .inv .1) (c .before .before .before .before .before .before .before .before .before .pre) (c .before .before .loop-test .taken)
 
 enum-known-handled : tie.Need-enum-known-handled Inv-loop μ-loop
 enum-known-handled c = search needs
@@ -57,7 +60,7 @@ same-length : tie.Need-same-length Inv-loop μ-loop
 same-length c = search needs
 
 returns : tie.Need-returns Inv-loop μ-loop
-returns c = run-stops (now (c .before .before .before .before .before .before .before .before .before .before .before .before .before .args .s)) _ _ _ _ _ (c .before .before .before .before .before .before .before .before .loop .inv .1) (c .before .before .before .before .before .before .before .loop-test .taken) _ _ (c .before .before .before .before .handle-event .ensures) (c .enum-told .given .1)
+returns c = run-stops (now (c .before .before .before .before .before .before .before .before .before .before .before .before .before .before .args .s)) _ _ _ _ _ (c .before .before .before .before .before .before .before .before .loop .inv .1) (c .before .before .before .before .before .before .before .loop-test .taken) _ _ (c .before .before .before .before .handle-event .ensures) (c .enum-told .given .1)
 
 add-q : tie.Need-add-q Inv-loop μ-loop
 add-q c = search needs
@@ -66,13 +69,16 @@ loop-less : tie.Need-loop-less Inv-loop μ-loop
 loop-less c = search needs
 
 loop-again : tie.Need-loop-again Inv-loop μ-loop
-loop-again c = (search needs, run-next (now (c .before .before .before .before .before .before .before .before .before .before .before .before .before .before .args .s)) _ _ _ _ _ (c .before .before .before .before .before .before .before .before .before .loop .inv .1) (c .before .before .before .before .before .before .before .before .loop-test .taken) _ _ (c .before .before .before .before .before .handle-event .ensures) _ (c .before .handled .given .1) (c .before .before .before .before .before .handle-event .kept .0))
+loop-again c = (search needs, run-next (now (c .before .before .before .before .before .before .before .before .before .before .before .before .before .before .before .args .s)) _ _ _ _ _ (c .before .before .before .before .before .before .before .before .before .loop .inv .1) (c .before .before .before .before .before .before .before .before .loop-test .taken) _ _ (c .before .before .before .before .before .handle-event .ensures) _ (c .before .handled .given .1) (c .before .before .before .before .before .handle-event .kept .0))
+
+gap-of-float-requires : tie.Need-gap-of-float-requires Inv-loop μ-loop
+gap-of-float-requires c κs = search needs
 
 same-length-2 : tie.Need-same-length-2 Inv-loop μ-loop
 same-length-2 c = search needs
 
 returns-2 : tie.Need-returns-2 Inv-loop μ-loop
-returns-2 c = λ a. going-all (now (c .before .before .before .before .before .before .args .s)) _ _ a _ _ _ (c .before .loop .inv .1 a) (c .loop-test .left)
+returns-2 c = λ a. going-all (now (c .before .before .before .before .before .before .before .before .args .s)) _ _ a _ _ _ (c .before .before .loop .inv .1 a) (c .before .loop-test .left) _ (c .gap-of-float .ensures)
 
 pub run-events-spec : {M : Type 1} → statement M
 run-events-spec =
@@ -86,6 +92,7 @@ run-events-spec =
     mul-float-of-key-2
     slice-read-float-of-key
     float-of-key-requires
+    infinity-requires
     loop-holds
     mul-loop
     mul-e
@@ -98,5 +105,6 @@ run-events-spec =
     add-q
     loop-less
     loop-again
+    gap-of-float-requires
     same-length-2
     returns-2)

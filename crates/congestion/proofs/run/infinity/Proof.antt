@@ -1,8 +1,8 @@
--- `congestion::meet::infinity` meets its contract. Assumes nothing.
+-- `congestion::run::infinity` meets its contract. Assumes nothing.
 use mathlib.Core.Path.{refl}
 use lib.Ieee.{ofBits, div}
-use Rattle.congestion.proofs.meet.infinity.Statement.{statement}
-use Rattle.congestion.proofs.meet.infinity.Tie as tie
+use Rattle.congestion.proofs.run.infinity.Statement.{statement}
+use Rattle.congestion.proofs.run.infinity.Tie as tie
 
 returns : tie.Need-returns
 unfolding div ofBits

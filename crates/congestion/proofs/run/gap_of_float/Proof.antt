@@ -1,8 +1,8 @@
--- `congestion::meet::gap_of_float` meets its contract. Assumes nothing.
+-- `congestion::run::gap_of_float` meets its contract. Assumes nothing.
 use borrow.Author.Needs.{needs}
-use Rattle.congestion.proofs.VisitLaws.{gap-present, gap-absent}
-use Rattle.congestion.proofs.meet.gap_of_float.Statement.{statement}
-use Rattle.congestion.proofs.meet.gap_of_float.Tie as tie
+use Rattle.congestion.proofs.GapFloats.{gap-present, gap-absent}
+use Rattle.congestion.proofs.run.gap_of_float.Statement.{statement}
+use Rattle.congestion.proofs.run.gap_of_float.Tie as tie
 
 infinity-requires : tie.Need-infinity-requires
 infinity-requires c κs = search needs
