@@ -71,6 +71,8 @@ report g v n = acceptedResult (record { least = g; violations = v }) n
 -- "clearance 3ff0000000000000 1 2", and the spent allowance below 2
 pub record Marked : Type 0 where
   pub d : measured d-segments d-nodes d-exemptions two 1000 ≡ report (Present one) 1 2
+  -- D as the program `sheet` measures it
+  pub d-sheet : answer d-segments d-nodes d-exemptions two 1000 7744 ≡ accepted (record { least = Present one; violations = 1 }) 2
   pub d-at-2 : measured d-segments d-nodes d-exemptions two 2 ≡ report (Present one) 1 2
   pub d-at-1 : measured d-segments d-nodes d-exemptions two 1 ≡ refusedResult 7
   -- (g) "distance 2, threshold 2: no violation": D's first segment, and D's node one further away
@@ -82,4 +84,4 @@ pub record Marked : Type 0 where
 
 pub marked : Marked
 unfolding ofBits toBits add sub lt some-of chosen fold cross rowLe insertBy sortBy lesser least runs settle key keyOf lesserOf greaterOf segmentsOf nodesOf exemptionsOf gapFrom leastGap lesserGap segmentRow nodeRow segmentsInOrder nodesInOrder numberOf firstOf differ tooMany shortScratch unfitLine unfitSegment unfitExtent unfitNode unfitThreshold segmentsDiffer nodesDiffer exemptionsDiffer listConditions entryConditions clearanceConditions fromNode fromSegment nodeBox segmentBox union axisGap distance exempt distances figures indexed indexedRow indexedInOrder horizontalWider hull boundsOf build treeOf contributes withPair walk walkAll visitCount accepted allPairs unless answer result
-marked = record { d = refl; d-at-2 = refl; d-at-1 = refl; g = refl; h = refl; i = refl }
+marked = record { d = refl; d-sheet = refl; d-at-2 = refl; d-at-1 = refl; g = refl; h = refl; i = refl }

@@ -71,6 +71,11 @@ pub D-at-4 : densityAnswer D f6 4 128 ≡ report f20 f10 f5 1 (Present f4) 4
 unfolding densityAnswer settled settle allPairs leastNonzero lengths total stretches congested closeOtherPairs pairOverlap peak closePairs visits cutoffOf cellsFrom some-of chosen fold pairs lesser least gapOf absOf onGrid steps unit ofUnits segmentsOf firstOf differ tooMany shortScratch unfitLine unfitSegment unfitCutoff offGridLine offGridSegment offGridCutoff segmentsDiffer separationConditions congestionConditions gapFrom leastGap ofBits round sub lt
 D-at-4 = refl
 
+-- D as the program `sheet` measures it
+pub D-sheet : densityAnswer D f6 1000 7744 ≡ report f20 f10 f5 1 (Present f4) 4
+unfolding densityAnswer settled settle allPairs leastNonzero lengths total stretches congested closeOtherPairs pairOverlap peak closePairs visits cutoffOf cellsFrom some-of chosen fold pairs lesser least gapOf absOf onGrid steps unit ofUnits segmentsOf firstOf differ tooMany shortScratch unfitLine unfitSegment unfitCutoff offGridLine offGridSegment offGridCutoff segmentsDiffer separationConditions congestionConditions gapFrom leastGap ofBits round sub lt
+D-sheet = refl
+
 pub D-at-3 : densityAnswer D f6 3 128 ≡ Refused WorkLimitExceeded
 unfolding densityAnswer settled settle allPairs leastNonzero lengths total stretches congested closeOtherPairs pairOverlap peak closePairs visits cutoffOf cellsFrom some-of chosen fold pairs lesser least gapOf absOf onGrid steps unit ofUnits segmentsOf firstOf differ tooMany shortScratch unfitLine unfitSegment unfitCutoff offGridLine offGridSegment offGridCutoff segmentsDiffer separationConditions congestionConditions gapFrom leastGap ofBits round sub lt
 D-at-3 = refl

@@ -73,6 +73,8 @@ pub record Marked : Type 0 where
   -- (b) "D's separation accepted at 16, refused at 15"
   pub b-accepted : separation D 16 128 ≡ accepted (record { least = four; leastNonzero = four }) 16
   pub b-refused : separation D 15 128 ≡ Refused WorkLimitExceeded
+  -- D as the program `sheet` measures it
+  pub d-sheet : separation D 1000 7744 ≡ accepted (record { least = four; leastNonzero = four }) 16
   -- (d) "0 to 5 and 5 to 9, nets 1 and 2: absent"
   pub d : separation touching 1000 128 ≡ accepted nothing 14
   -- (e) "equal fixed, overlapping, two nets: least 0, nonzero absent"
@@ -86,4 +88,4 @@ pub record Marked : Type 0 where
 
 pub marked : Marked
 unfolding ofBits ofFields toBits round units odd size span climb neg sum add sub lt eq trailingZeros some-of chosen pairs rowLe insertBy sortBy lesser least runs settle canonicalZero lesserOf greaterOf absOf gapOf key keyOf patternAt floatAt segmentsOf segmentRow segmentsInOrder gapFrom leastGap lesserGap numberOf firstOf differ tooMany shortScratch unfitLine unfitSegment segmentsDiffer separationConditions fixedOf startOf endOf overlapping counted gapBetween gaps nonzero leastOf figures rowOf words oriented distinct lines index levels moment eventsFrom events otherIn rightmost leftmost setRun lesserFigures same remove startsAt endsAt step sweep along walk visitCount allPairs separation resultOf
-marked = record { a = refl; b-accepted = refl; b-refused = refl; d = refl; e = refl; e-zeros = refl; f = refl; overflow = refl; short = refl }
+marked = record { a = refl; b-accepted = refl; b-refused = refl; d-sheet = refl; d = refl; e = refl; e-zeros = refl; f = refl; overflow = refl; short = refl }

@@ -1,0 +1,3 @@
+-- The laws, and drawing D.
+pub mod DrawingD
+pub mod FirstBytes
