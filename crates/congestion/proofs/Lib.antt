@@ -7,8 +7,8 @@ pub mod Closeness
 pub mod RoundedSums
 pub mod RoundedDrawing
 pub mod Examples
--- what they lean on: folds, cells and counts
-mod FoldLaws
+pub mod FoldLaws
+-- what they lean on: cells and counts
 mod CellLaws
 mod Sets
 -- the sweep, event by event

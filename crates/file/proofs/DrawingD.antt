@@ -11,7 +11,7 @@ use Rattle.congestion.specs.Answer.{densityAnswer}
 use Rattle.congestion.proofs.Examples as OfCongestion
 use Rattle.file.specs.Reading.{Read, got, Drawing, then, bigEndian, number, float as readFloat, version, orientation, segment, node, exemption, entries, counted, settings, parts, ended, read}
 use Rattle.file.specs.Text.{glyph, hexadecimal, leading, decimal, float, gap, fields}
-use Rattle.file.specs.Sheet.{clearanceWord, separationWord, congestionWord, clearanceLine, separationLine, congestionLine, segmentsApart, nodesApart, exemptionsApart, scratchWords, lines, printed, sheet}
+use Rattle.file.specs.Sheet.{clearanceWord, separationWord, congestionWord, clearanceLine, separationLine, congestionLine, segmentsApart, nodesApart, exemptionsApart, scratchWords, measured, lines, printed, sheet}
 
 -- version; two segments; one node; one exemption; threshold 2, cutoff 6; allowances 1,000: a line for each count and for each entry
 abbrev bytes : List ℕ
@@ -69,5 +69,5 @@ three {a} {b} {c} {d} {e} {f} p q r = ap (λ l. l ++ (b ++ c)) p ∙ ap (λ l. d
 
 -- document 01's "Output", byte by byte
 pub sheet-of-d : sheet bytes ≡ clearanceText ++ (separationText ++ congestionText)
-unfolding sheet printed lines scratchWords
+unfolding sheet printed lines measured scratchWords
 sheet-of-d = ap printed file-of-d ∙ three clearance-of-d separation-of-d congestion-of-d

@@ -13,7 +13,7 @@ use Rattle.separation.specs.Answer.{separation}
 use Rattle.congestion.specs.declared.report.CongestionAnswer.{CongestionAnswer}
 use Rattle.congestion.specs.declared.report.CongestionAnswer.the-variants as ofCongestion
 use Rattle.congestion.specs.Answer.{densityAnswer}
-use Rattle.file.specs.Reading.{Drawing, Read, got, refused, read}
+use Rattle.file.specs.Reading.{Settings, Drawing, Read, got, refused, read}
 use Rattle.file.specs.Text.{decimal, float, gap, fields}
 
 -- the words of a sheet, as bytes: clearance, separation, congestion, file, refused
@@ -67,14 +67,15 @@ exemptionsApart l = record { net = map (λ e. e .net) l; node = map (λ e. e .no
 unfoldable pub scratchWords : ℕ
 scratchWords = 7744
 
--- the three lines: clearance, separation, congestion, each by its own allowance
+-- the three lines of columns and settings: clearance, separation, congestion, each by its own allowance
+unfoldable pub measured : SegmentColumns → NodeColumns → ExemptionColumns → Settings → List ℕ
+measured s n e set =
+    clearanceLine (answer s n e (set .threshold) (set .clearance) scratchWords)
+    ++ (separationLine (separation s (set .separation) scratchWords)
+    ++ congestionLine (densityAnswer s (set .cutoff) (set .congestion) scratchWords))
+
 unfoldable pub lines : Drawing → List ℕ
-lines d =
-    let ss = segmentsApart (d .segments) in
-    let set = d .settings in
-    clearanceLine (answer ss (nodesApart (d .nodes)) (exemptionsApart (d .exemptions)) (set .threshold) (set .clearance) scratchWords)
-    ++ (separationLine (separation ss (set .separation) scratchWords)
-    ++ congestionLine (densityAnswer ss (set .cutoff) (set .congestion) scratchWords))
+lines d = measured (segmentsApart (d .segments)) (nodesApart (d .nodes)) (exemptionsApart (d .exemptions)) (d .settings)
 
 unfoldable pub printed : Read Drawing → List ℕ
 printed (got d rest) = lines d

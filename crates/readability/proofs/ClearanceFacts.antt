@@ -1,0 +1,70 @@
+-- The facts of clearance. Assumes nothing.
+use mathlib.Core.Path.{_≡_, sym, ap, _∙_}
+use mathlib.Core.Logic.{inl, inr}
+use mathlib.Core.Bool.{cond}
+use mathlib.Core.Option.{Option, none, some}
+use Prim.Native.Nat.{ℕ}
+use native.Mathlib.Omega.{arith}
+use borrow.Author.Tests.{leb-true, leb-false}
+use lib.Dec.{leb}
+use lib.Ieee.{Float}
+use Rattle.laws.specs.Lists.{All}
+use Rattle.laws.specs.Charged.{Charged}
+use Rattle.laws.proofs.Tests.{decide, cond-true, cond-false}
+use Rattle.laws.proofs.ListLaws.{all-map}
+use Rattle.drawing.specs.declared.refusal.Refusal.{Refusal}
+use Rattle.drawing.specs.declared.refusal.Check.the-variants.{Refused}
+use Rattle.drawing.specs.Entries.{SegmentColumns, NodeColumns, segments, nodes, exemptions}
+use Rattle.drawing.specs.Refusals.{numberOf, firstOf}
+use Rattle.drawing.specs.Checks.{listConditions, entryConditions, clearanceConditions}
+use Rattle.drawing.proofs.ListOrders.{SegmentHeld, NodeHeld}
+use Rattle.clearance.specs.Figures.{Figures}
+use Rattle.clearance.specs.Answer.{allPairs, unless, answer, Result, result}
+use Rattle.clearance.proofs.AllPairs.{walk-all-pairs}
+use Rattle.clearance.proofs.AnyOrder.{all-pairs-any-order}
+use Rattle.clearance.proofs.Answers.{FitCall, fit-call, result-reached, result-spent}
+use Rattle.readability.specs.Measures.{SegmentsHeld, NodesHeld, Lists, clearance}
+use Rattle.readability.proofs.FirstMet.{Rising}
+use Rattle.readability.proofs.Facts.{Passes, Same, Facts}
+
+-- the floats of a run, as the crates below say it
+pub held-segments : (s : SegmentColumns) → SegmentsHeld s → All SegmentHeld (segments s)
+held-segments s h = all-map (λ x p. record { fixed = p .0; start = p .1; end = p .2 }) (segments s) h
+
+held-nodes : (n : NodeColumns) → NodesHeld n → All NodeHeld (nodes n)
+held-nodes n h = all-map (λ x p. record { x = p .0; y = p .1; width = p .2; height = p .3 }) (nodes n) h
+
+rises : (d : Lists) (t : Float) (words : ℕ) → Rising 0 (clearance .conditions d t words)
+unfolding clearanceConditions listConditions entryConditions numberOf
+rises d t words = (omega arith, omega arith, (omega arith, omega arith, (omega arith, omega arith, (omega arith, omega arith, (omega arith, omega arith, (omega arith, omega arith, (omega arith, omega arith, (omega arith, omega arith, (omega arith, omega arith, (omega arith, omega arith, tt))))))))))
+
+fit : (d : Lists) (t : Float) (words : ℕ) → clearance .Held d t → Passes clearance d t words → FitCall (d .segments) (d .nodes) t
+fit d t words h p = fit-call (d .segments) (d .nodes) (d .exemptions) t words (record { segments-held = held-segments (d .segments) (h .0); nodes-held = held-nodes (d .nodes) (h .1); threshold-held = h .2 }) p
+
+refuses : (d : Lists) (t : Float) (a words : ℕ) (r : Refusal) → firstOf (clearance .conditions d t words) ≡ Refused r → clearance .result (clearance .answer d t a words) ≡ clearance .refused (numberOf r)
+unfolding answer unless result
+refuses d t a words r e = rw e
+
+settles : (d : Lists) (t : Float) (a words : ℕ) → Passes clearance d t words
+    → clearance .result (clearance .answer d t a words) ≡ cond (leb (clearance .count d t) a) (clearance .accepted (clearance .figures d t) (clearance .count d t)) (clearance .refused 7)
+settles d t a words p = elim (decide (leb (clearance .count d t) a)) [
+  | inl e ↦ result-reached (d .segments) (d .nodes) (d .exemptions) t a words p (leb-true _ _ e) ∙ sym (cond-true (leb (clearance .count d t) a) (clearance .accepted (clearance .figures d t) (clearance .count d t)) (clearance .refused 7) e)
+  | inr e ↦ result-spent (d .segments) (d .nodes) (d .exemptions) t a words p (leb-false _ _ e) ∙ sym (cond-false (leb (clearance .count d t) a) (clearance .accepted (clearance .figures d t) (clearance .count d t)) (clearance .refused 7) e)
+]
+
+apart : (g : Figures) (n : ℕ) → clearance .accepted g n ≡ clearance .refused 7 → ⊥
+apart g n z = let f : _≡_ {A = Option ℕ} none (some 7) = ap (λ (r : Result). r .refused) z in let k : _≡_ {A = ℕ} 0 1 = cc in omega arith
+
+same : (d e : Lists) (t : Float) (words : ℕ) → clearance .Reordered d e → clearance .Held d t → Passes clearance d t words → Same clearance d e t
+unfolding allPairs
+same d e t words o h p =
+    let f = fit d t words h p in
+    let all = all-pairs-any-order t (o .2) (o .0) (o .1) (f .segments-fit) (f .nodes-fit) in
+    record { figures = ap (λ (c : Charged Figures). c .value) all; count = ap (λ (c : Charged Figures). c .cost) all }
+
+walks : (d : Lists) (t : Float) (words : ℕ) → clearance .Held d t → Passes clearance d t words → clearance .walk d t ≡ record { value = clearance .figures d t; cost = clearance .count d t }
+unfolding allPairs
+walks d t words h p = let f = fit d t words h p in walk-all-pairs (exemptions (d .exemptions)) t (segments (d .segments)) (nodes (d .nodes)) (f .threshold-fit) (f .segments-fit) (f .nodes-fit)
+
+pub clearance-facts : Facts clearance
+clearance-facts = record { rising = rises; refuses = refuses; settles = settles; apart = apart; same = same; walks = walks }

@@ -1,0 +1,95 @@
+-- The facts of the three congestion calls. Assumes nothing.
+use mathlib.Core.Path.{_≡_, refl, sym, ap, _∙_}
+use mathlib.Core.Logic.{inl, inr}
+use mathlib.Core.Bool.{Bool, cond}
+use Prim.Native.Nat.{ℕ}
+use native.Mathlib.Omega.{arith}
+use borrow.Author.Tests.{leb-true, leb-false}
+use lib.Dec.{leb}
+use lib.Ieee.{Float}
+use Rattle.laws.specs.Charged.{Charged}
+use Rattle.laws.proofs.Tests.{decide, cond-true, cond-false}
+use Rattle.drawing.specs.declared.gap.Gap.{Gap}
+use Rattle.drawing.specs.declared.refusal.Refusal.{Refusal}
+use Rattle.drawing.specs.declared.refusal.Refusal.the-variants.{WorkLimitExceeded}
+use Rattle.drawing.specs.declared.refusal.Check.the-variants.{Passed, Refused as Stopped}
+use Rattle.drawing.specs.Entries.{SegmentColumns, segments}
+use Rattle.drawing.specs.Refusals.{numberOf, firstOf}
+use Rattle.drawing.specs.Checks.{separationConditions, congestionConditions}
+use Rattle.congestion.specs.declared.report.ParallelCongestion.{ParallelCongestion}
+use Rattle.congestion.specs.declared.report.CongestionReport.{CongestionReport}
+use Rattle.congestion.specs.declared.report.CongestionAnswer.{CongestionAnswer}
+use Rattle.congestion.specs.declared.report.CongestionAnswer.the-variants.{Report, Refused}
+use Rattle.congestion.specs.Profile.{allPairs}
+use Rattle.congestion.specs.Answer.{reportOf, densityAnswer, withoutDensity, profileAnswer, congestionAnswer, zeros, resultOf}
+use Rattle.congestion.proofs.Fitness.{fit-list}
+use Rattle.congestion.proofs.SweepTheorem.{all-pairs-order, sweep-is-all-pairs}
+use Rattle.congestion.proofs.Answers.{Demand3, density-settles, profile-settles, congestion-earlier, congestion-reached}
+use Rattle.readability.specs.Measures.{ofCongestion, density, profile, congestion}
+use Rattle.readability.proofs.FirstMet.{Rising}
+use Rattle.readability.proofs.Facts.{Facts}
+
+-- figures and the least gap, at a cost
+abbrev Charges : Type 0
+Charges = Charged (ParallelCongestion × Gap)
+
+rises : (s : SegmentColumns) (cutoff : Float) (words : ℕ) → Rising 0 (congestionConditions s cutoff words)
+unfolding congestionConditions separationConditions numberOf
+rises s cutoff words = (omega arith, omega arith, (omega arith, omega arith, (omega arith, omega arith, (omega arith, omega arith, (omega arith, omega arith, (omega arith, omega arith, (omega arith, omega arith, tt)))))))
+
+refused-result : (r : Refusal) → resultOf (Refused r) ≡ (numberOf r, zeros)
+unfolding resultOf
+refused-result r = refl
+
+spent-result : resultOf (Refused WorkLimitExceeded) ≡ (7, zeros)
+unfolding resultOf numberOf
+spent-result = refl
+
+reported : (r : CongestionReport) → resultOf (Report r) ≡ (0, r)
+unfolding resultOf
+reported r = refl
+
+-- one call, whose figures are a part of the report that costs the same
+module _ (part : Charges → Charges) (A : Type 0) (reach : A → ℕ → Bool) (answers : SegmentColumns → Float → A → ℕ → CongestionAnswer)
+    (costs : (c : Charges) → part c .cost ≡ c .cost)
+    (refuses : (s : SegmentColumns) (cutoff : Float) (a : A) (words : ℕ) (r : Refusal) → firstOf (congestionConditions s cutoff words) ≡ Stopped r → answers s cutoff a words ≡ Refused r)
+    (settles : (s : SegmentColumns) (cutoff : Float) (a : A) (words : ℕ) → firstOf (congestionConditions s cutoff words) ≡ Passed → resultOf (answers s cutoff a words) ≡ cond (reach a (allPairs cutoff (segments s) .cost)) (0, reportOf (part (allPairs cutoff (segments s)) .value) (allPairs cutoff (segments s) .cost)) (7, zeros)) where
+  facts : Facts (ofCongestion part A reach answers)
+  facts = record {
+    rising = rises;
+    refuses = λ s cutoff a words r e. ap resultOf (refuses s cutoff a words r e) ∙ refused-result r;
+    settles = settles;
+    apart = λ f n e. let z : _≡_ {A = ℕ} 0 7 = ap (λ (r : ℕ × CongestionReport). r .0) e in omega arith;
+    same = λ s t cutoff words o h p.
+        let all = all-pairs-order cutoff o (fit-list s cutoff words p) in
+        record { figures = ap (λ (c : Charges). part c .value) all; count = ap (λ (c : Charges). c .cost) all };
+    walks = λ s cutoff words h p.
+        let all = sweep-is-all-pairs cutoff (segments s) (fit-list s cutoff words p) in
+        ap part all ∙ (λ i. record { value = part (allPairs cutoff (segments s)) .value; cost = costs (allPairs cutoff (segments s)) i });
+  }
+
+-- a call with an allowance
+module _ (part : Charges → Charges) (answers : SegmentColumns → Float → ℕ → ℕ → CongestionAnswer) (costs : (c : Charges) → part c .cost ≡ c .cost) (d : Demand3 answers (λ cutoff l. part (allPairs cutoff l))) where
+  settled : (s : SegmentColumns) (cutoff : Float) (a words : ℕ) → firstOf (congestionConditions s cutoff words) ≡ Passed
+      → resultOf (answers s cutoff a words) ≡ cond (leb (part (allPairs cutoff (segments s)) .cost) a) (0, reportOf (part (allPairs cutoff (segments s)) .value) (part (allPairs cutoff (segments s)) .cost)) (7, zeros)
+  settled s cutoff a words p =
+      let c = part (allPairs cutoff (segments s)) in
+      elim (decide (leb (c .cost) a)) [
+        | inl e ↦ ap resultOf (d .reached s cutoff a words p (leb-true _ _ e)) ∙ reported _ ∙ sym (cond-true (leb (c .cost) a) (0, reportOf (c .value) (c .cost)) (7, zeros) e)
+        | inr e ↦ ap resultOf (d .spent s cutoff a words p (leb-false _ _ e)) ∙ spent-result ∙ sym (cond-false (leb (c .cost) a) (0, reportOf (c .value) (c .cost)) (7, zeros) e)
+      ]
+
+  bounded : Facts (ofCongestion part ℕ (λ allowance n. leb n allowance) answers)
+  bounded = facts part ℕ (λ allowance n. leb n allowance) answers costs (λ s cutoff a words r e. d .earlier s cutoff a words r e)
+      (λ s cutoff a words p. settled s cutoff a words p ∙ (λ i. cond (leb (costs (allPairs cutoff (segments s)) i) a) (0, reportOf (part (allPairs cutoff (segments s)) .value) (costs (allPairs cutoff (segments s)) i)) (7, zeros)))
+
+pub density-facts : Facts density
+density-facts = bounded (λ c. c) densityAnswer (λ c. refl) density-settles
+
+pub profile-facts : Facts profile
+profile-facts = bounded withoutDensity profileAnswer (λ c. refl) profile-settles
+
+pub congestion-facts : Facts congestion
+congestion-facts =
+    facts (λ c. c) (Unit {0}) _ (λ s cutoff always words. congestionAnswer s cutoff words) (λ c. refl) (λ s cutoff always words r e. congestion-earlier s cutoff words r e)
+    (λ s cutoff always words p. ap resultOf (congestion-reached s cutoff words p) ∙ reported _)

@@ -1,0 +1,18 @@
+-- The calls' own contracts say what specs/Contracts states. Assumes nothing.
+use Rattle.clearance.proofs.measure.measure_edge_node_clearance_bounded.Met as clearance
+use Rattle.clearance.proofs.tight_pair.tight_pair.Met as tight-pair
+use Rattle.separation.proofs.measure.measure_parallel_separation_bounded.Met as separation
+use Rattle.congestion.proofs.measure.measure_parallel_density_profile_bounded.Met as density
+use Rattle.congestion.proofs.measure.measure_parallel_congestion_profile_bounded.Met as profile
+use Rattle.congestion.proofs.measure.measure_parallel_congestion.Met as congestion
+use Rattle.readability.specs.Contracts.{Contracts}
+
+pub contracts : Contracts
+contracts = record {
+  of-clearance = record { asks-nothing = λ κs a. tt; ends = λ M. clearance.met; says = λ κs a x e l. record { answers = l .0; leaves = l .1 } };
+  of-separation = record { asks-nothing = λ κs a. tt; ends = λ M. separation.met; says = λ κs a x e l. record { answers = l .0; leaves = l .1 } };
+  of-density = record { asks-nothing = λ κs a. tt; ends = λ M. density.met; says = λ κs a x e l. record { answers = l .0; leaves = l .1 } };
+  of-profile = record { asks-nothing = λ κs a. tt; ends = λ M. profile.met; says = λ κs a x e l. record { answers = l .0; leaves = l .1 } };
+  of-congestion = record { asks-nothing = λ κs a. tt; ends = λ M. congestion.met; says = λ κs a x e l. record { answers = l .0; leaves = l .1 } };
+  of-tight-pair = record { asks-nothing = λ κs a. tt; ends = λ M. tight-pair.met; says = λ κs a x e l. l };
+}

@@ -1,0 +1,55 @@
+-- The facts of separation. Assumes nothing.
+use mathlib.Core.Path.{_≡_, sym, ap, _∙_}
+use mathlib.Core.Logic.{inl, inr}
+use mathlib.Core.Bool.{cond}
+use Prim.Native.Nat.{ℕ}
+use native.Mathlib.Omega.{arith}
+use borrow.Author.Tests.{leb-true, leb-false}
+use lib.Dec.{leb}
+use Rattle.laws.specs.Charged.{Charged}
+use Rattle.laws.proofs.Tests.{decide, cond-true, cond-false}
+use Rattle.drawing.specs.declared.refusal.Refusal.{Refusal}
+use Rattle.drawing.specs.declared.refusal.Check.the-variants.{Refused}
+use Rattle.drawing.specs.Entries.{SegmentColumns, segments}
+use Rattle.drawing.specs.Refusals.{numberOf, firstOf}
+use Rattle.drawing.specs.Checks.{separationConditions}
+use Rattle.separation.specs.declared.report.ParallelSeparation.{ParallelSeparation}
+use Rattle.separation.specs.Figures.{Figures}
+use Rattle.separation.specs.Answer as answering
+use Rattle.separation.proofs.AnyOrder.{all-pairs-any, walk-all-pairs}
+use Rattle.separation.proofs.Answers.{passed-fit, result-reached, result-spent}
+use Rattle.readability.specs.Measures.{separation}
+use Rattle.readability.proofs.FirstMet.{Rising}
+use Rattle.readability.proofs.Facts.{Passes, Same, Facts}
+use Rattle.readability.proofs.ClearanceFacts.{held-segments}
+
+pub separation-rises : (s : SegmentColumns) (words : ℕ) → Rising 0 (separationConditions s words)
+unfolding separationConditions numberOf
+separation-rises s words = (omega arith, omega arith, (omega arith, omega arith, (omega arith, omega arith, (omega arith, omega arith, tt))))
+
+refuses : (s : SegmentColumns) (none : Unit {0}) (a words : ℕ) (r : Refusal) → firstOf (separation .conditions s none words) ≡ Refused r → separation .result (separation .answer s none a words) ≡ separation .refused (numberOf r)
+unfolding answering.separation answering.resultOf
+refuses s none a words r e = rw e
+
+settles : (s : SegmentColumns) (none : Unit {0}) (a words : ℕ) → Passes separation s none words
+    → separation .result (separation .answer s none a words) ≡ cond (leb (separation .count s none) a) (separation .accepted (separation .figures s none) (separation .count s none)) (separation .refused 7)
+settles s none a words p = elim (decide (leb (separation .count s none) a)) [
+  | inl e ↦ result-reached s words p a (leb-true _ _ e) ∙ sym (cond-true (leb (separation .count s none) a) (separation .accepted (separation .figures s none) (separation .count s none)) (separation .refused 7) e)
+  | inr e ↦ result-spent s words p a (leb-false _ _ e) ∙ sym (cond-false (leb (separation .count s none) a) (separation .accepted (separation .figures s none) (separation .count s none)) (separation .refused 7) e)
+]
+
+apart : (f : Figures) (n : ℕ) → separation .accepted f n ≡ separation .refused 7 → ⊥
+apart f n e = let z : _≡_ {A = ℕ} 0 7 = ap (λ (r : ℕ × ParallelSeparation). r .0) e in omega arith
+
+same : (s t : SegmentColumns) (none : Unit {0}) (words : ℕ) → separation .Reordered s t → separation .Held s none → Passes separation s none words → Same separation s t none
+unfolding answering.allPairs
+same s t none words o h p =
+    let all = all-pairs-any o (passed-fit s words p (held-segments s h)) in
+    record { figures = ap (λ (c : Charged Figures). c .value) all; count = ap (λ (c : Charged Figures). c .cost) all }
+
+walks : (s : SegmentColumns) (none : Unit {0}) (words : ℕ) → separation .Held s none → Passes separation s none words → separation .walk s none ≡ record { value = separation .figures s none; cost = separation .count s none }
+unfolding answering.allPairs
+walks s none words h p = walk-all-pairs (segments s) (passed-fit s words p (held-segments s h))
+
+pub separation-facts : Facts separation
+separation-facts = record { rising = λ s none words. separation-rises s words; refuses = refuses; settles = settles; apart = apart; same = same; walks = walks }
