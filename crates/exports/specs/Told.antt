@@ -1,12 +1,17 @@
 -- How results are told in numbers.
+use mathlib.Core.Path.{_≡_}
 use mathlib.Core.List.{List, [], _∷_}
 use mathlib.Core.Option.{Option, none, some}
 use Prim.Native.Nat.{ℕ}
 use lib.Ieee.{binary64, toBits}
 use Rattle.drawing.specs.declared.gap.Gap.{Gap}
 use Rattle.drawing.specs.declared.gap.Gap.the-variants.{Absent, Present}
+use Rattle.drawing.specs.Entries.{SegmentColumns, NodeColumns, ExemptionColumns}
 use Rattle.clearance.specs.Answer.{Result}
+use Rattle.clearance.specs.declared.tight_pair.TightPair.{TightPair}
+use Rattle.clearance.specs.TightPair.{Answered, result}
 use Rattle.separation.specs.declared.report.ParallelSeparation.{ParallelSeparation}
+use Rattle.congestion.specs.declared.report.CongestionReport.{CongestionReport}
 
 -- 0 where nothing was refused, else the refusal's number
 unfoldable pub status : Option ℕ → ℕ
@@ -30,3 +35,21 @@ clearanceWords r = presentWord (r .least) ∷ bitsWord (r .least) ∷ r .violati
 -- the words of a separation report; a refusal's has absent gaps and zeros
 unfoldable pub separationWords : ParallelSeparation → List ℕ
 separationWords r = presentWord (r .minimum) ∷ bitsWord (r .minimum) ∷ presentWord (r .«minimum_positive») ∷ bitsWord (r .«minimum_positive») ∷ r .visits ∷ []
+
+-- the words of a congestion report, lengths by their bits; a refusal's has zeros, whose bits are 0, and an absent gap
+unfoldable pub congestionWords : CongestionReport → List ℕ
+congestionWords r =
+    let c = r .congestion in
+    toBits binary64 (c .«total_length») ∷ toBits binary64 (c .«congested_length») ∷ toBits binary64 (c .«pair_overlap_length») ∷ c .«peak_close_neighbors» ∷ presentWord (r .«minimum_positive») ∷ bitsWord (r .«minimum_positive») ∷ r .visits ∷ []
+
+-- the words of a tight pair: whether there is one, and its positions, "by segment and node position"; zeros where it is absent
+unfoldable pub pairWords : Option (ℕ × ℕ) → List ℕ
+pairWords none = 0 ∷ 0 ∷ 0 ∷ []
+pairWords (some p) = 1 ∷ p .0 ∷ p .1 ∷ []
+
+-- what is told of the tight pair, a number and words, is one and the same answer, of which the call's promise holds: "any pair", so that the choice is left to the program
+pub record PairTold (s : SegmentColumns) (n : NodeColumns) (e : ExemptionColumns) (number : ℕ) (words : List ℕ) : Type 0 where
+  pub answer : TightPair
+  pub answered : Answered s n e answer
+  pub number-is : number ≡ status (result answer .refused)
+  pub words-are : words ≡ pairWords (result answer .pair)

@@ -1,26 +1,79 @@
-//! The port against the reference's answer to one measure of one drawing.
+//! The port against the reference's answer to one measure of one drawing, by
+//! every call of that measure.
 
 use crate::{
     drawing::Drawing,
-    port::{run, scratch_words, Columns, Told},
+    port::{run, run_ratio, scratch_words, Call, Columns, Told, CALLS},
     random::Random,
+    reference::{self, Fed, Run},
     refusals::{before_work, settle},
-    report::{Answer, Measure},
+    report::{Answer, Figure, Measure, Report},
+    values::{GRID_END, GRID_STEP},
 };
 
 /// Words behind the lent scratch, to see that nothing is written there.
 const GUARDS: usize = 8;
 
 /// Compares the port with the answer where no allowance runs out. `reordered`
-/// holds the same entries in another order. Returns what differs.
+/// holds the same entries in another order, and `fed` what the reference is fed
+/// for its other calls. Returns what differs.
 pub fn differences(
     measure: Measure,
     drawing: &Drawing,
     reordered: &Drawing,
+    fed: &Fed,
     answer: &Answer,
 ) -> Vec<String> {
+    let mut found = Vec::new();
+    for call in CALLS {
+        if call.measure() != measure {
+            continue;
+        }
+        match answer_by(call, fed, answer) {
+            Ok(answer) => found.extend(differences_by(call, drawing, reordered, &answer)),
+            Err(run) => found.push(format!("the Rust's {}: {run:?}", call.name())),
+        }
+    }
+    found
+}
+
+/// The reference's answer by one call of the measure, where `answer` is its
+/// answer by the call that the sheet shows. What the reference keeps to itself
+/// is taken from there: the visits, and the gap where there is no limit.
+fn answer_by(call: Call, fed: &Fed, answer: &Answer) -> Result<Answer, Run> {
+    let Ok(report) = answer else {
+        return Ok(answer.clone());
+    };
+    let figures = match call {
+        Call::Clearance | Call::Separation | Call::DensityProfile => report.figures.clone(),
+        Call::CongestionProfile => figures_of(fed.run_profile(u64::MAX))?,
+        Call::Congestion => {
+            let mut figures = figures_of(fed.run_without_limit())?;
+            let ratio = figures.len() - 1;
+            figures[ratio] = report.figures[ratio];
+            figures
+        }
+    };
+    let visits = report.visits;
+    Ok(Ok(Report { figures, visits }))
+}
+
+fn figures_of(run: Run) -> Result<Vec<Figure>, Run> {
+    match run {
+        Run::Done(figures) => Ok(figures),
+        run => Err(run),
+    }
+}
+
+fn differences_by(
+    call: Call,
+    drawing: &Drawing,
+    reordered: &Drawing,
+    answer: &Answer,
+) -> Vec<String> {
+    let measure = call.measure();
     let mut tried = Tried {
-        measure,
+        call,
         random: Random::new(drawing.entries() as u64),
         found: Vec::new(),
     };
@@ -31,7 +84,7 @@ pub fn differences(
         ("lists in another order", reordered, more),
     ] {
         let columns = Columns::of(lists);
-        for allowance in allowances(measure.allowance(drawing), answer) {
+        for allowance in allowances(call, measure.allowance(drawing), answer) {
             let expected = answer.clone().and_then(|report| settle(report, allowance));
             let about = format!("{about}, allowance {allowance}");
             tried.compare(&about, &columns, words, allowance, &expected);
@@ -41,9 +94,11 @@ pub fn differences(
     tried.found
 }
 
-/// Allowances around the visit count; the drawing's own where there is none.
-fn allowances(own: u64, answer: &Answer) -> Vec<u64> {
+/// Allowances around the visit count; the drawing's own where there is none. A
+/// call that is given no allowance counts as having one that always reaches.
+fn allowances(call: Call, own: u64, answer: &Answer) -> Vec<u64> {
     match answer {
+        _ if call == Call::Congestion => vec![u64::MAX],
         Ok(report) => {
             let visits = report.visits;
             vec![
@@ -62,10 +117,10 @@ fn allowances(own: u64, answer: &Answer) -> Vec<u64> {
 
 /// The refusals that come of what is lent and not of the drawing: a column
 /// one longer or shorter, scratch one word short or none, an orientation above
-/// 1, and any of these together.
+/// 1, a number off the grid, and any of these together.
 fn compare_refusals(drawing: &Drawing, need: usize, tried: &mut Tried) {
     let columns = Columns::of(drawing);
-    let columns_taken = columns_taken(tried.measure);
+    let columns_taken = columns_taken(tried.call.measure());
     for place in 0..columns_taken {
         for longer in [false, true] {
             let mut uneven = columns.clone();
@@ -80,10 +135,14 @@ fn compare_refusals(drawing: &Drawing, need: usize, tried: &mut Tried) {
     for words in [need - 1, 0] {
         tried.compare_refusal("short scratch", drawing, &columns, words);
     }
+    let mut moved = drawing.clone();
+    move_some(&mut moved, &mut tried.random);
+    tried.compare_refusal("off the grid", &moved, &Columns::of(&moved), need);
     let mut turned = drawing.clone();
     turn_some(&mut turned, &mut tried.random);
     tried.compare_refusal("an orientation", &turned, &Columns::of(&turned), need);
 
+    move_some(&mut turned, &mut tried.random);
     let mut several = Columns::of(&turned);
     if tried.random.once_in(2) {
         let place = tried.random.below(columns_taken);
@@ -97,13 +156,15 @@ fn compare_refusals(drawing: &Drawing, need: usize, tried: &mut Tried) {
 /// measure is given.
 fn columns_taken(measure: Measure) -> usize {
     if measure.takes_nodes() {
-        12
+        ALL_COLUMNS
     } else {
         5
     }
 }
 
-fn change_length(columns: &mut Columns, place: usize, longer: bool) {
+pub const ALL_COLUMNS: usize = 12;
+
+pub fn change_length(columns: &mut Columns, place: usize, longer: bool) {
     fn change<T: Default>(column: &mut Vec<T>, longer: bool) {
         if longer {
             column.push(T::default());
@@ -128,15 +189,26 @@ fn change_length(columns: &mut Columns, place: usize, longer: bool) {
 }
 
 /// Gives one segment an orientation above 1, if there is a segment.
-fn turn_some(drawing: &mut Drawing, random: &mut Random) {
+pub fn turn_some(drawing: &mut Drawing, random: &mut Random) {
     if !drawing.segments.is_empty() {
         let place = random.below(drawing.segments.len());
         drawing.segments[place].orientation = random.pick(&[2, 3, 128, 255]);
     }
 }
 
+/// Moves one segment off the grid, or the cutoff.
+fn move_some(drawing: &mut Drawing, random: &mut Random) {
+    let off = random.pick(&[GRID_STEP / 2.0, 0.1, GRID_END + GRID_STEP]);
+    let off = random.either_sign(off);
+    let place = random.below(drawing.segments.len() + 1);
+    match drawing.segments.get_mut(place) {
+        Some(segment) => segment.fixed = off,
+        None => drawing.cutoff = off,
+    }
+}
+
 struct Tried {
-    measure: Measure,
+    call: Call,
     random: Random,
     found: Vec<String>,
 }
@@ -146,7 +218,7 @@ impl Tried {
     /// not refused there is nothing to see here.
     fn compare_refusal(&mut self, about: &str, drawing: &Drawing, columns: &Columns, words: usize) {
         let lent = columns.lent(words);
-        if let Some(refusal) = before_work(self.measure, drawing, &lent) {
+        if let Some(refusal) = before_work(self.call.measure(), drawing, &lent) {
             let allowance = self.random.pick(&[0, 1_000, u64::MAX]);
             self.compare(about, columns, words, allowance, &Err(refusal));
         }
@@ -163,12 +235,12 @@ impl Tried {
     ) {
         let before = self.contents(words + GUARDS);
         let mut after = before.clone();
-        let told = run(self.measure, columns, allowance, &mut after[..words]);
+        let told = run(self.call, columns, allowance, &mut after[..words]);
         let expected = Told::expected(answer, told.words.len());
-        let measure = self.measure.name();
+        let call = self.call.name();
         if told != expected {
             self.found.push(format!(
-                "the port's {measure}, {about}: {told:x?}, where {expected:x?} is expected"
+                "the port's {call}, {about}: {told:x?}, where {expected:x?} is expected"
             ));
         }
         let (lent, guards) = after.split_at(words);
@@ -180,7 +252,7 @@ impl Tried {
         };
         if !scratch_is_well || *guards != before[words..] {
             self.found.push(format!(
-                "the port's {measure}, {about}: the scratch is not as document 01 says"
+                "the port's {call}, {about}: the scratch is not as document 01 says"
             ));
         }
     }
@@ -192,5 +264,56 @@ impl Tried {
             1 => vec![u64::MAX; words],
             _ => (0..words).map(|_| self.random.word()).collect(),
         }
+    }
+}
+
+/// Lengths that no congestion call reports, and some that one does.
+const LENGTHS: [f64; 12] = [
+    0.0,
+    1.0,
+    GRID_STEP,
+    1.0 / 3.0,
+    GRID_END,
+    5e-324,
+    f64::MIN_POSITIVE,
+    f64::MAX,
+    f64::EPSILON,
+    f64::INFINITY,
+    f64::NAN,
+    1.0 + f64::EPSILON,
+];
+
+/// Compares the port's ratio with the reference's: that of the report's
+/// lengths, if there is a report, and some of any lengths. The bits of a NaN
+/// are left open.
+pub fn ratio_differences(drawing: &Drawing, answer: &Answer) -> Vec<String> {
+    let mut random = Random::new(drawing.entries() as u64);
+    let mut pairs: Vec<[f64; 2]> = (0..8)
+        .map(|_| [(); 2].map(|()| any_length(&mut random)))
+        .collect();
+    if let Ok(report) = answer {
+        if let [Figure::Length(total), Figure::Length(congested), ..] = report.figures[..] {
+            pairs.push([total, congested]);
+        }
+    }
+    let mut found = Vec::new();
+    for [total, congested] in pairs {
+        let told = run_ratio(total, congested);
+        let expected = reference::ratio(total, congested);
+        if told.to_bits() != expected.to_bits() && !(told.is_nan() && expected.is_nan()) {
+            found.push(format!(
+                "the port's ratio of {congested:?} to {total:?}: {told:?}, where {expected:?} is expected"
+            ));
+        }
+    }
+    found
+}
+
+fn any_length(random: &mut Random) -> f64 {
+    if random.once_in(4) {
+        f64::from_bits(random.word())
+    } else {
+        let length = random.pick(&LENGTHS);
+        random.either_sign(length)
     }
 }

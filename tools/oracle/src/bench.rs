@@ -9,7 +9,7 @@ use std::{hint::black_box, time::Instant};
 
 use crate::{
     drawing::{Allowances, Drawing, Exemption, Node, Segment, HORIZONTAL, VERTICAL},
-    port::{self, scratch_words, Columns, Told},
+    port::{self, scratch_words, Call, Columns, Told},
     random::Random,
     reference::{Fed, Run},
     refusals::CALL_LIMITS,
@@ -28,7 +28,8 @@ struct Kind {
     /// high.
     shortest: i64,
     longest: i64,
-    threshold: f64,
+    /// Clearance's threshold and congestion's cutoff.
+    reach: f64,
     nets: usize,
     exemptions: usize,
 }
@@ -39,8 +40,10 @@ enum Lines {
     Any,
     /// One for all of them.
     One,
-    /// One for each of them, in one orientation.
+    /// One for each of them, in one orientation, 1 apart.
     Own,
+    /// One for all of them, which begin and end together, each in its own net.
+    Alike,
 }
 
 const SPARSE: Kind = Kind {
@@ -50,7 +53,7 @@ const SPARSE: Kind = Kind {
     side: 8_192,
     shortest: 1,
     longest: 200,
-    threshold: 8.0,
+    reach: 8.0,
     nets: 256,
     exemptions: 0,
 };
@@ -59,13 +62,13 @@ const DENSE: Kind = Kind {
     name: "dense",
     side: 1_024,
     longest: 300,
-    threshold: 32.0,
+    reach: 32.0,
     ..SPARSE
 };
 
 const ALL_IN_REACH: Kind = Kind {
     name: "all in reach",
-    threshold: 1_000_000.0,
+    reach: 1_000_000.0,
     ..DENSE
 };
 
@@ -83,6 +86,19 @@ const ALL_OVERLAPPING: Kind = Kind {
     side: 64,
     shortest: 65,
     ..DENSE
+};
+
+const ONE_LINE: Kind = Kind {
+    name: "one line",
+    lines: Lines::One,
+    ..DENSE
+};
+
+/// The lines lie as far apart as the cutoff, so that no two wires are close.
+const OUT_OF_REACH: Kind = Kind {
+    name: "own lines, out of reach",
+    reach: 1.0,
+    ..ALL_OVERLAPPING
 };
 
 const CLEARANCE: [Kind; 6] = [
@@ -106,11 +122,7 @@ const SEPARATION: [Kind; 7] = [
     SPARSE,
     DENSE,
     ONE_NET,
-    Kind {
-        name: "one line",
-        lines: Lines::One,
-        ..DENSE
-    },
+    ONE_LINE,
     Kind {
         segments: 256,
         ..ALL_OVERLAPPING
@@ -122,6 +134,36 @@ const SEPARATION: [Kind; 7] = [
     ALL_OVERLAPPING,
 ];
 
+const CONGESTION: [Kind; 10] = [
+    SPARSE,
+    Kind {
+        segments: 256,
+        ..DENSE
+    },
+    Kind {
+        segments: 1_024,
+        ..DENSE
+    },
+    DENSE,
+    ONE_NET,
+    ONE_LINE,
+    Kind {
+        name: "one extent, own nets",
+        segments: 2_048,
+        lines: Lines::Alike,
+        ..DENSE
+    },
+    Kind {
+        segments: 256,
+        ..OUT_OF_REACH
+    },
+    Kind {
+        segments: 1_024,
+        ..OUT_OF_REACH
+    },
+    OUT_OF_REACH,
+];
+
 /// Prints for each measure a line for each kind: segments, visits, the best
 /// time of each side, the port's best over the reference's, and the median of
 /// that ratio over the runs, which a busy machine disturbs less. Fails where the
@@ -130,6 +172,7 @@ pub fn bench(runs: u64) -> Result<(), String> {
     for (measure, kinds) in [
         (Measure::Clearance, &CLEARANCE[..]),
         (Measure::Separation, &SEPARATION[..]),
+        (Measure::Congestion, &CONGESTION[..]),
     ] {
         println!(
             "{:<28}{:>8}{:>10}{:>10}{:>10}{:>8}{:>8}",
@@ -169,6 +212,7 @@ fn bench_kind(measure: Measure, kind: &Kind, runs: u64) -> Result<(), String> {
 /// port. The two take turns, so that a machine that is slow for a while is slow
 /// for both.
 fn times(measure: Measure, drawing: &Drawing, runs: u64) -> Result<(u64, Vec<[f64; 2]>), Told> {
+    let call = Call::of_sheet(measure);
     let fed = Fed::as_given(drawing);
     let columns = Columns::of(drawing);
     let mut scratch = vec![0; scratch_words(measure, drawing)];
@@ -176,7 +220,7 @@ fn times(measure: Measure, drawing: &Drawing, runs: u64) -> Result<(u64, Vec<[f6
     let mut times = Vec::new();
     for _ in 0..runs.max(1) {
         let (by_reference, rust) = timed(|| fed.run(measure, u64::MAX));
-        let (by_port, port) = timed(|| port::run(measure, &columns, u64::MAX, &mut scratch));
+        let (by_port, port) = timed(|| port::run(call, &columns, u64::MAX, &mut scratch));
         if !agree(&by_reference, &by_port) {
             return Err(by_port);
         }
@@ -231,8 +275,8 @@ fn drawing(kind: &Kind, random: &mut Random) -> Drawing {
                 node: random.below(CALL_LIMITS.nodes) as u32,
             })
             .collect(),
-        threshold: kind.threshold,
-        cutoff: 0.0,
+        threshold: kind.reach,
+        cutoff: kind.reach,
         allowances: Allowances {
             clearance: u64::MAX,
             separation: u64::MAX,
@@ -251,15 +295,24 @@ fn segment(kind: &Kind, place: usize, random: &mut Random) -> Segment {
             random.pick(&[HORIZONTAL, VERTICAL]),
             steps(random, 0, kind.side),
         ),
-        Lines::One => (HORIZONTAL, 0.0),
+        Lines::One | Lines::Alike => (HORIZONTAL, 0.0),
         Lines::Own => (HORIZONTAL, place as f64),
     };
-    Segment {
+    let segment = Segment {
         net,
         orientation,
         fixed,
         start,
         end: start + steps(random, kind.shortest, kind.longest),
+    };
+    match kind.lines {
+        Lines::Alike => Segment {
+            net: place as u32,
+            start: 0.0,
+            end: kind.longest as f64,
+            ..segment
+        },
+        Lines::Any | Lines::One | Lines::Own => segment,
     }
 }
 

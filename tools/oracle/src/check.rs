@@ -57,6 +57,9 @@ fn differences_on_document_01() -> Vec<String> {
                 found.push(format!("marked case ({}): {sheet}", case.name));
             }
         }
+        for difference in Examined::new(case.drawing).differences() {
+            found.push(format!("marked case ({}): {difference}", case.name));
+        }
     }
     found
 }
@@ -132,7 +135,7 @@ impl Tally {
             );
         }
         if cfg!(port) {
-            println!("the port: clearance and separation are called on every drawing");
+            println!("the port: the five calls, the ratio and the tight pair on every drawing");
         } else {
             println!("the port: not linked");
         }

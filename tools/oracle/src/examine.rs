@@ -5,7 +5,7 @@
 use std::fmt::Debug;
 
 #[cfg(port)]
-use crate::{against_port, port::PORTED};
+use crate::{against_port, tight_pair};
 use crate::{
     drawing::Drawing,
     file,
@@ -71,6 +71,7 @@ impl Examined {
             }
             compare_port(measure, answer, self, &reordered, &mut found);
         }
+        compare_tight_pair(&self.drawing, &reordered, &mut found);
         found.prefix = "file";
         compare_file(&self.drawing, &mut found);
         found.texts
@@ -178,7 +179,7 @@ fn compare_sister_calls(report: &Report, examined: &Examined, found: &mut Differ
     );
 }
 
-/// The port answers as the reference does.
+/// The port answers as the reference does, by every call of the measure.
 #[cfg(port)]
 fn compare_port(
     measure: Measure,
@@ -187,8 +188,14 @@ fn compare_port(
     reordered: &Drawing,
     found: &mut Differences,
 ) {
-    if let (true, Ok(answer)) = (PORTED.contains(&measure), answer) {
-        let differences = against_port::differences(measure, &examined.drawing, reordered, answer);
+    let Ok(answer) = answer else {
+        return;
+    };
+    let (drawing, fed) = (&examined.drawing, &examined.fed);
+    let differences = against_port::differences(measure, drawing, reordered, fed, answer);
+    found.texts.extend(differences);
+    if measure == Measure::Congestion {
+        let differences = against_port::ratio_differences(drawing, answer);
         found.texts.extend(differences);
     }
 }
@@ -202,6 +209,17 @@ fn compare_port(
     _found: &mut Differences,
 ) {
 }
+
+/// The port's tight pair is one that a search over all pairs finds.
+#[cfg(port)]
+fn compare_tight_pair(drawing: &Drawing, reordered: &Drawing, found: &mut Differences) {
+    found
+        .texts
+        .extend(tight_pair::differences(drawing, reordered));
+}
+
+#[cfg(not(port))]
+fn compare_tight_pair(_drawing: &Drawing, _reordered: &Drawing, _found: &mut Differences) {}
 
 fn expected_run(report: &Report, limit: u64) -> Run {
     match settle(report.clone(), limit) {

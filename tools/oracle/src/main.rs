@@ -27,6 +27,8 @@ mod sheet;
 mod shrink;
 #[cfg(test)]
 mod tests;
+#[cfg(port)]
+mod tight_pair;
 mod values;
 
 use std::{

@@ -107,7 +107,7 @@ fn for_each_route_and_node(drawing: &Drawing, mut pair: impl FnMut(f64, bool)) {
 }
 
 /// The larger of the gaps along x and along y.
-fn distance(segment: &Segment, node: &Node) -> f64 {
+pub fn distance(segment: &Segment, node: &Node) -> f64 {
     let along = (segment.start, segment.end);
     let across = (segment.fixed, segment.fixed);
     let (in_x, in_y) = if segment.orientation == HORIZONTAL {

@@ -59,10 +59,142 @@ extern "C" {
         scratch_length: usize,
         out: *mut [u64; 5],
     ) -> u32;
+
+    fn density_profile(
+        net: *const u32,
+        net_length: usize,
+        orientation: *const u8,
+        orientation_length: usize,
+        fixed: *const f64,
+        fixed_length: usize,
+        start: *const f64,
+        start_length: usize,
+        end: *const f64,
+        end_length: usize,
+        cutoff: f64,
+        allowance: usize,
+        scratch: *mut u64,
+        scratch_length: usize,
+        out: *mut [u64; 7],
+    ) -> u32;
+
+    fn congestion_profile(
+        net: *const u32,
+        net_length: usize,
+        orientation: *const u8,
+        orientation_length: usize,
+        fixed: *const f64,
+        fixed_length: usize,
+        start: *const f64,
+        start_length: usize,
+        end: *const f64,
+        end_length: usize,
+        cutoff: f64,
+        allowance: usize,
+        scratch: *mut u64,
+        scratch_length: usize,
+        out: *mut [u64; 7],
+    ) -> u32;
+
+    fn congestion(
+        net: *const u32,
+        net_length: usize,
+        orientation: *const u8,
+        orientation_length: usize,
+        fixed: *const f64,
+        fixed_length: usize,
+        start: *const f64,
+        start_length: usize,
+        end: *const f64,
+        end_length: usize,
+        cutoff: f64,
+        scratch: *mut u64,
+        scratch_length: usize,
+        out: *mut [u64; 7],
+    ) -> u32;
+
+    fn ratio(total: f64, congested: f64) -> f64;
+
+    fn tight_pair(
+        net: *const u32,
+        net_length: usize,
+        orientation: *const u8,
+        orientation_length: usize,
+        fixed: *const f64,
+        fixed_length: usize,
+        start: *const f64,
+        start_length: usize,
+        end: *const f64,
+        end_length: usize,
+        id: *const u32,
+        id_length: usize,
+        x: *const f64,
+        x_length: usize,
+        y: *const f64,
+        y_length: usize,
+        width: *const f64,
+        width_length: usize,
+        height: *const f64,
+        height_length: usize,
+        exempt_net: *const u32,
+        exempt_net_length: usize,
+        exempt_node: *const u32,
+        exempt_node_length: usize,
+        out: *mut [u64; 3],
+    ) -> u32;
 }
 
-/// The measures that the port has so far.
-pub const PORTED: [Measure; 2] = [Measure::Clearance, Measure::Separation];
+/// The five calls that document 01 counts as measures. Congestion's three have
+/// lists, settings, checks and visit count in common.
+#[derive(Clone, Copy, Debug, PartialEq, Eq)]
+pub enum Call {
+    Clearance,
+    Separation,
+    DensityProfile,
+    CongestionProfile,
+    /// The one call that is given no allowance.
+    Congestion,
+}
+
+pub const CALLS: [Call; 5] = [
+    Call::Clearance,
+    Call::Separation,
+    Call::DensityProfile,
+    Call::CongestionProfile,
+    Call::Congestion,
+];
+
+impl Call {
+    pub fn name(self) -> &'static str {
+        match self {
+            Self::Clearance => "clearance",
+            Self::Separation => "separation",
+            Self::DensityProfile => "density profile",
+            Self::CongestionProfile => "congestion profile",
+            Self::Congestion => "congestion",
+        }
+    }
+
+    /// The measure of the sheet that the call belongs to.
+    pub fn measure(self) -> Measure {
+        match self {
+            Self::Clearance => Measure::Clearance,
+            Self::Separation => Measure::Separation,
+            Self::DensityProfile | Self::CongestionProfile | Self::Congestion => {
+                Measure::Congestion
+            }
+        }
+    }
+
+    /// The call that gives a measure's figures on the sheet.
+    pub fn of_sheet(measure: Measure) -> Self {
+        match measure {
+            Measure::Clearance => Self::Clearance,
+            Measure::Separation => Self::Separation,
+            Measure::Congestion => Self::DensityProfile,
+        }
+    }
+}
 
 /// The least words of scratch that a call must be lent for the drawing.
 pub fn scratch_words(measure: Measure, drawing: &Drawing) -> usize {
@@ -74,7 +206,8 @@ pub fn scratch_words(measure: Measure, drawing: &Drawing) -> usize {
     scratch_need(drawing.segments.len(), nodes)
 }
 
-/// A drawing as the port takes it: its lists by columns, and its threshold.
+/// A drawing as the port takes it: its lists by columns, its threshold and its
+/// cutoff.
 #[derive(Clone)]
 pub struct Columns {
     pub net: Vec<u32>,
@@ -90,6 +223,7 @@ pub struct Columns {
     pub exempt_net: Vec<u32>,
     pub exempt_node: Vec<u32>,
     pub threshold: f64,
+    pub cutoff: f64,
 }
 
 impl Columns {
@@ -111,6 +245,7 @@ impl Columns {
             exempt_net: column(exemptions, |exemption| exemption.net),
             exempt_node: column(exemptions, |exemption| exemption.node),
             threshold: drawing.threshold,
+            cutoff: drawing.cutoff,
         }
     }
 
@@ -186,87 +321,89 @@ fn report_words(report: &Report) -> Vec<u64> {
     words
 }
 
-/// One call of the port.
-pub fn run(measure: Measure, columns: &Columns, allowance: u64, scratch: &mut [u64]) -> Told {
-    let allowance = usize::try_from(allowance).unwrap_or(usize::MAX);
-    match measure {
-        Measure::Clearance => run_clearance(columns, allowance, scratch),
-        Measure::Separation => run_separation(columns, allowance, scratch),
-        Measure::Congestion => unreachable!("congestion is not ported yet"),
-    }
-}
-
 /// What stands in a report's words before a call: no zero, so that a word
 /// which is not written shows.
 const UNWRITTEN: u64 = 0x5555_5555_5555_5555;
 
-// Both calls are sound because the pointers and lengths are those of slices
-// that live through the call, and because only the scratch and the words, which
-// no other slice overlaps, are written.
+/// Calls the port with the segments' columns, then the other columns named,
+/// each as a pointer and a length, then the rest, and last the words that the
+/// call is to write.
+///
+/// A call is sound because the pointers and lengths are those of slices that
+/// live through it, and because only the scratch and the words, which no other
+/// slice overlaps, are written.
+macro_rules! told {
+    ($call:ident, $columns:ident, [$($column:ident),*], [$($rest:expr),*], $words:literal) => {{
+        let mut words = [UNWRITTEN; $words];
+        let status = unsafe {
+            $call(
+                $columns.net.as_ptr(),
+                $columns.net.len(),
+                $columns.orientation.as_ptr(),
+                $columns.orientation.len(),
+                $columns.fixed.as_ptr(),
+                $columns.fixed.len(),
+                $columns.start.as_ptr(),
+                $columns.start.len(),
+                $columns.end.as_ptr(),
+                $columns.end.len(),
+                $($columns.$column.as_ptr(), $columns.$column.len(),)*
+                $($rest,)*
+                &mut words,
+            )
+        };
+        Told {
+            status,
+            words: words.to_vec(),
+        }
+    }};
+}
 
-fn run_clearance(columns: &Columns, allowance: usize, scratch: &mut [u64]) -> Told {
-    let mut words = [UNWRITTEN; 4];
-    let status = unsafe {
-        clearance(
-            columns.net.as_ptr(),
-            columns.net.len(),
-            columns.orientation.as_ptr(),
-            columns.orientation.len(),
-            columns.fixed.as_ptr(),
-            columns.fixed.len(),
-            columns.start.as_ptr(),
-            columns.start.len(),
-            columns.end.as_ptr(),
-            columns.end.len(),
-            columns.id.as_ptr(),
-            columns.id.len(),
-            columns.x.as_ptr(),
-            columns.x.len(),
-            columns.y.as_ptr(),
-            columns.y.len(),
-            columns.width.as_ptr(),
-            columns.width.len(),
-            columns.height.as_ptr(),
-            columns.height.len(),
-            columns.exempt_net.as_ptr(),
-            columns.exempt_net.len(),
-            columns.exempt_node.as_ptr(),
-            columns.exempt_node.len(),
-            columns.threshold,
-            allowance,
-            scratch.as_mut_ptr(),
-            scratch.len(),
-            &mut words,
-        )
-    };
-    Told {
-        status,
-        words: words.to_vec(),
+/// One call of the port. The call that is given no allowance leaves it aside.
+pub fn run(call: Call, columns: &Columns, allowance: u64, scratch: &mut [u64]) -> Told {
+    let allowance = usize::try_from(allowance).unwrap_or(usize::MAX);
+    let (threshold, cutoff) = (columns.threshold, columns.cutoff);
+    let (start, length) = (scratch.as_mut_ptr(), scratch.len());
+    match call {
+        Call::Clearance => told!(
+            clearance,
+            columns,
+            [id, x, y, width, height, exempt_net, exempt_node],
+            [threshold, allowance, start, length],
+            4
+        ),
+        Call::Separation => told!(separation, columns, [], [allowance, start, length], 5),
+        Call::DensityProfile => told!(
+            density_profile,
+            columns,
+            [],
+            [cutoff, allowance, start, length],
+            7
+        ),
+        Call::CongestionProfile => told!(
+            congestion_profile,
+            columns,
+            [],
+            [cutoff, allowance, start, length],
+            7
+        ),
+        Call::Congestion => told!(congestion, columns, [], [cutoff, start, length], 7),
     }
 }
 
-fn run_separation(columns: &Columns, allowance: usize, scratch: &mut [u64]) -> Told {
-    let mut words = [UNWRITTEN; 5];
-    let status = unsafe {
-        separation(
-            columns.net.as_ptr(),
-            columns.net.len(),
-            columns.orientation.as_ptr(),
-            columns.orientation.len(),
-            columns.fixed.as_ptr(),
-            columns.fixed.len(),
-            columns.start.as_ptr(),
-            columns.start.len(),
-            columns.end.as_ptr(),
-            columns.end.len(),
-            allowance,
-            scratch.as_mut_ptr(),
-            scratch.len(),
-            &mut words,
-        )
-    };
-    Told {
-        status,
-        words: words.to_vec(),
-    }
+/// The tight pair: its words say whether there is one, and then the positions
+/// of its segment and of its node.
+pub fn run_tight_pair(columns: &Columns) -> Told {
+    told!(
+        tight_pair,
+        columns,
+        [id, x, y, width, height, exempt_net, exempt_node],
+        [],
+        3
+    )
+}
+
+/// The ratio of two lengths. It takes and gives numbers only.
+pub fn run_ratio(total: f64, congested: f64) -> f64 {
+    unsafe { ratio(total, congested) }
 }

@@ -238,6 +238,17 @@ fn unexpected(measure: Measure, though: &str, run: &Run) -> Fault {
     ))
 }
 
+/// The reference's ratio of two lengths, whatever they are.
+#[cfg(port)]
+pub fn ratio(total_length: f64, congested_length: f64) -> f64 {
+    let lengths = ParallelCongestion {
+        total_length,
+        congested_length,
+        ..ParallelCongestion::default()
+    };
+    lengths.ratio()
+}
+
 fn route(segment: &Segment) -> EdgeNodeSegment {
     EdgeNodeSegment {
         net: segment.net,

@@ -113,6 +113,21 @@ pub fn before_work(measure: Measure, drawing: &Drawing, lent: &Lent) -> Option<R
     }
 }
 
+/// The first refusal of the tight pair: checks 2, 3 and 5 of clearance. It is
+/// given no threshold, allowance or scratch.
+#[cfg(any(port, test))]
+pub fn before_tight_pair(drawing: &Drawing, lent: &Lent) -> Option<Refusal> {
+    if columns_differ(lent) {
+        Some(Refusal::Columns)
+    } else if too_many(lent) {
+        Some(Refusal::TooMany)
+    } else if !entries_fit(drawing) {
+        Some(Refusal::Unfit)
+    } else {
+        None
+    }
+}
+
 /// Refusal 7: the answer under an allowance, from the report without one.
 pub fn settle(report: Report, allowance: u64) -> Answer {
     if report.visits > allowance {
@@ -145,16 +160,21 @@ pub fn scratch_need(segments: usize, nodes: usize) -> usize {
 }
 
 fn fit(measure: Measure, drawing: &Drawing) -> bool {
-    drawing.segments.iter().all(segment_fits)
-        && match measure {
-            Measure::Clearance => {
-                drawing.nodes.iter().all(node_fits)
-                    && drawing.threshold.is_finite()
-                    && drawing.threshold >= 0.0
-            }
-            Measure::Separation => true,
-            Measure::Congestion => drawing.cutoff.is_finite(),
+    match measure {
+        Measure::Clearance => {
+            entries_fit(drawing) && drawing.threshold.is_finite() && drawing.threshold >= 0.0
         }
+        Measure::Separation => segments_fit(drawing),
+        Measure::Congestion => segments_fit(drawing) && drawing.cutoff.is_finite(),
+    }
+}
+
+fn segments_fit(drawing: &Drawing) -> bool {
+    drawing.segments.iter().all(segment_fits)
+}
+
+fn entries_fit(drawing: &Drawing) -> bool {
+    segments_fit(drawing) && drawing.nodes.iter().all(node_fits)
 }
 
 fn segment_fits(segment: &Segment) -> bool {

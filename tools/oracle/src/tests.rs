@@ -4,7 +4,7 @@
 use crate::{
     drawing::drawing_d,
     file,
-    refusals::{before_work, Lent, Refusal},
+    refusals::{before_tight_pair, before_work, Lent, Refusal},
     report::{Measure, MEASURES},
     sample::sample,
 };
@@ -91,6 +91,22 @@ fn scratch_that_suffices_to_the_word_is_accepted() {
 }
 
 #[test]
+fn the_tight_pair_checks_columns_lengths_and_entries() {
+    let mut drawing = drawing_d();
+    let mut lent = Lent::enough_for(&drawing);
+    lent.scratch_words = 0;
+    drawing.threshold = f64::NAN;
+    drawing.cutoff = f64::NAN;
+    assert_eq!(before_tight_pair(&drawing, &lent), None);
+    drawing.nodes[0].width = 0.0;
+    assert_eq!(before_tight_pair(&drawing, &lent), Some(Refusal::Unfit));
+    lent.node_columns = [4_097; 5];
+    assert_eq!(before_tight_pair(&drawing, &lent), Some(Refusal::TooMany));
+    lent.exemption_columns[1] = 0;
+    assert_eq!(before_tight_pair(&drawing, &lent), Some(Refusal::Columns));
+}
+
+#[test]
 fn one_seed_gives_one_sample() {
     let first = sample(3, 80).expect("a sample");
     let second = sample(3, 80).expect("a sample");
@@ -117,5 +133,92 @@ fn the_grid_ends_where_document_01_says() {
     }
     for unfit in [f64::NAN, f64::INFINITY, f64::NEG_INFINITY] {
         assert_eq!(refusal_of_cutoff(unfit), Some(Refusal::Unfit), "{unfit}");
+    }
+}
+
+/// What document 01 says of D, in the words of `crates/exports`, without the
+/// reference between.
+#[cfg(port)]
+mod port {
+    use crate::{
+        drawing::{drawing_d, Drawing},
+        port::{run, run_ratio, run_tight_pair, Call, Columns, Told},
+    };
+
+    fn told(call: Call, drawing: &Drawing, allowance: u64) -> Told {
+        run(call, &Columns::of(drawing), allowance, &mut [1; 160])
+    }
+
+    #[test]
+    fn drawing_d_is_measured_as_its_sheet_says() {
+        let [one, four, five] = [1.0_f64, 4.0, 5.0].map(f64::to_bits);
+        let [ten, twenty] = [10.0_f64, 20.0].map(f64::to_bits);
+        let reports = [
+            (Call::Clearance, vec![1, one, 1, 2]),
+            (Call::Separation, vec![1, four, 1, four, 16]),
+            (Call::DensityProfile, vec![twenty, ten, five, 1, 1, four, 4]),
+            (Call::CongestionProfile, vec![twenty, ten, 0, 0, 1, four, 4]),
+            (Call::Congestion, vec![twenty, ten, five, 1, 1, four, 4]),
+        ];
+        for (call, words) in reports {
+            let report = Told { status: 0, words };
+            assert_eq!(told(call, &drawing_d(), 1_000), report, "{call:?}");
+        }
+    }
+
+    #[test]
+    fn congestion_has_no_allowance_to_spend() {
+        for (call, status) in [
+            (Call::DensityProfile, 7),
+            (Call::CongestionProfile, 7),
+            (Call::Congestion, 0),
+        ] {
+            assert_eq!(told(call, &drawing_d(), 3).status, status, "{call:?}");
+        }
+    }
+
+    #[test]
+    fn the_tight_pair_of_d_is_the_pair_that_is_not_exempt() {
+        let mut drawing = drawing_d();
+        drawing.segments.swap(0, 1);
+        let pair = run_tight_pair(&Columns::of(&drawing));
+        let words = vec![1, 1, 0];
+        assert_eq!(pair, Told { status: 0, words });
+        drawing.exemptions[0].net = 1;
+        let pair = run_tight_pair(&Columns::of(&drawing));
+        let words = vec![1, 0, 0];
+        assert_eq!(pair, Told { status: 0, words });
+        drawing.segments.truncate(1);
+        drawing.exemptions[0].net = 2;
+        let pair = run_tight_pair(&Columns::of(&drawing));
+        let words = vec![0; 3];
+        assert_eq!(pair, Told { status: 0, words });
+    }
+
+    #[test]
+    fn the_ratio_is_clamped_and_keeps_a_nan() {
+        let ratios = [
+            (20.0, 10.0, 0.5),
+            (3.0, 1.0, 1.0 / 3.0),
+            (1.0, 2.0, 1.0),
+            (1.0, -1.0, 0.0),
+            (1.0, -0.0, -0.0),
+            (0.0, 1.0, 0.0),
+            (-0.0, f64::NAN, 0.0),
+            (-1.0, -1.0, 0.0),
+            (f64::NAN, 1.0, 0.0),
+            (f64::INFINITY, 1.0, 0.0),
+        ];
+        for (total, congested, expected) in ratios {
+            let ratio: f64 = run_ratio(total, congested);
+            let expected: f64 = expected;
+            assert_eq!(
+                ratio.to_bits(),
+                expected.to_bits(),
+                "{congested} over {total}"
+            );
+        }
+        assert!(run_ratio(1.0, f64::NAN).is_nan());
+        assert!(run_ratio(f64::INFINITY, f64::INFINITY).is_nan());
     }
 }

@@ -1,0 +1,37 @@
+-- `exports::congestion_call::density_profile` meets its contract: the call's own, with its answer told in numbers. Assumes nothing.
+use mathlib.Core.Path.{ap, _∙_}
+use Rattle.congestion.specs.Answer.{resultOf}
+use Rattle.exports.specs.Told.{congestionWords}
+use borrow.Author.Needs.{needs}
+use Rattle.exports.proofs.congestion_call.density_profile.Statement.{statement}
+use Rattle.exports.proofs.congestion_call.density_profile.Tie as tie
+
+measure-parallel-density-profile-bounded-requires :
+    tie.Need-measure-parallel-density-profile-bounded-requires
+measure-parallel-density-profile-bounded-requires c κs = search needs
+
+congestion-words-requires : tie.Need-congestion-words-requires
+congestion-words-requires c κs = search needs
+
+congestion-status-requires : tie.Need-congestion-status-requires
+congestion-status-requires c κs = search needs
+
+same-length : tie.Need-same-length
+same-length c = search needs
+
+returns : tie.Need-returns
+returns c =
+    let measured = c .before .before .before .before .measure-parallel-density-profile-bounded in (
+      c .congestion-status .ensures ∙ ap (λ a. resultOf a .0) (measured .ensures .0),
+      (c .before .congestion-words .ensures ∙ ap (λ a. congestionWords (resultOf a .1)) (measured .ensures .0), measured .ensures .1),
+    )
+
+pub density-profile-spec : {M : Type 1} → statement M
+density-profile-spec =
+    tie.close
+    (tie.spec
+    measure-parallel-density-profile-bounded-requires
+    congestion-words-requires
+    congestion-status-requires
+    same-length
+    returns)

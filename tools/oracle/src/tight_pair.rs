@@ -1,0 +1,102 @@
+//! The port's tight pair against a search over all pairs. Which of several
+//! pairs at the least distance it answers is left to it.
+
+use crate::{
+    against_port::{change_length, turn_some, ALL_COLUMNS},
+    drawing::Drawing,
+    pairs,
+    port::{run_tight_pair, Columns, Told},
+    random::Random,
+    refusals::{before_tight_pair, Refusal},
+    report::{Figure, Measure},
+};
+
+/// Returns what differs. `reordered` holds the same entries in another order.
+pub fn differences(drawing: &Drawing, reordered: &Drawing) -> Vec<String> {
+    let mut found = Vec::new();
+    let columns = Columns::of(drawing);
+    match before_tight_pair(drawing, &columns.lent(0)) {
+        Some(refusal) => compare_refusal("lists as given", &columns, refusal, &mut found),
+        None => {
+            let least = least_clearance(drawing);
+            compare("lists as given", drawing, least, &mut found);
+            compare("lists in another order", reordered, least, &mut found);
+        }
+    }
+    compare_refusals(drawing, &columns, &mut found);
+    found
+}
+
+fn least_clearance(drawing: &Drawing) -> Option<f64> {
+    match pairs::figures(Measure::Clearance, drawing)[..] {
+        [Figure::Gap(least), ..] => least,
+        _ => unreachable!("clearance's first figure is the least gap"),
+    }
+}
+
+/// The answer is absent where there is no least distance, and otherwise a pair
+/// that is not exempt and at that distance.
+fn compare(about: &str, drawing: &Drawing, least: Option<f64>, found: &mut Vec<String>) {
+    let told = run_tight_pair(&Columns::of(drawing));
+    let is_well = match (told.status, &told.words[..], least) {
+        (0, [0, 0, 0], None) => true,
+        (0, [1, segment, node], Some(least)) => is_tight(drawing, *segment, *node, least),
+        _ => false,
+    };
+    if !is_well {
+        found.push(format!(
+            "the port's tight pair, {about}: {told:?}, where the least distance is {least:?}"
+        ));
+    }
+}
+
+fn is_tight(drawing: &Drawing, segment: u64, node: u64, least: f64) -> bool {
+    let segment = drawing.segments.get(segment as usize);
+    let node = drawing.nodes.get(node as usize);
+    let (Some(segment), Some(node)) = (segment, node) else {
+        return false;
+    };
+    let exempt = drawing
+        .exemptions
+        .iter()
+        .any(|exemption| exemption.net == segment.net && exemption.node == node.id);
+    !exempt && pairs::distance(segment, node).to_bits() == least.to_bits()
+}
+
+/// A column one longer or shorter, an orientation above 1, and both.
+fn compare_refusals(drawing: &Drawing, columns: &Columns, found: &mut Vec<String>) {
+    for place in 0..ALL_COLUMNS {
+        for longer in [false, true] {
+            let mut uneven = columns.clone();
+            change_length(&mut uneven, place, longer);
+            let about = format!(
+                "column {place} {}",
+                if longer { "longer" } else { "shorter" }
+            );
+            if let Some(refusal) = before_tight_pair(drawing, &uneven.lent(0)) {
+                compare_refusal(&about, &uneven, refusal, found);
+            }
+        }
+    }
+    let mut random = Random::new(drawing.entries() as u64);
+    let mut turned = drawing.clone();
+    turn_some(&mut turned, &mut random);
+    let mut columns = Columns::of(&turned);
+    if let Some(refusal) = before_tight_pair(&turned, &columns.lent(0)) {
+        compare_refusal("an orientation", &columns, refusal, found);
+    }
+    change_length(&mut columns, random.below(ALL_COLUMNS), true);
+    if let Some(refusal) = before_tight_pair(&turned, &columns.lent(0)) {
+        compare_refusal("both", &columns, refusal, found);
+    }
+}
+
+fn compare_refusal(about: &str, columns: &Columns, refusal: Refusal, found: &mut Vec<String>) {
+    let told = run_tight_pair(columns);
+    let expected = Told::expected(&Err(refusal), told.words.len());
+    if told != expected {
+        found.push(format!(
+            "the port's tight pair, {about}: {told:?}, where {expected:?} is expected"
+        ));
+    }
+}
