@@ -12,6 +12,7 @@ use Rattle.congestion.proofs.Examples as OfCongestion
 use Rattle.file.specs.Reading.{Read, got, Drawing, then, bigEndian, number, float as readFloat, version, orientation, segment, node, exemption, entries, counted, settings, parts, ended, read}
 use Rattle.file.specs.Text.{glyph, hexadecimal, leading, decimal, float, gap, fields}
 use Rattle.file.specs.Sheet.{clearanceWord, separationWord, congestionWord, clearanceLine, separationLine, congestionLine, segmentsApart, nodesApart, exemptionsApart, scratchWords, measured, lines, printed, sheet}
+use Rattle.file.proofs.Printing.{three}
 
 -- version; two segments; one node; one exemption; threshold 2, cutoff 6; allowances 1,000: a line for each count and for each entry
 abbrev bytes : List ℕ
@@ -63,9 +64,6 @@ separation-of-d = ap separationLine (OfSeparation.marked .d-sheet)
 pub congestion-of-d : congestionLine (densityAnswer (segmentsApart (drawing .segments)) (drawing .settings .cutoff) 1000 7744) ≡ congestionText
 unfolding segmentsApart congestionLine congestionWord fields gap float decimal leading hexadecimal glyph ofBits toBits
 congestion-of-d = ap congestionLine OfCongestion.D-sheet
-
-three : {a b c d e f : List ℕ} → a ≡ d → b ≡ e → c ≡ f → a ++ (b ++ c) ≡ d ++ (e ++ f)
-three {a} {b} {c} {d} {e} {f} p q r = ap (λ l. l ++ (b ++ c)) p ∙ ap (λ l. d ++ (l ++ c)) q ∙ ap (λ l. d ++ (e ++ l)) r
 
 -- document 01's "Output", byte by byte
 pub sheet-of-d : sheet bytes ≡ clearanceText ++ (separationText ++ congestionText)

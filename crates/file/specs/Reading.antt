@@ -1,5 +1,5 @@
 -- What a byte string says as a drawing file: the drawing, or the refusal of the first fault in byte order. "Big-endian: version byte 1; a 32-bit count of segments, each net (32 bits), orientation byte, then fixed, start, end as 64-bit float bits; a 32-bit count of nodes, each id (32 bits), x, y, width, height; a 32-bit count of exemptions, each net and node; threshold, cutoff; three 64-bit allowances (clearance, separation, congestion)."
-use mathlib.Core.Bool.{cond, not}
+use mathlib.Core.Bool.{cond}
 use mathlib.Core.List.{List, [], _∷_}
 use Prim.Native.Nat.{ℕ, zero, suc, _+_, _*_}
 use lib.Dec.{leb, ltb, eqb}

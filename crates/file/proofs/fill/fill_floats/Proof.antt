@@ -1,0 +1,72 @@
+-- `file::fill::fill_floats` meets its contract: after i turns the first i floats of the column are written. Assumes nothing.
+use mathlib.Core.Path.{ap, _∙_}
+use lib.Ieee.{binary64, ofBits}
+use Rattle.file.specs.Reading.{bigEndian}
+use lib.ListN.{take}
+use Rattle.file.proofs.ColumnsFilled.{Filled, filled-none, filled-next, filled-all}
+use borrow.Author.Needs.{needs}
+use native.Mathlib.Omega.{arith}
+use Prim.Native.Nat.{_-_}
+use Rattle.file.proofs.fill.fill_floats.Statement.{statement}
+use Rattle.file.proofs.fill.fill_floats.Tie as tie
+
+abbrev Inv-loop : tie.InvT-loop
+Inv-loop out₀ n bytes at width i₀ out i = Filled (λ l. ofBits binary64 (bigEndian 0 (take 8 l))) out₀ n bytes at width out i
+
+abbrev μ-loop : tie.MeasureT-loop
+μ-loop out₀ n bytes at width i₀ out i = n - i
+
+loop-holds : tie.Need-loop-holds Inv-loop μ-loop
+loop-holds c = filled-none (λ l. ofBits binary64 (bigEndian 0 (take 8 l))) _ _ _ _ _ (c .before .before .pre .0)
+
+mul-be64 : tie.Need-mul-be64 Inv-loop μ-loop
+mul-be64 c = omega (arith, c .before .before .before .before .pre .1 _ (c .loop-test .taken))
+
+add-be64 : tie.Need-add-be64 Inv-loop μ-loop
+add-be64 c = omega (arith, c .before .before .before .before .pre .1 _ (c .loop-test .taken))
+
+be64-requires : tie.Need-be64-requires Inv-loop μ-loop
+be64-requires c κs = c .before .before .before .before .pre .1 _ (c .loop-test .taken)
+
+float-of-bits-requires : tie.Need-float-of-bits-requires Inv-loop μ-loop
+float-of-bits-requires c κs = search needs
+
+mul-out : tie.Need-mul-out Inv-loop μ-loop
+mul-out c = search needs
+
+slice-write-out : tie.Need-slice-write-out Inv-loop μ-loop
+slice-write-out c = omega (arith, c .before .before .before .loop .inv .written .len, c .before .before .before .before .before .before .pre .0)
+
+add-i : tie.Need-add-i Inv-loop μ-loop
+add-i c = search needs
+
+loop-less : tie.Need-loop-less Inv-loop μ-loop
+loop-less c = search needs
+
+loop-again : tie.Need-loop-again Inv-loop μ-loop
+loop-again c = filled-next (λ l. ofBits binary64 (bigEndian 0 (take 8 l))) _ _ _ _ _ _ _ _ (c .before .before .before .loop .inv) (c .before .before .loop-test .taken) (c .float-of-bits .ensures ∙ ap (ofBits binary64) (c .before .be64 .ensures))
+
+same-length : tie.Need-same-length Inv-loop μ-loop
+same-length c = c .before .loop .inv .written .len
+
+returns : tie.Need-returns Inv-loop μ-loop
+returns c = filled-all (λ l. ofBits binary64 (bigEndian 0 (take 8 l))) _ _ _ _ _ _ _ (c .before .loop .inv) (c .loop-test .left)
+
+pub fill-floats-spec : {M : Type 1} → statement M
+fill-floats-spec =
+    tie.close
+    (tie.spec
+    Inv-loop
+    μ-loop
+    loop-holds
+    mul-be64
+    add-be64
+    be64-requires
+    float-of-bits-requires
+    mul-out
+    slice-write-out
+    add-i
+    loop-less
+    loop-again
+    same-length
+    returns)

@@ -1,0 +1,25 @@
+// What reading a drawing file answers.
+use drawing::Refusal;
+
+// The counts of the three lists, and the settings.
+pub struct Header {
+    pub segments: usize,
+    pub nodes: usize,
+    pub exemptions: usize,
+    pub threshold: f64,
+    pub cutoff: f64,
+    pub clearance: usize,
+    pub separation: usize,
+    pub congestion: usize,
+}
+
+pub enum Reading {
+    Read(Header),
+    Refused(Refusal),
+}
+
+// What is found of one list: how many entries it has, all of them there, or why the file is refused.
+pub enum Counted {
+    Entries(usize),
+    Refused(Refusal),
+}
