@@ -9,14 +9,18 @@ use std::{env, path::Path, process::ExitCode};
 
 const DEFAULT: &str = "../shared/docs/src/crates/schemweave/src/readability.rs";
 
-/// Where `rt staticlib exports` writes, from the project's root.
+/// Where `rt staticlib exports` and `rt check sheet` write, from the project's
+/// root.
 const PORT: &str = "target/staticlib";
+const PROGRAM: &str = "target/bin/sheet";
 
 fn main() -> ExitCode {
     println!("cargo:rerun-if-env-changed=READABILITY_RS");
     let package = env::var("CARGO_MANIFEST_DIR").expect("cargo names the package's folder");
     let root = Path::new(&package).join("../..");
     link_port(&root.join(PORT));
+    let program = root.join(PROGRAM);
+    println!("cargo:rustc-env=SHEET_PROGRAM={}", program.display());
     let named = env::var("READABILITY_RS").unwrap_or_else(|_| DEFAULT.to_string());
     let place = root.join(named);
     match place.canonicalize() {

@@ -16,3 +16,4 @@ pub mod ColumnsRead
 pub mod TextPuts
 pub mod DigitTexts
 pub mod Printing
+pub mod SheetFits

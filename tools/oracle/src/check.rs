@@ -1,6 +1,8 @@
 //! The comparison of many drawings: D with the marked cases first, then
 //! generated ones.
 
+#[cfg(port)]
+use crate::port_sheet::Sheets;
 use crate::{
     drawing::{drawing_d, Drawing, SHEET_OF_D},
     examine::{smallest_difference, Examined},
@@ -21,10 +23,14 @@ pub fn check(count: u64, seed: u64) -> u64 {
             let examined = Examined::new(drawing_d());
             let mut differences = examined.differences();
             differences.extend(differences_on_document_01());
+            let mut random = Random::for_drawing(seed, index);
+            differences.extend(tally.sheets.compare_d(&mut random));
             tally.add(index, "drawing D", examined, differences);
         } else {
-            let (name, examined) = generated(seed, index);
-            let differences = examined.differences();
+            let mut random = Random::for_drawing(seed, index);
+            let (name, examined) = generated(&mut random);
+            let mut differences = examined.differences();
+            differences.extend(tally.sheets.compare_drawing(&examined.drawing, &mut random));
             tally.add(index, name, examined, differences);
         }
     }
@@ -32,13 +38,12 @@ pub fn check(count: u64, seed: u64) -> u64 {
     tally.differ
 }
 
-/// Drawing number `index` of a run, with the name of its kind.
-fn generated(seed: u64, index: u64) -> (&'static str, Examined) {
-    let mut random = Random::for_drawing(seed, index);
-    let (kind, name) = generate::any_kind(&mut random);
-    let most = generate::any_length(&mut random);
-    let mut examined = Examined::new(generate::drawing(kind, &most, &mut random));
-    examined.aim(generate::aims(&mut random));
+/// A generated drawing, with the name of its kind.
+fn generated(random: &mut Random) -> (&'static str, Examined) {
+    let (kind, name) = generate::any_kind(random);
+    let most = generate::any_length(random);
+    let mut examined = Examined::new(generate::drawing(kind, &most, random));
+    examined.aim(generate::aims(random));
     (name, examined)
 }
 
@@ -70,6 +75,26 @@ fn both_sheets(drawing: &Drawing) -> [String; 2] {
         .map(|sheet| sheet.unwrap_or_else(|fault| fault.to_string()))
 }
 
+/// Without the port there are no sheets to compare.
+#[cfg(not(port))]
+#[derive(Default)]
+struct Sheets;
+
+#[cfg(not(port))]
+impl Sheets {
+    fn compare_d(&mut self, _random: &mut Random) -> Vec<String> {
+        Vec::new()
+    }
+
+    fn compare_drawing(&mut self, _drawing: &Drawing, _random: &mut Random) -> Vec<String> {
+        Vec::new()
+    }
+
+    fn summary(&self) -> String {
+        "none".to_string()
+    }
+}
+
 /// What a run met.
 #[derive(Default)]
 struct Tally {
@@ -78,6 +103,7 @@ struct Tally {
     kinds: Vec<(&'static str, u64)>,
     reports: [u64; 3],
     refused: [u64; 3],
+    sheets: Sheets,
     first_to_differ: Vec<String>,
     smallest: Option<(Drawing, Vec<String>)>,
 }
@@ -136,6 +162,7 @@ impl Tally {
         }
         if cfg!(port) {
             println!("the port: the five calls, the ratio and the tight pair on every drawing");
+            println!("the sheet: {}", self.sheets.summary());
         } else {
             println!("the port: not linked");
         }

@@ -39,8 +39,12 @@ pub fn listing(drawing: &Drawing) -> String {
     ));
     let file = file::write(drawing);
     if file.len() <= 1_000 {
-        let digits: String = file.iter().map(|byte| format!("{byte:02x}")).collect();
-        lines.push(format!("file {digits}"));
+        lines.push(format!("file {}", hexadecimal(&file)));
     }
     lines.join("\n")
+}
+
+/// Two digits for each byte.
+pub fn hexadecimal(bytes: &[u8]) -> String {
+    bytes.iter().map(|byte| format!("{byte:02x}")).collect()
 }

@@ -8,6 +8,7 @@ mod against_port;
 mod bench;
 mod check;
 mod drawing;
+mod drawings;
 mod examine;
 mod file;
 mod generate;
@@ -17,6 +18,8 @@ mod marked;
 mod pairs;
 #[cfg(port)]
 mod port;
+#[cfg(port)]
+mod port_sheet;
 mod random;
 mod reference;
 mod refusals;
@@ -32,8 +35,9 @@ mod tight_pair;
 mod values;
 
 use std::{
-    env,
+    env, fs,
     io::{self, Read, Write},
+    path::Path,
     process::ExitCode,
 };
 
@@ -68,6 +72,7 @@ usage: oracle COMMAND
   shrink             the smallest part of the drawing on standard input that
                      still differs, if it does
   drawing-d          the file of drawing D
+  drawings DIR       the files of D and of the marked cases, written to DIR
   sample SEED COUNT  a sample of COUNT files with the Rust's sheets
   bench RUNS         the times of the Rust and of the port, best of RUNS";
 
@@ -97,6 +102,7 @@ fn run(words: &[&str]) -> Result<ExitCode, String> {
         }
         ["shrink"] => shrink_input(),
         ["drawing-d"] => output(&file::write(&drawing::drawing_d())),
+        ["drawings", folder] => write_drawings(Path::new(folder)),
         ["sample", seed, count] => {
             let count = usize::try_from(number(count)?).map_err(|error| error.to_string())?;
             let sample = sample::sample(number(seed)?, count).map_err(|fault| fault.to_string())?;
@@ -111,6 +117,14 @@ fn sheet_of_input(
     of_drawing: fn(&Drawing) -> Result<String, reference::Fault>,
 ) -> Result<String, String> {
     sheet::of_file(&input()?, of_drawing).map_err(|fault| fault.to_string())
+}
+
+fn write_drawings(folder: &Path) -> Result<ExitCode, String> {
+    for (name, bytes) in drawings::files() {
+        let place = folder.join(name);
+        fs::write(&place, bytes).map_err(|error| format!("{}: {error}", place.display()))?;
+    }
+    Ok(ExitCode::SUCCESS)
 }
 
 fn shrink_input() -> Result<ExitCode, String> {

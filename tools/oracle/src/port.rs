@@ -1,4 +1,5 @@
-//! The port: the proved library, called by columns.
+//! The port: the proved library, called by columns, or with the bytes of a
+//! drawing file.
 //!
 //! The declarations below stand for `crates/exports`; nothing holds the two
 //! against each other but this comparison. A slice passes as a pointer and a
@@ -142,7 +143,12 @@ extern "C" {
         exempt_node_length: usize,
         out: *mut [u64; 3],
     ) -> u32;
+
+    fn sheet(bytes: *const u8, bytes_length: usize, text: *mut [u8; SHEET_ROOM]) -> usize;
 }
+
+/// The bytes that a sheet's text is lent; the longest text is shorter.
+pub const SHEET_ROOM: usize = 256;
 
 /// The five calls that document 01 counts as measures. Congestion's three have
 /// lists, settings, checks and visit count in common.
@@ -406,4 +412,10 @@ pub fn run_tight_pair(columns: &Columns) -> Told {
 /// The ratio of two lengths. It takes and gives numbers only.
 pub fn run_ratio(total: f64, congested: f64) -> f64 {
     unsafe { ratio(total, congested) }
+}
+
+/// The sheet of a drawing file: writes its text to the front of the buffer and
+/// returns the text's length.
+pub fn run_sheet(bytes: &[u8], text: &mut [u8; SHEET_ROOM]) -> usize {
+    unsafe { sheet(bytes.as_ptr(), bytes.len(), text) }
 }

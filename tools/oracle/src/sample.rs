@@ -127,7 +127,8 @@ fn with_byte(file: &[u8], place: usize, byte: u8) -> Vec<u8> {
     changed
 }
 
-fn with_count(file: &[u8], place: usize, count: u32) -> Vec<u8> {
+/// The file with another count at a place.
+pub fn with_count(file: &[u8], place: usize, count: u32) -> Vec<u8> {
     let mut changed = file.to_vec();
     changed[place..place + 4].copy_from_slice(&count.to_be_bytes());
     changed

@@ -1,9 +1,12 @@
-//! Tests of what `check` does not reach: the bytes of a file, the grid, and the
-//! refusals that no file can bring about.
+//! Tests of what `check` does not reach: the bytes of a file, the stored files,
+//! the grid, and the refusals that no file can bring about.
+
+use std::{fs, path::Path};
 
 use crate::{
-    drawing::drawing_d,
-    file,
+    drawing::{drawing_d, SHEET_OF_D},
+    drawings, file,
+    listing::hexadecimal,
     refusals::{before_tight_pair, before_work, Lent, Refusal},
     report::{Measure, MEASURES},
     sample::sample,
@@ -39,11 +42,7 @@ fn file_of_drawing_d_is_written_byte_for_byte() {
         "00000000000003e8",
         "00000000000003e8",
     );
-    let written: String = file::write(&drawing_d())
-        .iter()
-        .map(|byte| format!("{byte:02x}"))
-        .collect();
-    assert_eq!(written, digits);
+    assert_eq!(hexadecimal(&file::write(&drawing_d())), digits);
 }
 
 #[test]
@@ -106,6 +105,19 @@ fn the_tight_pair_checks_columns_lengths_and_entries() {
     assert_eq!(before_tight_pair(&drawing, &lent), Some(Refusal::Columns));
 }
 
+/// Files of the project that the oracle's commands write.
+#[test]
+fn stored_files_are_what_the_commands_write() {
+    let root = Path::new(env!("CARGO_MANIFEST_DIR")).join("../..");
+    let stored = |place: &str| fs::read(root.join(place)).expect(place);
+    for (name, bytes) in drawings::files() {
+        assert!(stored(&format!("drawings/{name}")) == bytes, "{name}");
+    }
+    assert!(stored("crates/sheet/stdin") == file::write(&drawing_d()));
+    assert!(stored("crates/sheet/stdout") == SHEET_OF_D.as_bytes());
+    assert!(stored("crates/replay/stdin") == sample(1, 400).expect("a sample"));
+}
+
 #[test]
 fn one_seed_gives_one_sample() {
     let first = sample(3, 80).expect("a sample");
@@ -141,8 +153,10 @@ fn the_grid_ends_where_document_01_says() {
 #[cfg(port)]
 mod port {
     use crate::{
-        drawing::{drawing_d, Drawing},
+        drawing::{drawing_d, Drawing, SHEET_OF_D},
+        file,
         port::{run, run_ratio, run_tight_pair, Call, Columns, Told},
+        port_sheet::{difference_in_process, difference_through_the_program},
     };
 
     fn told(call: Call, drawing: &Drawing, allowance: u64) -> Told {
@@ -220,5 +234,19 @@ mod port {
         }
         assert!(run_ratio(1.0, f64::NAN).is_nan());
         assert!(run_ratio(f64::INFINITY, f64::INFINITY).is_nan());
+    }
+
+    /// A comparison that passed whatever the port writes would show nothing.
+    #[test]
+    fn a_sheet_that_is_not_the_expected_one_is_seen() {
+        let bytes = file::write(&drawing_d());
+        let one_visit_more = SHEET_OF_D.replace(" 16\n", " 17\n");
+        let no_last_line_feed = &SHEET_OF_D[..SHEET_OF_D.len() - 1];
+        for difference in [difference_in_process, difference_through_the_program] {
+            assert_eq!(difference(&bytes, SHEET_OF_D), None);
+            for wrong in ["", "file refused 1\n", &one_visit_more, no_last_line_feed] {
+                assert!(difference(&bytes, wrong).is_some(), "{wrong}");
+            }
+        }
     }
 }

@@ -1,0 +1,108 @@
+//! Lists of records unpacked into columns, and the scratch that goes with them.
+
+use crate::{
+    clearance::{EdgeNodeSegment, NetNodeRelation, NodeGeometry},
+    columns::{scratch_words, NodeColumns, RelationColumns, SegmentColumns, MOST_ENTRIES},
+    separation::ParallelSegment,
+};
+
+/// Enough scratch for a call. A list longer than a call takes is refused before
+/// the scratch is looked at, so it needs no more than the longest.
+pub fn scratch_for(segments: usize, nodes: usize) -> Vec<u64> {
+    vec![0; scratch_words(segments.min(MOST_ENTRIES), nodes.min(MOST_ENTRIES))]
+}
+
+pub struct Segments {
+    net: Vec<u32>,
+    orientation: Vec<u8>,
+    fixed: Vec<f64>,
+    start: Vec<f64>,
+    end: Vec<f64>,
+}
+
+impl Segments {
+    pub fn of_routes(list: &[EdgeNodeSegment]) -> Self {
+        Self {
+            net: column(list, |segment| segment.net),
+            orientation: column(list, |segment| u8::from(segment.horizontal)),
+            fixed: column(list, |segment| segment.fixed),
+            start: column(list, |segment| segment.start),
+            end: column(list, |segment| segment.end),
+        }
+    }
+
+    pub fn of_wires(list: &[ParallelSegment]) -> Self {
+        Self {
+            net: column(list, |segment| segment.net),
+            orientation: column(list, |segment| u8::from(segment.horizontal)),
+            fixed: column(list, |segment| segment.fixed),
+            start: column(list, |segment| segment.start),
+            end: column(list, |segment| segment.end),
+        }
+    }
+
+    pub fn columns(&self) -> SegmentColumns<'_> {
+        SegmentColumns {
+            net: &self.net,
+            orientation: &self.orientation,
+            fixed: &self.fixed,
+            start: &self.start,
+            end: &self.end,
+        }
+    }
+}
+
+pub struct Nodes {
+    id: Vec<u32>,
+    x: Vec<f64>,
+    y: Vec<f64>,
+    width: Vec<f64>,
+    height: Vec<f64>,
+}
+
+impl Nodes {
+    pub fn of(list: &[NodeGeometry]) -> Self {
+        Self {
+            id: column(list, |node| node.id),
+            x: column(list, |node| node.x),
+            y: column(list, |node| node.y),
+            width: column(list, |node| node.width),
+            height: column(list, |node| node.height),
+        }
+    }
+
+    pub fn columns(&self) -> NodeColumns<'_> {
+        NodeColumns {
+            id: &self.id,
+            x: &self.x,
+            y: &self.y,
+            width: &self.width,
+            height: &self.height,
+        }
+    }
+}
+
+pub struct Relations {
+    net: Vec<u32>,
+    node: Vec<u32>,
+}
+
+impl Relations {
+    pub fn of(list: &[NetNodeRelation]) -> Self {
+        Self {
+            net: column(list, |relation| relation.net),
+            node: column(list, |relation| relation.node),
+        }
+    }
+
+    pub fn columns(&self) -> RelationColumns<'_> {
+        RelationColumns {
+            net: &self.net,
+            node: &self.node,
+        }
+    }
+}
+
+fn column<E, T>(list: &[E], field: impl Fn(&E) -> T) -> Vec<T> {
+    list.iter().map(field).collect()
+}

@@ -1,0 +1,24 @@
+//! The bindings: what document 01 says of drawing D, of the marked cases and of
+//! the refusals; random drawings against a computation over all pairs; and the
+//! original module against this crate.
+
+mod against_pairs;
+mod drawing;
+mod generate;
+mod marked;
+mod pairs;
+mod refusals;
+mod sheet;
+mod swap;
+
+/// What the original module expects to find at its crate's root.
+#[cfg(original)]
+use readability::{NetId, NodeGeometry, NodeId};
+
+/// The original, taken from where it lies and never copied. It has calls that
+/// nobody here makes.
+#[cfg(original)]
+#[allow(dead_code)]
+mod original {
+    include!(env!("READABILITY_PATH"));
+}

@@ -1,0 +1,291 @@
+/*
+ * Readability figures of a routed schematic: the functions that crates/exports
+ * exports, for C99 and C++. Link target/staticlib/libexports.a (x86-64; no
+ * other library is needed but C's own).
+ *
+ * COLUMNS. A list passes by columns of equal length, each as a pointer and its
+ * number of entries.
+ *
+ *   segments    net, orientation (1 horizontal, 0 vertical), fixed, start, end.
+ *               A horizontal segment lies at y = fixed from x = start to
+ *               x = end, a vertical one at x = fixed from y = start to y = end.
+ *   nodes       id, x, y, width, height. Ids need not differ.
+ *   exemptions  net and node id: segments of that net and nodes of that id are
+ *               not measured against each other.
+ *
+ * Columns are only read. The order of a list decides nothing in a report.
+ *
+ * POINTERS. Behind each pointer lie as many entries as its length says, or as
+ * the array has. It is aligned for its type and not null, for a length of 0 too,
+ * where nothing is read or written through it. What a call writes (scratch, words
+ * of the report, text) overlaps nothing else that it is given; columns may
+ * overlap each other. No other condition is laid on the caller: a call ends for
+ * all lengths and all numbers, and answers unfit ones by a status.
+ *
+ * STATUS. A call returns 0 where it is accepted, or else the number of the
+ * first refusal that applies, in the order of the numbers:
+ *
+ *   0  accepted
+ *   2  the columns of one list differ in length
+ *   3  a list holds more than 4,096 entries
+ *   4  the scratch is shorter than readability_scratch_words gives
+ *   5  unfit: an orientation above 1, a number that is NaN or infinite (the
+ *      threshold and the cutoff included), start not below end, width or
+ *      height not above 0, x + width or y + height that is not finite, or a
+ *      threshold below 0 (-0 passes)
+ *   6  congestion only: a coordinate or the cutoff is off the grid, that is, no
+ *      whole multiple of 1/64 or above 1,048,576 in absolute value
+ *   7  the drawing's visit count is above the allowance
+ *
+ * (1 belongs to the drawing file, see sheet.) A call checks only what it is
+ * given.
+ *
+ * REPORT. Every call writes all its words, on a refusal zeros. A float passes
+ * as its 64 bits, which readability_float turns back. A gap takes two words: 1
+ * and its bits where it is present, 0 and 0 where it is absent. A present gap
+ * is never NaN or -0; it may be +infinity in clearance and separation.
+ *
+ *   function                              words, in order
+ *   clearance                             least clearance (2), violations,
+ *                                         visits
+ *   separation                            least gap (2), least nonzero gap (2),
+ *                                         visits
+ *   density_profile, congestion_profile,  total length, congested length, pair
+ *   congestion                            overlap, peak, least nonzero close
+ *                                         gap (2), visits
+ *   tight_pair                            1 or 0, segment position, node
+ *                                         position
+ *
+ * ratio returns a float and sheet a length; neither has a status or words.
+ *
+ * ALLOWANCE. A drawing has one visit count for each measure, which depends
+ * neither on the allowance nor on the scratch nor on the order of the lists. An
+ * allowance that reaches it is accepted and changes nothing in the report;
+ * SIZE_MAX always reaches.
+ *
+ * SCRATCH. Whatever it holds before decides nothing. Afterwards all of it, words
+ * past the need included, is zero where the status is 0 or 7, and untouched
+ * where it is 2 to 6.
+ *
+ * Nothing is kept from one call to the next, so that threads may call at the
+ * same time, each with a scratch of its own. A measure takes less than 64 KiB
+ * of stack, sheet less than 256 KiB.
+ */
+#ifndef READABILITY_H
+#define READABILITY_H
+
+#include <stddef.h>
+#include <stdint.h>
+#include <string.h>
+
+#ifdef __cplusplus
+extern "C" {
+#endif
+
+/* The most entries that a list may hold. */
+#define READABILITY_MOST_ENTRIES 4096
+
+/* What a call returns. */
+enum readability_status {
+    READABILITY_ACCEPTED = 0,
+    READABILITY_COLUMNS_DIFFER = 2,
+    READABILITY_TOO_MANY_ENTRIES = 3,
+    READABILITY_SHORT_SCRATCH = 4,
+    READABILITY_INVALID_INPUT = 5,
+    READABILITY_OFF_GRID = 6,
+    READABILITY_WORK_LIMIT_EXCEEDED = 7
+};
+
+/* The words of clearance. */
+enum readability_clearance_word {
+    READABILITY_CLEARANCE_PRESENT,
+    READABILITY_CLEARANCE_LEAST,
+    READABILITY_CLEARANCE_VIOLATIONS,
+    READABILITY_CLEARANCE_VISITS,
+    READABILITY_CLEARANCE_WORDS
+};
+
+/* The words of separation. */
+enum readability_separation_word {
+    READABILITY_SEPARATION_PRESENT,
+    READABILITY_SEPARATION_LEAST,
+    READABILITY_SEPARATION_NONZERO_PRESENT,
+    READABILITY_SEPARATION_LEAST_NONZERO,
+    READABILITY_SEPARATION_VISITS,
+    READABILITY_SEPARATION_WORDS
+};
+
+/* The words of density_profile, congestion_profile and congestion. */
+enum readability_congestion_word {
+    READABILITY_CONGESTION_TOTAL,
+    READABILITY_CONGESTION_CONGESTED,
+    READABILITY_CONGESTION_PAIR_OVERLAP,
+    READABILITY_CONGESTION_PEAK,
+    READABILITY_CONGESTION_NONZERO_PRESENT,
+    READABILITY_CONGESTION_LEAST_NONZERO,
+    READABILITY_CONGESTION_VISITS,
+    READABILITY_CONGESTION_WORDS
+};
+
+/* The words of tight_pair. */
+enum readability_tight_pair_word {
+    READABILITY_TIGHT_PAIR_PRESENT,
+    READABILITY_TIGHT_PAIR_SEGMENT,
+    READABILITY_TIGHT_PAIR_NODE,
+    READABILITY_TIGHT_PAIR_WORDS
+};
+
+/*
+ * The words of scratch that a call needs; more may be lent. The calls that take
+ * no nodes count 0 of them. For an array of fixed size there is the macro.
+ */
+#define READABILITY_SCRATCH_WORDS(segments, nodes) (32 * ((segments) + (nodes)) + 64)
+
+static inline size_t readability_scratch_words(size_t segments, size_t nodes)
+{
+    return READABILITY_SCRATCH_WORDS(segments, nodes);
+}
+
+/* The float whose bits a word holds. */
+static inline double readability_float(uint64_t bits)
+{
+    double value;
+    memcpy(&value, &bits, sizeof value);
+    return value;
+}
+
+/*
+ * Least distance of a segment and a node over all pairs that are not exempt,
+ * and how many of them are nearer than the threshold. Distance is the larger of
+ * the gaps along x and y. The visit count is at most segments times nodes.
+ */
+uint32_t clearance(
+    const uint32_t *net, size_t net_length,
+    const uint8_t *orientation, size_t orientation_length,
+    const double *fixed, size_t fixed_length,
+    const double *start, size_t start_length,
+    const double *end, size_t end_length,
+    const uint32_t *id, size_t id_length,
+    const double *x, size_t x_length,
+    const double *y, size_t y_length,
+    const double *width, size_t width_length,
+    const double *height, size_t height_length,
+    const uint32_t *exempt_net, size_t exempt_net_length,
+    const uint32_t *exempt_node, size_t exempt_node_length,
+    double threshold,
+    size_t allowance,
+    uint64_t *scratch, size_t scratch_length,
+    uint64_t out[READABILITY_CLEARANCE_WORDS]);
+
+/*
+ * Least gap, and least nonzero gap, over the pairs of segments with the same
+ * orientation, different nets and an overlap of positive length.
+ */
+uint32_t separation(
+    const uint32_t *net, size_t net_length,
+    const uint8_t *orientation, size_t orientation_length,
+    const double *fixed, size_t fixed_length,
+    const double *start, size_t start_length,
+    const double *end, size_t end_length,
+    size_t allowance,
+    uint64_t *scratch, size_t scratch_length,
+    uint64_t out[READABILITY_SEPARATION_WORDS]);
+
+/*
+ * Two segments are close where they have the same orientation, an overlap of
+ * positive length and a gap below the cutoff. Over segments of different nets:
+ * the length of each segment's stretches beside a close one, summed; the
+ * overlap of close pairs, summed; the most segments close to one segment on one
+ * stretch; the least nonzero gap of a close pair. All is exact. A cutoff of 0
+ * or less gives the total length, zeros and an absent gap. The visit count is
+ * the number of segments in orientations that hold two or more, plus twice the
+ * close pairs, equal nets included; 0 where the cutoff is 0 or less.
+ */
+uint32_t density_profile(
+    const uint32_t *net, size_t net_length,
+    const uint8_t *orientation, size_t orientation_length,
+    const double *fixed, size_t fixed_length,
+    const double *start, size_t start_length,
+    const double *end, size_t end_length,
+    double cutoff,
+    size_t allowance,
+    uint64_t *scratch, size_t scratch_length,
+    uint64_t out[READABILITY_CONGESTION_WORDS]);
+
+/* The same with pair overlap and peak zero. */
+uint32_t congestion_profile(
+    const uint32_t *net, size_t net_length,
+    const uint8_t *orientation, size_t orientation_length,
+    const double *fixed, size_t fixed_length,
+    const double *start, size_t start_length,
+    const double *end, size_t end_length,
+    double cutoff,
+    size_t allowance,
+    uint64_t *scratch, size_t scratch_length,
+    uint64_t out[READABILITY_CONGESTION_WORDS]);
+
+/* What density_profile gives, with no allowance, so that 7 never comes. */
+uint32_t congestion(
+    const uint32_t *net, size_t net_length,
+    const uint8_t *orientation, size_t orientation_length,
+    const double *fixed, size_t fixed_length,
+    const double *start, size_t start_length,
+    const double *end, size_t end_length,
+    double cutoff,
+    uint64_t *scratch, size_t scratch_length,
+    uint64_t out[READABILITY_CONGESTION_WORDS]);
+
+/*
+ * Congested over total length, rounded once and held to 0 and 1; 0 unless the
+ * total is above 0, so for a NaN as well. NaN where the quotient is one: a
+ * total above 0 with a congested length of NaN, or both infinite.
+ */
+double ratio(double total, double congested);
+
+/*
+ * A pair that is not exempt and whose distance is the least clearance, by the
+ * positions of its segment and node from 0 on; where several are that near, any
+ * of them. The first word is 0 where every pair is exempt or there is none.
+ * Only 2, 3 and 5 are checked; there is no threshold, allowance or scratch.
+ */
+uint32_t tight_pair(
+    const uint32_t *net, size_t net_length,
+    const uint8_t *orientation, size_t orientation_length,
+    const double *fixed, size_t fixed_length,
+    const double *start, size_t start_length,
+    const double *end, size_t end_length,
+    const uint32_t *id, size_t id_length,
+    const double *x, size_t x_length,
+    const double *y, size_t y_length,
+    const double *width, size_t width_length,
+    const double *height, size_t height_length,
+    const uint32_t *exempt_net, size_t exempt_net_length,
+    const uint32_t *exempt_node, size_t exempt_node_length,
+    uint64_t out[READABILITY_TIGHT_PAIR_WORDS]);
+
+/* The bytes of the buffer for a sheet's text. */
+#define READABILITY_SHEET_BYTES 256
+
+/*
+ * The sheet of a drawing file: writes its text to the front of the buffer, with
+ * no zero byte behind it, and returns the text's length; the rest of the buffer
+ * is untouched. The text has three lines, each closed by a line feed, or the one
+ * line 'file refused' with the number 1 or 3.
+ *
+ * The file is big-endian: the byte 1; a 32-bit count of segments and for each
+ * net (32 bits), orientation (a byte), fixed, start, end; a 32-bit count of nodes
+ * and for each id (32 bits), x, y, width, height; a 32-bit count of exemptions
+ * and for each net and node (32 bits each); threshold, cutoff; the allowances of
+ * clearance, separation and congestion (64 bits each). Floats are their 64 bits.
+ * It holds at most 120 segments, 120 nodes and 240 exemptions (else 3); 1 is a
+ * wrong first byte, an orientation above 1, bytes missing or left over.
+ */
+size_t sheet(
+    const uint8_t *bytes, size_t bytes_length,
+    uint8_t text[READABILITY_SHEET_BYTES]);
+
+#ifdef __cplusplus
+}
+#endif
+
+#endif

@@ -1,0 +1,13 @@
+//! The drawing files of the folder `drawings`: D and the marked cases.
+
+use crate::{drawing::drawing_d, file, marked};
+
+/// Each file's name and bytes.
+pub fn files() -> Vec<(String, Vec<u8>)> {
+    let mut files = vec![("D.drawing".to_string(), file::write(&drawing_d()))];
+    for case in marked::cases() {
+        let name = format!("case-{}.drawing", case.name.replace(", ", "-"));
+        files.push((name, file::write(&case.drawing)));
+    }
+    files
+}
