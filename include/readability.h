@@ -37,15 +37,15 @@
  *      whole multiple of 1/64 or above 1,048,576 in absolute value
  *   7  the drawing's visit count is above the allowance
  *
- * (1 belongs to the drawing file, see sheet.) A call checks only what it is
- * given.
+ * (1 belongs to the drawing file, see readability_sheet.) A call checks only what
+ * it is given.
  *
  * REPORT. Every call writes all its words, on a refusal zeros. A float passes
  * as its 64 bits, which readability_float turns back. A gap takes two words: 1
  * and its bits where it is present, 0 and 0 where it is absent. A present gap
  * is never NaN or -0; it may be +infinity in clearance and separation.
  *
- *   function                              words, in order
+ *   function, less 'readability_'         words, in order
  *   clearance                             least clearance (2), violations,
  *                                         visits
  *   separation                            least gap (2), least nonzero gap (2),
@@ -56,7 +56,8 @@
  *   tight_pair                            1 or 0, segment position, node
  *                                         position
  *
- * ratio returns a float and sheet a length; neither has a status or words.
+ * readability_ratio returns a float and readability_sheet a length; neither has
+ * a status or words.
  *
  * ALLOWANCE. A drawing has one visit count for each measure, which depends
  * neither on the allowance nor on the scratch nor on the order of the lists. An
@@ -159,7 +160,7 @@ static inline double readability_float(uint64_t bits)
  * and how many of them are nearer than the threshold. Distance is the larger of
  * the gaps along x and y. The visit count is at most segments times nodes.
  */
-uint32_t clearance(
+uint32_t readability_clearance(
     const uint32_t *net, size_t net_length,
     const uint8_t *orientation, size_t orientation_length,
     const double *fixed, size_t fixed_length,
@@ -181,7 +182,7 @@ uint32_t clearance(
  * Least gap, and least nonzero gap, over the pairs of segments with the same
  * orientation, different nets and an overlap of positive length.
  */
-uint32_t separation(
+uint32_t readability_separation(
     const uint32_t *net, size_t net_length,
     const uint8_t *orientation, size_t orientation_length,
     const double *fixed, size_t fixed_length,
@@ -201,7 +202,7 @@ uint32_t separation(
  * the number of segments in orientations that hold two or more, plus twice the
  * close pairs, equal nets included; 0 where the cutoff is 0 or less.
  */
-uint32_t density_profile(
+uint32_t readability_density_profile(
     const uint32_t *net, size_t net_length,
     const uint8_t *orientation, size_t orientation_length,
     const double *fixed, size_t fixed_length,
@@ -213,7 +214,7 @@ uint32_t density_profile(
     uint64_t out[READABILITY_CONGESTION_WORDS]);
 
 /* The same with pair overlap and peak zero. */
-uint32_t congestion_profile(
+uint32_t readability_congestion_profile(
     const uint32_t *net, size_t net_length,
     const uint8_t *orientation, size_t orientation_length,
     const double *fixed, size_t fixed_length,
@@ -224,8 +225,8 @@ uint32_t congestion_profile(
     uint64_t *scratch, size_t scratch_length,
     uint64_t out[READABILITY_CONGESTION_WORDS]);
 
-/* What density_profile gives, with no allowance, so that 7 never comes. */
-uint32_t congestion(
+/* What readability_density_profile gives, with no allowance, so that 7 never comes. */
+uint32_t readability_congestion(
     const uint32_t *net, size_t net_length,
     const uint8_t *orientation, size_t orientation_length,
     const double *fixed, size_t fixed_length,
@@ -240,7 +241,7 @@ uint32_t congestion(
  * total is above 0, so for a NaN as well. NaN where the quotient is one: a
  * total above 0 with a congested length of NaN, or both infinite.
  */
-double ratio(double total, double congested);
+double readability_ratio(double total, double congested);
 
 /*
  * A pair that is not exempt and whose distance is the least clearance, by the
@@ -248,7 +249,7 @@ double ratio(double total, double congested);
  * of them. The first word is 0 where every pair is exempt or there is none.
  * Only 2, 3 and 5 are checked; there is no threshold, allowance or scratch.
  */
-uint32_t tight_pair(
+uint32_t readability_tight_pair(
     const uint32_t *net, size_t net_length,
     const uint8_t *orientation, size_t orientation_length,
     const double *fixed, size_t fixed_length,
@@ -280,7 +281,7 @@ uint32_t tight_pair(
  * It holds at most 120 segments, 120 nodes and 240 exemptions (else 3); 1 is a
  * wrong first byte, an orientation above 1, bytes missing or left over.
  */
-size_t sheet(
+size_t readability_sheet(
     const uint8_t *bytes, size_t bytes_length,
     uint8_t text[READABILITY_SHEET_BYTES]);
 

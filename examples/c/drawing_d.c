@@ -62,7 +62,7 @@ static void print_count(uint64_t count)
 static void print_clearance(void)
 {
     uint64_t out[READABILITY_CLEARANCE_WORDS];
-    uint32_t status = clearance(
+    uint32_t status = readability_clearance(
         net, SEGMENTS, orientation, SEGMENTS, fixed, SEGMENTS, start, SEGMENTS, end, SEGMENTS,
         id, NODES, x, NODES, y, NODES, width, NODES, height, NODES,
         exempt_net, EXEMPTIONS, exempt_node, EXEMPTIONS,
@@ -81,7 +81,7 @@ static void print_clearance(void)
 static void print_separation(void)
 {
     uint64_t out[READABILITY_SEPARATION_WORDS];
-    uint32_t status = separation(
+    uint32_t status = readability_separation(
         net, SEGMENTS, orientation, SEGMENTS, fixed, SEGMENTS, start, SEGMENTS, end, SEGMENTS,
         ALLOWANCE, scratch, SCRATCH_WORDS, out);
     if (status != READABILITY_ACCEPTED) {
@@ -98,7 +98,7 @@ static void print_separation(void)
 static void print_congestion(void)
 {
     uint64_t out[READABILITY_CONGESTION_WORDS];
-    uint32_t status = density_profile(
+    uint32_t status = readability_density_profile(
         net, SEGMENTS, orientation, SEGMENTS, fixed, SEGMENTS, start, SEGMENTS, end, SEGMENTS,
         cutoff, ALLOWANCE, scratch, SCRATCH_WORDS, out);
     if (status != READABILITY_ACCEPTED) {

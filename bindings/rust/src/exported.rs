@@ -15,7 +15,7 @@
 use crate::columns::{NodeColumns, RelationColumns, SegmentColumns};
 
 extern "C" {
-    #[link_name = "clearance"]
+    #[link_name = "readability_clearance"]
     fn exported_clearance(
         net: *const u32,
         net_length: usize,
@@ -48,7 +48,7 @@ extern "C" {
         out: *mut [u64; 4],
     ) -> u32;
 
-    #[link_name = "separation"]
+    #[link_name = "readability_separation"]
     fn exported_separation(
         net: *const u32,
         net_length: usize,
@@ -66,7 +66,7 @@ extern "C" {
         out: *mut [u64; 5],
     ) -> u32;
 
-    #[link_name = "density_profile"]
+    #[link_name = "readability_density_profile"]
     fn exported_density_profile(
         net: *const u32,
         net_length: usize,
@@ -85,7 +85,7 @@ extern "C" {
         out: *mut [u64; 7],
     ) -> u32;
 
-    #[link_name = "congestion_profile"]
+    #[link_name = "readability_congestion_profile"]
     fn exported_congestion_profile(
         net: *const u32,
         net_length: usize,
@@ -104,7 +104,7 @@ extern "C" {
         out: *mut [u64; 7],
     ) -> u32;
 
-    #[link_name = "congestion"]
+    #[link_name = "readability_congestion"]
     fn exported_congestion(
         net: *const u32,
         net_length: usize,
@@ -122,10 +122,10 @@ extern "C" {
         out: *mut [u64; 7],
     ) -> u32;
 
-    #[link_name = "ratio"]
+    #[link_name = "readability_ratio"]
     fn exported_ratio(total: f64, congested: f64) -> f64;
 
-    #[link_name = "tight_pair"]
+    #[link_name = "readability_tight_pair"]
     fn exported_tight_pair(
         net: *const u32,
         net_length: usize,
@@ -154,7 +154,7 @@ extern "C" {
         out: *mut [u64; 3],
     ) -> u32;
 
-    #[link_name = "sheet"]
+    #[link_name = "readability_sheet"]
     fn exported_sheet(bytes: *const u8, bytes_length: usize, text: *mut [u8; 256]) -> usize;
 }
 

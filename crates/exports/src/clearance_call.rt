@@ -39,7 +39,7 @@ fn clearance_words(told: ClearanceAnswer) -> [u64; 4]
 }
 
 #[no_mangle]
-pub extern "C" fn clearance(
+pub extern "C" fn readability_clearance(
     net: &[u32],
     orientation: &[u8],
     fixed: &[f64],

@@ -49,7 +49,7 @@ fn congestion_words(told: CongestionAnswer) -> [u64; 7]
 
 // The density profile: all figures, within an allowance.
 #[no_mangle]
-pub extern "C" fn density_profile(
+pub extern "C" fn readability_density_profile(
     net: &[u32],
     orientation: &[u8],
     fixed: &[f64],
@@ -80,7 +80,7 @@ pub extern "C" fn density_profile(
 
 // The congestion profile: the same with pair overlap and peak zero.
 #[no_mangle]
-pub extern "C" fn congestion_profile(
+pub extern "C" fn readability_congestion_profile(
     net: &[u32],
     orientation: &[u8],
     fixed: &[f64],
@@ -111,7 +111,7 @@ pub extern "C" fn congestion_profile(
 
 // All figures, without an allowance.
 #[no_mangle]
-pub extern "C" fn congestion(
+pub extern "C" fn readability_congestion(
     net: &[u32],
     orientation: &[u8],
     fixed: &[f64],
@@ -132,7 +132,7 @@ pub extern "C" fn congestion(
 
 // The ratio takes nothing from the two figures that are left at zero.
 #[no_mangle]
-pub extern "C" fn ratio(total: f64, congested: f64) -> f64
+pub extern "C" fn readability_ratio(total: f64, congested: f64) -> f64
     ensures { λ r. ⌜ r ≡ Ratio.ratio congested total ⌝ }
 {
     let lengths = ParallelCongestion {

@@ -41,7 +41,7 @@ fn separation_words(told: SeparationAnswer) -> [u64; 5]
 }
 
 #[no_mangle]
-pub extern "C" fn separation(
+pub extern "C" fn readability_separation(
     net: &[u32],
     orientation: &[u8],
     fixed: &[f64],

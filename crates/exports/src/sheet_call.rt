@@ -6,7 +6,7 @@ ghost use Rattle.file.specs.Sheet as Sheet;
 
 // The text's length. The text stands at the front of the buffer, and the bytes behind it are untouched.
 #[no_mangle]
-pub extern "C" fn sheet(bytes: &[u8], text: &mut [u8; 256]) -> usize
+pub extern "C" fn readability_sheet(bytes: &[u8], text: &mut [u8; 256]) -> usize
     ensures { λ r. ⌜ r ≡ length (Sheet.sheet (now (bytes .entry))) ⌝ }
     ensures { λ _. ⌜ now (text .exit) ≡ Sheet.sheet (now (bytes .entry)) ++ drop (length (Sheet.sheet (now (bytes .entry)))) (now (text .entry)) ⌝ }
 {

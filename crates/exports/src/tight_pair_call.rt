@@ -29,7 +29,7 @@ fn tight_pair_words(told: TightPair) -> [u64; 3]
 }
 
 #[no_mangle]
-pub extern "C" fn tight_pair(
+pub extern "C" fn readability_tight_pair(
     net: &[u32],
     orientation: &[u8],
     fixed: &[f64],

@@ -12,6 +12,7 @@ use crate::{
 };
 
 extern "C" {
+    #[link_name = "readability_clearance"]
     fn clearance(
         net: *const u32,
         net_length: usize,
@@ -44,6 +45,7 @@ extern "C" {
         out: *mut [u64; 4],
     ) -> u32;
 
+    #[link_name = "readability_separation"]
     fn separation(
         net: *const u32,
         net_length: usize,
@@ -61,6 +63,7 @@ extern "C" {
         out: *mut [u64; 5],
     ) -> u32;
 
+    #[link_name = "readability_density_profile"]
     fn density_profile(
         net: *const u32,
         net_length: usize,
@@ -79,6 +82,7 @@ extern "C" {
         out: *mut [u64; 7],
     ) -> u32;
 
+    #[link_name = "readability_congestion_profile"]
     fn congestion_profile(
         net: *const u32,
         net_length: usize,
@@ -97,6 +101,7 @@ extern "C" {
         out: *mut [u64; 7],
     ) -> u32;
 
+    #[link_name = "readability_congestion"]
     fn congestion(
         net: *const u32,
         net_length: usize,
@@ -114,8 +119,10 @@ extern "C" {
         out: *mut [u64; 7],
     ) -> u32;
 
+    #[link_name = "readability_ratio"]
     fn ratio(total: f64, congested: f64) -> f64;
 
+    #[link_name = "readability_tight_pair"]
     fn tight_pair(
         net: *const u32,
         net_length: usize,
@@ -144,6 +151,7 @@ extern "C" {
         out: *mut [u64; 3],
     ) -> u32;
 
+    #[link_name = "readability_sheet"]
     fn sheet(bytes: *const u8, bytes_length: usize, text: *mut [u8; SHEET_ROOM]) -> usize;
 }
 

@@ -1,14 +1,13 @@
--- `exports::congestion_call::congestion_profile` meets its contract: the call's own, with its answer told in numbers. Assumes nothing.
+-- `exports::congestion_call::readability_congestion` meets its contract: the call's own, with its answer told in numbers. Assumes nothing.
 use mathlib.Core.Path.{ap, _∙_}
 use Rattle.congestion.specs.Answer.{resultOf}
 use Rattle.exports.specs.Told.{congestionWords}
 use borrow.Author.Needs.{needs}
-use Rattle.exports.proofs.congestion_call.congestion_profile.Statement.{statement}
-use Rattle.exports.proofs.congestion_call.congestion_profile.Tie as tie
+use Rattle.exports.proofs.congestion_call.readability_congestion.Statement.{statement}
+use Rattle.exports.proofs.congestion_call.readability_congestion.Tie as tie
 
-measure-parallel-congestion-profile-bounded-requires :
-    tie.Need-measure-parallel-congestion-profile-bounded-requires
-measure-parallel-congestion-profile-bounded-requires c κs = search needs
+measure-parallel-congestion-requires : tie.Need-measure-parallel-congestion-requires
+measure-parallel-congestion-requires c κs = search needs
 
 congestion-words-requires : tie.Need-congestion-words-requires
 congestion-words-requires c κs = search needs
@@ -21,16 +20,16 @@ same-length c = search needs
 
 returns : tie.Need-returns
 returns c =
-    let measured = c .before .before .before .before .measure-parallel-congestion-profile-bounded in (
+    let measured = c .before .before .before .before .measure-parallel-congestion in (
       c .congestion-status .ensures ∙ ap (λ a. resultOf a .0) (measured .ensures .0),
       (c .before .congestion-words .ensures ∙ ap (λ a. congestionWords (resultOf a .1)) (measured .ensures .0), measured .ensures .1),
     )
 
-pub congestion-profile-spec : {M : Type 1} → statement M
-congestion-profile-spec =
+pub readability-congestion-spec : {M : Type 1} → statement M
+readability-congestion-spec =
     tie.close
     (tie.spec
-    measure-parallel-congestion-profile-bounded-requires
+    measure-parallel-congestion-requires
     congestion-words-requires
     congestion-status-requires
     same-length

@@ -1,14 +1,14 @@
--- `exports::congestion_call::density_profile` meets its contract: the call's own, with its answer told in numbers. Assumes nothing.
+-- `exports::congestion_call::readability_congestion_profile` meets its contract: the call's own, with its answer told in numbers. Assumes nothing.
 use mathlib.Core.Path.{ap, _∙_}
 use Rattle.congestion.specs.Answer.{resultOf}
 use Rattle.exports.specs.Told.{congestionWords}
 use borrow.Author.Needs.{needs}
-use Rattle.exports.proofs.congestion_call.density_profile.Statement.{statement}
-use Rattle.exports.proofs.congestion_call.density_profile.Tie as tie
+use Rattle.exports.proofs.congestion_call.readability_congestion_profile.Statement.{statement}
+use Rattle.exports.proofs.congestion_call.readability_congestion_profile.Tie as tie
 
-measure-parallel-density-profile-bounded-requires :
-    tie.Need-measure-parallel-density-profile-bounded-requires
-measure-parallel-density-profile-bounded-requires c κs = search needs
+measure-parallel-congestion-profile-bounded-requires :
+    tie.Need-measure-parallel-congestion-profile-bounded-requires
+measure-parallel-congestion-profile-bounded-requires c κs = search needs
 
 congestion-words-requires : tie.Need-congestion-words-requires
 congestion-words-requires c κs = search needs
@@ -21,16 +21,16 @@ same-length c = search needs
 
 returns : tie.Need-returns
 returns c =
-    let measured = c .before .before .before .before .measure-parallel-density-profile-bounded in (
+    let measured = c .before .before .before .before .measure-parallel-congestion-profile-bounded in (
       c .congestion-status .ensures ∙ ap (λ a. resultOf a .0) (measured .ensures .0),
       (c .before .congestion-words .ensures ∙ ap (λ a. congestionWords (resultOf a .1)) (measured .ensures .0), measured .ensures .1),
     )
 
-pub density-profile-spec : {M : Type 1} → statement M
-density-profile-spec =
+pub readability-congestion-profile-spec : {M : Type 1} → statement M
+readability-congestion-profile-spec =
     tie.close
     (tie.spec
-    measure-parallel-density-profile-bounded-requires
+    measure-parallel-congestion-profile-bounded-requires
     congestion-words-requires
     congestion-status-requires
     same-length

@@ -1,10 +1,10 @@
--- `exports::clearance_call::clearance` meets its contract: the call's own, with its answer told in numbers. Assumes nothing.
+-- `exports::clearance_call::readability_clearance` meets its contract: the call's own, with its answer told in numbers. Assumes nothing.
 use mathlib.Core.Path.{ap, _∙_}
 use Rattle.clearance.specs.Answer.{result}
 use Rattle.exports.specs.Told.{status, clearanceWords}
 use borrow.Author.Needs.{needs}
-use Rattle.exports.proofs.clearance_call.clearance.Statement.{statement}
-use Rattle.exports.proofs.clearance_call.clearance.Tie as tie
+use Rattle.exports.proofs.clearance_call.readability_clearance.Statement.{statement}
+use Rattle.exports.proofs.clearance_call.readability_clearance.Tie as tie
 
 measure-edge-node-clearance-bounded-requires :
     tie.Need-measure-edge-node-clearance-bounded-requires
@@ -26,8 +26,8 @@ returns c =
       (c .before .clearance-words .ensures ∙ ap (λ a. clearanceWords (result a)) (measured .ensures .0), measured .ensures .1),
     )
 
-pub clearance-spec : {M : Type 1} → statement M
-clearance-spec =
+pub readability-clearance-spec : {M : Type 1} → statement M
+readability-clearance-spec =
     tie.close
     (tie.spec
     measure-edge-node-clearance-bounded-requires

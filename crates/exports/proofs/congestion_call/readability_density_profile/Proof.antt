@@ -1,13 +1,14 @@
--- `exports::congestion_call::congestion` meets its contract: the call's own, with its answer told in numbers. Assumes nothing.
+-- `exports::congestion_call::readability_density_profile` meets its contract: the call's own, with its answer told in numbers. Assumes nothing.
 use mathlib.Core.Path.{ap, _∙_}
 use Rattle.congestion.specs.Answer.{resultOf}
 use Rattle.exports.specs.Told.{congestionWords}
 use borrow.Author.Needs.{needs}
-use Rattle.exports.proofs.congestion_call.congestion.Statement.{statement}
-use Rattle.exports.proofs.congestion_call.congestion.Tie as tie
+use Rattle.exports.proofs.congestion_call.readability_density_profile.Statement.{statement}
+use Rattle.exports.proofs.congestion_call.readability_density_profile.Tie as tie
 
-measure-parallel-congestion-requires : tie.Need-measure-parallel-congestion-requires
-measure-parallel-congestion-requires c κs = search needs
+measure-parallel-density-profile-bounded-requires :
+    tie.Need-measure-parallel-density-profile-bounded-requires
+measure-parallel-density-profile-bounded-requires c κs = search needs
 
 congestion-words-requires : tie.Need-congestion-words-requires
 congestion-words-requires c κs = search needs
@@ -20,16 +21,16 @@ same-length c = search needs
 
 returns : tie.Need-returns
 returns c =
-    let measured = c .before .before .before .before .measure-parallel-congestion in (
+    let measured = c .before .before .before .before .measure-parallel-density-profile-bounded in (
       c .congestion-status .ensures ∙ ap (λ a. resultOf a .0) (measured .ensures .0),
       (c .before .congestion-words .ensures ∙ ap (λ a. congestionWords (resultOf a .1)) (measured .ensures .0), measured .ensures .1),
     )
 
-pub congestion-spec : {M : Type 1} → statement M
-congestion-spec =
+pub readability-density-profile-spec : {M : Type 1} → statement M
+readability-density-profile-spec =
     tie.close
     (tie.spec
-    measure-parallel-congestion-requires
+    measure-parallel-density-profile-bounded-requires
     congestion-words-requires
     congestion-status-requires
     same-length

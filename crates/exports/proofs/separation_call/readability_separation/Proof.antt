@@ -1,10 +1,10 @@
--- `exports::separation_call::separation` meets its contract: the call's own, with its answer told in numbers. Assumes nothing.
+-- `exports::separation_call::readability_separation` meets its contract: the call's own, with its answer told in numbers. Assumes nothing.
 use mathlib.Core.Path.{ap, _∙_}
 use Rattle.separation.specs.Answer.{resultOf}
 use Rattle.exports.specs.Told.{separationWords}
 use borrow.Author.Needs.{needs}
-use Rattle.exports.proofs.separation_call.separation.Statement.{statement}
-use Rattle.exports.proofs.separation_call.separation.Tie as tie
+use Rattle.exports.proofs.separation_call.readability_separation.Statement.{statement}
+use Rattle.exports.proofs.separation_call.readability_separation.Tie as tie
 
 measure-parallel-separation-bounded-requires :
     tie.Need-measure-parallel-separation-bounded-requires
@@ -26,8 +26,8 @@ returns c =
       (c .before .separation-words .ensures ∙ ap (λ a. separationWords (resultOf a .1)) (measured .ensures .0), measured .ensures .1),
     )
 
-pub separation-spec : {M : Type 1} → statement M
-separation-spec =
+pub readability-separation-spec : {M : Type 1} → statement M
+readability-separation-spec =
     tie.close
     (tie.spec
     measure-parallel-separation-bounded-requires
