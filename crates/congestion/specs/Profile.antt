@@ -23,11 +23,11 @@ lengths t c o p = record { «total_length» = ofUnits t; «congested_length» = 
 abbrev pub gapped : ℕ → Wire → Wire → Bool
 gapped c s t = closeOther c s t && not (eqb (s .fixed) (t .fixed))
 
--- "the least nonzero gap of close different-net pairs", each gap one rounded subtraction
+-- "the least nonzero gap of close different-net pairs", each gap one rounded subtraction of the given coordinates; +0 and -0 are one number of 64ths, so a gap between them is none
 unfoldable pub leastNonzero : ℕ → List Segment → Gap
 leastNonzero c l = leastGap (chosen (λ p. gapped c (wireOf (p .0)) (wireOf (p .1))) (λ p. gapOf (p .0 .fixed) (p .1 .fixed)) (pairs l))
 
--- the figures of the report and the least gap, and what they cost: "The all-pairs report is the measure's figures above with its visit count"
+-- the figures of the report and the least gap, and what they cost, for a drawing on the grid: a float off it is no number of 64ths, and check 6 stands in front. "The all-pairs report is the measure's figures above with its visit count."
 unfoldable pub allPairs : Float → List Segment → Charged (ParallelCongestion × Gap)
 allPairs cutoff l =
     let c = cutoffOf cutoff in
