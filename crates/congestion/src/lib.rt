@@ -1,13 +1,13 @@
 // The length of wires that run beside a close wire of another net.
 // The definitions that the contracts cite are in specs/, the laws of these definitions in proofs/.
-pub mod along;
-pub mod counts;
+mod along;
+mod counts;
 pub mod measure;
-pub mod meet;
-pub mod ranges;
+mod meet;
+mod ranges;
 pub mod report;
-pub mod run;
-pub mod sweep;
+mod run;
+mod sweep;
 
 pub use measure::measure_parallel_congestion;
 pub use measure::measure_parallel_congestion_profile_bounded;

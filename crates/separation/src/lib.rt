@@ -1,14 +1,14 @@
 // The least separation of parallel wires of different nets.
-pub mod along;
-pub mod line_numbers;
+mod along;
+mod line_numbers;
 pub mod measure;
-pub mod nets;
+mod nets;
 pub mod report;
-pub mod run;
-pub mod slots;
-pub mod summary;
-pub mod sweep;
-pub mod tree;
+mod run;
+mod slots;
+mod summary;
+mod sweep;
+mod tree;
 
 pub use measure::measure_parallel_separation_bounded;
 pub use report::ParallelSeparation;
