@@ -3,7 +3,7 @@ use mathlib.Core.Path.{_≡_, sym, ap, _∙_, subst}
 use mathlib.Core.Logic.{inl, inr}
 use mathlib.Core.Bool.{true, false}
 use Prim.Native.Nat.{ℕ, suc, _+_, _-_, _*_, _/_, _%_, _^_, _≤_, _<_}
-use native.Mathlib.Nat.{add-div-right, add-mul-div-right, div-div-eq-div-mul, div-eq-of-lt, div-lt-iff-lt-mul, le-div-iff-mul-le, one-mul, pow-succ'}
+use native.Mathlib.Nat.{add-div-right, add-mul-div-right, div-div-eq-div-mul, div-eq-of-lt, div-lt-iff-lt-mul, le-div-iff-mul-le, mod-eq-of-lt, mod-eq-sub-mod, one-mul, pow-succ'}
 use native.Mathlib.Numerals.{add-one}
 use native.Mathlib.Omega.{arith}
 use borrow.Author.Tests.{eq-eqb, ne-eqb, eqb-true, eqb-false}
@@ -135,6 +135,13 @@ module _ (x t : ℕ) (least : 2 ^ t ≤ x) (most : x < 2 ^ (t + 1)) where
 
   pub top-below : (b : ℕ) → x < 2 ^ b → t < b
   top-below b h = elim (le-or-lt b t) [ inl l ↦ absurd (omega (arith, pow-mono l)) | inr l ↦ l ]
+
+  -- what is left below it
+  pub cut-top : x % 2 ^ t ≡ x - 2 ^ t
+  cut-top =
+      let twice : 2 ^ (t + 1) ≡ 2 * 2 ^ t = ap (λ (z : ℕ). 2 ^ z) (add-one t) ∙ pow-succ' 2 t in
+      let less : x - 2 ^ t < 2 ^ t = omega arith in
+      mod-eq-sub-mod {n = x} {m = 2 ^ t} least ∙ mod-eq-of-lt less
 
 pub top-place : (x : ℕ) → 0 < x → x < 2 ^ 64 → (2 ^ (63 - leadingZeros 64 x) ≤ x) × (x < 2 ^ ((63 - leadingZeros 64 x) + 1))
 top-place x p h =

@@ -3,4 +3,5 @@ pub mod Digits
 pub mod Sets
 pub mod Lasts
 pub mod Stores
+pub mod Rests
 pub mod Looks

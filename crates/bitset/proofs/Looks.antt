@@ -1,103 +1,93 @@
--- The code's search for the greatest member below `to`, word by word. Assumes nothing.
-use mathlib.Core.Path.{_≡_, sym, ap, _∙_, subst}
+-- The code's search for the greatest member, word by word from the rest down. Assumes nothing.
+use mathlib.Core.Path.{_≡_, sym, ap, _∙_}
 use mathlib.Core.Logic.{inl, inr}
 use mathlib.Core.List.{List}
 use Prim.Native.Nat.{ℕ, suc, _+_, _-_, _*_, _/_, _%_, _^_, _≤_, _<_, min}
-use native.Mathlib.Nat.{mod-lt, zero-mod}
 use native.Mathlib.Omega.{arith}
-use lib.ListN.{length, getD, List·getD-eq-default}
-use lib.Pow.{pow-pos, pow-mono}
+use lib.ListN.{length, getD}
 use Rattle.laws.proofs.Tests.{le-or-lt}
 use Rattle.bitset.specs.declared.Last.the-variants.{Found, Empty}
-use Rattle.bitset.specs.Members.{bitAt, member, lastBelow}
-use Rattle.bitset.proofs.Digits.{bit-cut, bit-high, bit-zero, shift-one, top-on, top-last, top-below}
-use Rattle.bitset.proofs.Sets.{member-beyond}
+use Rattle.bitset.specs.Members.{bitAt, member, restBelow, wordsWith, lastWith}
+use Rattle.bitset.proofs.Digits.{bit-zero, shift-one, top-on, top-last, top-below, cut-top}
 use Rattle.bitset.proofs.Lasts.{NoneIn, last-none, last-is}
+use Rattle.bitset.proofs.Rests.{by-word, with-length, with-word, with-rest}
 
--- a member by the word and the bit of its place
-by-word : (w : List ℕ) (at p : ℕ) → at * 64 ≤ p → p < at * 64 + 64 → member w p ≡ bitAt (getD w at 0) (p - at * 64)
-unfolding member
-by-word w at p l h =
-    let e : p / 64 ≡ at = omega arith in
-    let f : p % 64 ≡ p - at * 64 = omega arith in
-    rw (e, f)
+-- `bits` is word `at` of the words with the rest; the words above it have no members
+pub record Looking (w : List ℕ) (to rest at bits : ℕ) : Type 0 where
+  pub inside : at ≤ min (to / 64) (length w)
+  pub word : getD (wordsWith w to rest) at 0 ≡ bits
+  pub short : bits < 2 ^ 64
+  pub none : NoneIn (wordsWith w to rest) (at * 64 + 64) (64 * length (wordsWith w to rest))
 
--- the members from word `at` on and below `to` are the bits of `rest`
-pub record Looking (w : List ℕ) (to at rest : ℕ) : Type 0 where
-  pub low : at * 64 ≤ to
-  pub inside : at ≤ length w
-  pub cut : rest < 2 ^ (to - at * 64)
-  pub same : (p : ℕ) → at * 64 ≤ p → p < to → member w p ≡ bitAt rest (p - at * 64)
+pub looking-begins : (w : List ℕ) (to rest at : ℕ) → at ≡ min (to / 64) (length w) → rest < 2 ^ 64 → Looking w to rest at rest
+looking-begins w to rest at e h = record {
+  inside = omega arith;
+  word = with-rest w to rest at e;
+  short = h;
+  none = λ q l g. let n = with-length w to rest in absurd (omega arith);
+}
 
--- what `word_below` answers
-pub cut-beyond : (w : List ℕ) (at to : ℕ) → length w ≤ at → 0 ≡ getD w at 0 % 2 ^ (to % 64)
-cut-beyond w at to h = sym (ap (λ (x : ℕ). x % 2 ^ (to % 64)) (List·getD-eq-default w 0 {n = at} h) ∙ zero-mod (2 ^ (to % 64)))
+module _ {w : List ℕ} {to rest at bits : ℕ} (s : Looking w to rest at bits) where
+  abbrev words : List ℕ
+  words = wordsWith w to rest
 
-pub cut-word : (x to : ℕ) → x % (1 * 2 ^ (to % 64) % 2 ^ 64) ≡ x % 2 ^ (to % 64)
-cut-word x to = ap (λ (y : ℕ). x % y) (shift-one 64 (to % 64) (omega arith))
-
-pub cut-some : (to : ℕ) → 0 < 1 * 2 ^ (to % 64) % 2 ^ 64
-cut-some to = rw (shift-one 64 (to % 64) (omega arith)) (pow-pos (to % 64))
-
--- the word of `to`, or the words' end, without the bits from `to` on
-pub looking-begins : (w : List ℕ) (to at rest : ℕ) → at ≡ min (to / 64) (length w) → rest ≡ getD w at 0 % 2 ^ (to % 64) → Looking w to at rest
-looking-begins w to at rest e f = elim (le-or-lt (length w) (to / 64)) [
-  | inl h ↦
-      let a : at ≡ length w = omega arith in
-      let z : rest ≡ 0 = f ∙ sym (cut-beyond w at to (omega arith)) in
-      record {
-        low = omega arith;
-        inside = omega arith;
-        cut = omega (arith, pow-pos (to - at * 64));
-        same = λ p l k. member-beyond w p (omega arith) ∙ sym (ap (λ (x : ℕ). bitAt x (p - at * 64)) z ∙ bit-zero (p - at * 64));
-      }
-  | inr h ↦
-      let a : at ≡ to / 64 = omega arith in
-      let b : to - at * 64 ≡ to % 64 = omega arith in
-      let c : rest < 2 ^ (to % 64) = subst (λ (x : ℕ). x < 2 ^ (to % 64)) (sym f) (mod-lt (getD w at 0) (pow-pos (to % 64))) in
-      record {
-        low = omega arith;
-        inside = omega arith;
-        cut = rw b c;
-        same = λ p l g. by-word w at p l (omega arith) ∙ sym (ap (λ (x : ℕ). bitAt x (p - at * 64)) f ∙ bit-cut (getD w at 0) (to % 64) (p - at * 64) (omega arith));
-      }
-]
-
-module _ {w : List ℕ} {to at rest : ℕ} (s : Looking w to at rest) where
   -- nothing is left of this word
-  module _ (z : rest ≡ 0) where
-    none-here : NoneIn w (at * 64) to
-    none-here p l h = s .same p l h ∙ ap (λ (x : ℕ). bitAt x (p - at * 64)) z ∙ bit-zero (p - at * 64)
+  module _ (z : bits ≡ 0) where
+    none-here : NoneIn words (at * 64) (64 * length words)
+    none-here p l h = elim (le-or-lt (at * 64 + 64) p) [
+      | inl g ↦ s .none p g h
+      | inr g ↦ by-word words at p l g ∙ ap (λ (x : ℕ). bitAt x (p - at * 64)) (s .word ∙ z) ∙ bit-zero (p - at * 64)
+    ]
 
-    pub looking-goes-on : (first : ℕ) → first < at → getD w (at - 1) 0 < 2 ^ 64 → Looking w to (at - 1) (getD w (at - 1) 0)
+    pub looking-goes-on : (first : ℕ) → first < at → getD w (at - 1) 0 < 2 ^ 64 → Looking w to rest (at - 1) (getD w (at - 1) 0)
     looking-goes-on first f n = record {
-      low = omega (arith, s .low);
       inside = omega (arith, s .inside);
-      cut = let g : 64 ≤ to - (at - 1) * 64 = omega (arith, s .low) in omega (arith, pow-mono g);
-      same = λ p l h. elim (le-or-lt (at * 64) p) [
-        | inl g ↦ none-here p g h ∙ sym (bit-high (getD w (at - 1) 0) 64 (p - (at - 1) * 64) n (omega arith))
-        | inr g ↦ by-word w (at - 1) p l (omega arith)
-      ];
+      word = with-word w to rest (at - 1) (omega (arith, s .inside));
+      short = n;
+      none = λ p l h. none-here p (omega arith) h;
     }
 
-    pub looking-ends : (from : ℕ) → at ≤ from / 64 → Empty ≡ lastBelow w from to
-    looking-ends from h = sym (last-none w from to (λ p l g. none-here p (omega arith) g))
+    pub looking-ends : (from : ℕ) → at ≤ from / 64 → Empty ≡ lastWith w from to rest
+    unfolding lastWith
+    looking-ends from h = sym (last-none words from (64 * length words) (λ p l g. none-here p (omega arith) g))
 
   -- the greatest bit that is left, t
-  module _ (t : ℕ) (least : 2 ^ t ≤ rest) (most : rest < 2 ^ (t + 1)) where
-    pub top-fits : at * 64 + t < to
-    top-fits = omega (arith, top-below rest t least most (to - at * 64) (s .cut))
+  module _ (t : ℕ) (least : 2 ^ t ≤ bits) (most : bits < 2 ^ (t + 1)) where
+    pub top-short : t < 64
+    top-short = top-below bits t least most 64 (s .short)
 
-    none-above : NoneIn w (suc (at * 64 + t)) to
-    none-above p l h = s .same p (omega arith) h ∙ top-last rest t least most (p - at * 64) (omega arith)
+    pub top-fits : at * 64 + t ≤ to / 64 * 64 + 63
+    top-fits = omega (arith, s .inside, top-short)
 
-    pub looking-found : (from : ℕ) → from ≤ at * 64 + t → Found (at * 64 + t) ≡ lastBelow w from to
-    looking-found from h = sym (last-is w from to (at * 64 + t) (record {
-      is-in = s .same (at * 64 + t) (omega arith) top-fits ∙ ap (bitAt rest) (omega arith) ∙ top-on rest t least most;
+    pub top-shift : 1 * 2 ^ t % 2 ^ 64 ≡ 2 ^ t
+    top-shift = shift-one 64 t top-short
+
+    bit-here : (p : ℕ) → at * 64 ≤ p → p < at * 64 + 64 → member words p ≡ bitAt bits (p - at * 64)
+    bit-here p l h = by-word words at p l h ∙ ap (λ (x : ℕ). bitAt x (p - at * 64)) (s .word)
+
+    none-above : NoneIn words (suc (at * 64 + t)) (64 * length words)
+    none-above p l h = elim (le-or-lt (at * 64 + 64) p) [
+      | inl g ↦ s .none p g h
+      | inr g ↦ bit-here p (omega arith) g ∙ top-last bits t least most (p - at * 64) (omega arith)
+    ]
+
+    -- without its greatest bit it is the rest below that bit's place
+    bits-less : bits - 1 * 2 ^ t % 2 ^ 64 ≡ restBelow words (at * 64 + t)
+    unfolding restBelow
+    bits-less =
+        let a : (at * 64 + t) / 64 ≡ at = omega (arith, top-short) in
+        let b : (at * 64 + t) % 64 ≡ t = omega (arith, top-short) in
+        rw (a, b) (ap (λ (z : ℕ). bits - z) top-shift ∙ sym (cut-top bits t least most) ∙ ap (λ (x : ℕ). x % 2 ^ t) (sym (s .word)))
+
+    pub looking-found : (from : ℕ) → from ≤ at * 64 + t → Found (at * 64 + t) (bits - 1 * 2 ^ t % 2 ^ 64) ≡ lastWith w from to rest
+    unfolding lastWith
+    looking-found from h = ap (Found (at * 64 + t)) bits-less ∙ sym (last-is words from (64 * length words) (at * 64 + t) (record {
+      is-in = bit-here (at * 64 + t) (omega arith) (omega (arith, top-short)) ∙ ap (bitAt bits) (omega arith) ∙ top-on bits t least most;
       from-on = h;
-      below = top-fits;
+      below = omega (arith, s .inside, top-short, with-length w to rest);
       last = none-above;
     }))
 
-    pub looking-misses : (from : ℕ) → at * 64 + t < from → Empty ≡ lastBelow w from to
-    looking-misses from h = sym (last-none w from to (λ p l g. none-above p (omega arith) g))
+    pub looking-misses : (from : ℕ) → at * 64 + t < from → Empty ≡ lastWith w from to rest
+    unfolding lastWith
+    looking-misses from h = sym (last-none words from (64 * length words) (λ p l g. none-above p (omega arith) g))

@@ -1,13 +1,12 @@
 // An ordered set of small numbers, its places, kept as bits in a slice of 64-bit words that the caller lends: place p is in the set where bit p % 64 of word p / 64 is set.
 // Places beyond the words are never members: putting one in or taking one out leaves the words as they are.
 ghost use mathlib.Core.Path.{_≡_};
-ghost use Prim.Native.Nat.{_+_, _/_, _%_, _^_, _≤_, _<_, min};
-ghost use lib.ListN.{getD};
-ghost use Rattle.bitset.specs.Members.{inserted, removed, lastBelow};
+ghost use Prim.Native.Nat.{_+_, _/_, _^_, _≤_, _<_, min};
+ghost use Rattle.bitset.specs.Members.{inserted, removed, restBelow, lastWith};
 
-// The greatest member of a range, or that it has none.
+// The greatest member of a range, with the rest below it (see `rest_below`), or that the range has none.
 pub enum Last {
-    Found(usize),
+    Found(usize, u64),
     Empty,
 }
 
@@ -62,34 +61,37 @@ fn word_of(count: usize, to: usize) -> usize
     if at < count { at } else { count }
 }
 
-// That word without the bits from `to` on; 0 beyond the words.
-fn word_below(words: &[u64], at: usize, to: usize) -> u64
-    ensures { λ r. ⌜ r ≡ getD (now (words .entry)) at 0 % 2 ^ (to % 64) ⌝ }
+// The rest below `to`: the word of `to` without the bits from `to` on; 0 beyond the words.
+pub fn rest_below(words: &[u64], to: usize) -> u64
+    ensures { λ r. ⌜ r ≡ restBelow (now (words .entry)) to ⌝ }
 {
+    let at = to / 64;
     if words.len() <= at {
         return 0;
     }
     words[at] % (1u64 << (to % 64))
 }
 
-// The greatest member from `from` on and below `to`. It looks at the word of `to` first and then at those below, so it takes constant time and a step for each empty word that it passes over.
-pub fn last_below(words: &[u64], from: usize, to: usize) -> Last
-    ensures { λ r. ⌜ r ≡ lastBelow (now (words .entry)) from to ⌝ }
+// The greatest member from `from` on and below `to`, given the rest below `to`: `rest` stands for the word of `to`. It looks at the rest first and then at the words below, so it takes constant time and a step for each empty word that it passes over.
+// A caller that goes down through a range hands back the rest that it was given: while a word has members left, none is read from the words, and the next search need not wait for a read.
+pub fn last_below(words: &[u64], from: usize, to: usize, rest: u64) -> Last
+    ensures { λ r. ⌜ r ≡ lastWith (now (words .entry)) from to rest ⌝ }
 {
     let first = from / 64;
     let mut at = word_of(words.len(), to);
-    let mut rest = word_below(words, at, to);
-    while rest == 0 {
+    let mut bits = rest;
+    while bits == 0 {
         if at <= first {
             return Last::Empty;
         }
         at -= 1;
-        rest = words[at];
+        bits = words[at];
     }
-    let place = at * 64 + top_bit(rest);
+    let top = top_bit(bits);
+    let place = at * 64 + top;
     if place < from {
-        Last::Empty
-    } else {
-        Last::Found(place)
+        return Last::Empty;
     }
+    let below = bits - (1u64 << top);
+    Last::Found(place, below)
 }

@@ -16,8 +16,9 @@ use Rattle.laws.proofs.Parts.{tail-lent}
 use Rattle.sorting.specs.Sorted.{upTo}
 use Rattle.bitset.specs.declared.Last.{Last}
 use Rattle.bitset.specs.declared.Last.the-variants.{Found, Empty}
-use Rattle.bitset.specs.Members.{lastBelow}
+use Rattle.bitset.specs.Members.{restBelow, lastBelow, lastWith}
 use Rattle.bitset.proofs.Lasts.{Greatest, last-found, last-empty}
+use Rattle.bitset.proofs.Rests.{last-with}
 use Rattle.floats.specs.TotalOrder.{floatAt}
 use Rattle.congestion.specs.declared.meet.Meeting.{Meeting}
 use Rattle.congestion.specs.declared.meet.Met.the-variants.{Went, Spent}
@@ -27,9 +28,20 @@ use Rattle.congestion.specs.Tables.{Tabled, rowFrom}
 use Rattle.congestion.specs.Meeting.{Meetable, MeetableEnd, CountsOnly, Meets, MeetableAt, Visitable, Visits}
 use Rattle.congestion.proofs.MeetingLaws.{Going, Next, going-few, going-none, old-count, next-place, differ, visit-next, visit-stops, spent-meets, went-meets}
 
--- ---- what the search in the part of the bits answers
-pub answer : (n : ℕ) (s : List ℕ) (from to : ℕ) (r o : Last) → r ≡ lastBelow (midOf (9 * n) (length s - 9 * n) s) from to → r ≡ o → lastBelow (drop (9 * n) s) from to ≡ o
-answer n s from to r o e k = ap (λ (w : List ℕ). lastBelow w from to) (sym (tail-lent (9 * n) s)) ∙ sym e ∙ k
+-- ---- the part of the bits, which stay as they were at the entry: what the search answers, and the rest below `to`
+module _ (n : ℕ) (s₀ s : List ℕ) (only : CountsOnly n s₀ s) (to rest : ℕ) where
+  pub answer : rest ≡ restBelow (drop (9 * n) s₀) to → (from : ℕ) (r o : Last) → r ≡ lastWith (midOf (9 * n) (length s - 9 * n) s) from to rest → r ≡ o → lastBelow (drop (9 * n) s) from to ≡ o
+  answer h from r o e k =
+      sym (last-with (drop (9 * n) s) to rest (h ∙ ap (λ (w : List ℕ). restBelow w to) (sym (only .behind))) from)
+      ∙ ap (λ (w : List ℕ). lastWith w from to rest) (sym (tail-lent (9 * n) s))
+      ∙ sym e
+      ∙ k
+
+  pub rest-found : (from p : ℕ) → lastBelow (drop (9 * n) s) from p ≡ Found to rest → rest ≡ restBelow (drop (9 * n) s₀) to
+  rest-found from p e = last-found (drop (9 * n) s) from p to rest e .1 ∙ ap (λ (w : List ℕ). restBelow w to) (only .behind)
+
+pub rest-first : (n : ℕ) (s : List ℕ) (to rest : ℕ) → rest ≡ restBelow (midOf (9 * n) (length s - 9 * n) s) to → rest ≡ restBelow (drop (9 * n) s) to
+rest-first n s to rest e = e ∙ ap (λ (w : List ℕ). restBelow w to) (tail-lent (9 * n) s)
 
 mem-upTo : (n i : ℕ) → i < n → Mem i (upTo n)
 unfolding upTo
@@ -58,9 +70,9 @@ module _ (starts : Bool) (n j : ℕ) (s₀ : List ℕ) (least₀ : Float) (allow
     pub run-only : CountsOnly n s₀ s
     run-only = the-going .only
 
-    module _ (len : length s ≡ length s₀) (i : ℕ) (found : lastBelow (drop (9 * n) s) (getD s₀ (6 * n + j) 0) p ≡ Found i) where
+    module _ (len : length s ≡ length s₀) (i x : ℕ) (found : lastBelow (drop (9 * n) s) (getD s₀ (6 * n + j) 0) p ≡ Found i x) where
       last : Greatest (drop (9 * n) s) (getD s₀ (6 * n + j) 0) p i
-      last = last-found (drop (9 * n) s) (getD s₀ (6 * n + j) 0) p i found
+      last = last-found (drop (9 * n) s) (getD s₀ (6 * n + j) 0) p i x found .0
 
       room : 9 * n ≤ length s
       room = omega (arith, known .room)

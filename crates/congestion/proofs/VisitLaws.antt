@@ -1,18 +1,20 @@
 -- One visit: the meeting and the count that it leaves. Assumes nothing.
 use mathlib.Core.Path.{_≡_, refl, sym, ap, _∙_}
 use mathlib.Core.List.{List}
-use mathlib.Core.Bool.{Bool, true, false}
-use Prim.Native.Nat.{ℕ, _+_, _-_, _*_, max}
+use mathlib.Core.Logic.{inl, inr}
+use mathlib.Core.Bool.{Bool, true, false, cond}
+use Prim.Native.Nat.{ℕ, _+_, _-_, _*_, _≤_, max}
 use native.Mathlib.Omega.{arith}
 use lib.Dec.{eqb}
 use lib.Ieee.{Float, binary64, sub, lt}
 use lib.ListN.{getD, set}
+use borrow.Author.Tests.{eq-eqb, ne-eqb}
 use Rattle.laws.specs.Lists.{bit}
-use Rattle.laws.proofs.Tests.{cond-true, cond-false}
+use Rattle.laws.proofs.Tests.{same-or-not, cond-true, cond-false}
 use Rattle.floats.specs.Values.{plusZero, lesserOf, absOf, gapOf}
 use Rattle.floats.specs.TotalOrder.{floatAt}
 use Rattle.congestion.specs.declared.meet.Meeting.{Meeting}
-use Rattle.congestion.specs.Meeting.{withGap, countAfter, withNeighbor, paid, Countable, Visitable, Visits}
+use Rattle.congestion.specs.Meeting.{turning, withGap, countAfter, highestAfter, withNeighbor, paid, Countable, Visitable, Visits}
 
 pub one-more : (n : ℕ) (b : Bool) → b ≡ true → n + 1 ≡ n + bit b
 one-more n b e = ap (λ (z : Bool). n + bit z) (sym e)
@@ -29,23 +31,28 @@ module _ (least gap : Float) where
   gap-passed b = sym (cond-false (lt plusZero gap) (lesserOf least gap) least b)
 
 -- ---- a neighbor
-module _ (starts : Bool) (s : List ℕ) (at x : ℕ) (gap y : Float) (t : Meeting) (f : y ≡ withGap (t .least) gap) where
-  abbrev k : ℕ
-  k = getD s at 0
+-- the count changes between 0 and 1 where the lesser of the counts before and after is 0
+lower-turning : (starts : Bool) (k : ℕ) → (starts ≡ false → 1 ≤ k) → eqb (cond starts k (countAfter starts k)) 0 ≡ eqb k (turning starts)
+lower-turning true k h = refl
+lower-turning false k h =
+    let l : 1 ≤ k = h refl in
+    elim (same-or-not k 1) [
+      | inl e ↦ eq-eqb (k - 1) 0 (omega arith) ∙ sym (eq-eqb k 1 e)
+      | inr d ↦ ne-eqb (k - 1) 0 (λ e. d (omega arith)) ∙ sym (ne-eqb k 1 d)
+    ]
 
-  pub neighbor-start : (z : ℕ) → starts ≡ true → x ≡ t .changed + bit (eqb k 0) → z ≡ max (t .highest) (k + 1)
-      → (record { neighbors = t .neighbors + 1; changed = x; highest = z; least = y; left = t .left - 1 } ≡ withNeighbor starts k gap t) × (set s at (k + 1) ≡ set s at (countAfter starts k))
-  neighbor-start z b e h = (
-    (λ i. record { neighbors = t .neighbors + 1; changed = e i; highest = h i; least = f i; left = t .left - 1 }) ∙ ap (λ (q : Bool). withNeighbor q k gap t) (sym b),
-    ap (λ (q : Bool). set s at (countAfter q k)) (sym b),
-  )
+highest-of : (starts : Bool) (h k : ℕ) → cond starts (max h (countAfter starts k)) h ≡ highestAfter starts h k
+highest-of true h k = refl
+highest-of false h k = refl
 
-  pub neighbor-end : starts ≡ false → x ≡ t .changed + bit (eqb k 1)
-      → (record { neighbors = t .neighbors + 1; changed = x; highest = t .highest; least = y; left = t .left - 1 } ≡ withNeighbor starts k gap t) × (set s at (k - 1) ≡ set s at (countAfter starts k))
-  neighbor-end b e = (
-    (λ i. record { neighbors = t .neighbors + 1; changed = e i; highest = t .highest; least = f i; left = t .left - 1 }) ∙ ap (λ (q : Bool). withNeighbor q k gap t) (sym b),
-    ap (λ (q : Bool). set s at (countAfter q k)) (sym b),
-  )
+pub neighbor-met : (starts : Bool) (s : List ℕ) (at after lower x z : ℕ) (gap y : Float) (t : Meeting) → (starts ≡ false → 1 ≤ getD s at 0)
+    → after ≡ countAfter starts (getD s at 0) → lower ≡ cond starts (getD s at 0) after → x ≡ t .changed + bit (eqb lower 0) → z ≡ cond starts (max (t .highest) after) (t .highest) → y ≡ withGap (t .least) gap
+    → (record { neighbors = t .neighbors + 1; changed = x; highest = z; least = y; left = t .left - 1 } ≡ withNeighbor starts (getD s at 0) gap t) × (set s at after ≡ set s at (countAfter starts (getD s at 0)))
+neighbor-met starts s at after lower x z gap y t some a l e h f =
+    let k = getD s at 0 in
+    let turns : x ≡ t .changed + bit (eqb k (turning starts)) = e ∙ ap (λ (q : ℕ). t .changed + bit (eqb q 0)) (l ∙ ap (cond starts k) a) ∙ ap (λ (q : Bool). t .changed + bit q) (lower-turning starts k some) in
+    let top : z ≡ highestAfter starts (t .highest) k = h ∙ ap (λ (q : ℕ). cond starts (max (t .highest) q) (t .highest)) a ∙ highest-of starts (t .highest) k in
+    ((λ i. record { neighbors = t .neighbors + 1; changed = turns i; highest = top i; least = f i; left = t .left - 1 }), ap (set s at) a)
 
 -- ---- a visit
 module _ (s : List ℕ) (n i net : ℕ) (here : Float) (starts : Bool) (t : Meeting) where

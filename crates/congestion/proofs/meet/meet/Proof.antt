@@ -1,16 +1,18 @@
 -- `congestion::meet::meet` meets its contract: visit by visit, from the greatest place down. Assumes nothing.
 use borrow.Author.Needs.{needs}
 use mathlib.Core.Path.{_≡_, refl}
-use lib.ListN.{length}
-use Rattle.congestion.proofs.MeetingLoop.{answer, Runs, run-none, run-only, run-falls, run-visitable, run-next, run-stops, run-all}
+use Prim.Native.Nat.{_*_}
+use lib.ListN.{length, drop}
+use Rattle.bitset.specs.Members.{restBelow}
+use Rattle.congestion.proofs.MeetingLoop.{answer, rest-found, rest-first, Runs, run-none, run-only, run-falls, run-visitable, run-next, run-stops, run-all}
 use Rattle.congestion.proofs.meet.meet.Statement.{statement}
 use Rattle.congestion.proofs.meet.meet.Tie as tie
 
 abbrev Inv-loop : tie.InvT-loop
-Inv-loop s₀ n j starts least left here net from to₀ meeting₀ s to meeting = (length s ≡ length s₀) × Runs starts n j s₀ least left meeting s to
+Inv-loop s₀ n j starts least left here net from to₀ rest₀ meeting₀ s to rest meeting = (length s ≡ length s₀) × Runs starts n j s₀ least left meeting s to × (rest ≡ restBelow (drop (9 * n) s₀) to)
 
 abbrev μ-loop : tie.MeasureT-loop
-μ-loop s₀ n j starts least left here net from to₀ meeting₀ s to meeting = to
+μ-loop s₀ n j starts least left here net from to₀ rest₀ meeting₀ s to rest meeting = to
 
 mul-float-of-key : tie.Need-mul-float-of-key Inv-loop μ-loop
 mul-float-of-key c = search needs
@@ -63,8 +65,26 @@ mul-to-2 c = search needs
 slice-read-to : tie.Need-slice-read-to Inv-loop μ-loop
 slice-read-to c = search needs
 
+mul-rest-below : tie.Need-mul-rest-below Inv-loop μ-loop
+mul-rest-below c = search needs
+
+mul-rest-below-2 : tie.Need-mul-rest-below-2 Inv-loop μ-loop
+mul-rest-below-2 c = search needs
+
+sub-rest-below : tie.Need-sub-rest-below Inv-loop μ-loop
+sub-rest-below c = search needs
+
+part-rest-below-start : tie.Need-part-rest-below-start Inv-loop μ-loop
+part-rest-below-start c = search needs
+
+part-rest-below-end : tie.Need-part-rest-below-end Inv-loop μ-loop
+part-rest-below-end c = search needs
+
+rest-below-requires : tie.Need-rest-below-requires Inv-loop μ-loop
+rest-below-requires c κs = search needs
+
 loop-holds : tie.Need-loop-holds Inv-loop μ-loop
-loop-holds c = let a = c .before .before .before .before .before .before .args in let p = c .before .before .before .before .before .before .pre in (refl, run-none (a .starts) (a .n) (a .j) (a .s .now) (a .least) (a .left) (p .meetable .inside) _ refl)
+loop-holds c = let b = c .before .before .before .before .before .before .before .before .before in let a = b .args in (refl, run-none (a .starts) (a .n) (a .j) (a .s .now) (a .least) (a .left) (b .pre .meetable .inside) _ refl, rest-first (a .n) (a .s .now) _ _ (c .rest-below .ensures))
 
 mul-last-below : tie.Need-mul-last-below Inv-loop μ-loop
 mul-last-below c = search needs
@@ -94,22 +114,22 @@ same-length : tie.Need-same-length Inv-loop μ-loop
 same-length c = search needs
 
 returns : tie.Need-returns Inv-loop μ-loop
-returns c = let a = c .before .before .before .before .before .before .before .before .before .before .before .before .args in let p = c .before .before .before .before .before .before .before .before .before .before .before .before .pre in let l = c .before .before .before .before .before .loop in (run-all (a .starts) (a .n) (a .j) (a .s .now) (a .least) (a .left) p (l .meeting) (l .s) (l .to) (l .inv .1) (answer (a .n) (l .s) _ _ _ _ (c .before .before .last-below .ensures) (c .enum-told .given .1)), run-only (a .starts) (a .n) (a .j) (a .s .now) (a .least) (a .left) p (l .meeting) (l .s) (l .to) (l .inv .1))
+returns c = let k = c .before .before .before .before .before in let b = k .before .before .before .before .before .before .before .before .before .before in let a = b .args in let l = k .loop in let only = run-only (a .starts) (a .n) (a .j) (a .s .now) (a .least) (a .left) (b .pre) (l .meeting) (l .s) (l .to) (l .inv .1) in (run-all (a .starts) (a .n) (a .j) (a .s .now) (a .least) (a .left) (b .pre) (l .meeting) (l .s) (l .to) (l .inv .1) (answer (a .n) (a .s .now) (l .s) only _ _ (l .inv .2) _ _ _ (c .before .before .last-below .ensures) (c .enum-told .given .1)), only)
 
 same-length-2 : tie.Need-same-length-2 Inv-loop μ-loop
 same-length-2 c = search needs
 
 returns-2 : tie.Need-returns-2 Inv-loop μ-loop
-returns-2 c = let a = c .before .before .before .before .before .before .before .before .before .before .before .before .before .before .before .args in let p = c .before .before .before .before .before .before .before .before .before .before .before .before .before .before .before .pre in let l = c .before .before .before .before .before .before .before .before .loop in (run-stops (a .starts) (a .n) (a .j) (a .s .now) (a .least) (a .left) p (l .meeting) (l .s) (l .to) (l .inv .1) (l .inv .0) _ (answer (a .n) (l .s) _ _ _ _ (c .before .before .before .before .before .last-below .ensures) (c .before .before .before .last .given .1)) (c .if1 .taken), run-only (a .starts) (a .n) (a .j) (a .s .now) (a .least) (a .left) p (l .meeting) (l .s) (l .to) (l .inv .1))
+returns-2 c = let k = c .before .before .before .before .before .before .before .before in let b = k .before .before .before .before .before .before .before .before .before .before in let a = b .args in let l = k .loop in let only = run-only (a .starts) (a .n) (a .j) (a .s .now) (a .least) (a .left) (b .pre) (l .meeting) (l .s) (l .to) (l .inv .1) in (run-stops (a .starts) (a .n) (a .j) (a .s .now) (a .least) (a .left) (b .pre) (l .meeting) (l .s) (l .to) (l .inv .1) (l .inv .0) _ _ (answer (a .n) (a .s .now) (l .s) only _ _ (l .inv .2) _ _ _ (c .before .before .before .before .before .last-below .ensures) (c .before .before .before .last .given .1)) (c .if1 .taken), only)
 
 visit-requires : tie.Need-visit-requires Inv-loop μ-loop
-visit-requires c κs = let a = c .before .before .before .before .before .before .before .before .before .before .before .before .before .before .before .before .args in let p = c .before .before .before .before .before .before .before .before .before .before .before .before .before .before .before .before .pre in let l = c .before .before .before .before .before .before .before .before .before .loop in run-visitable (a .starts) (a .n) (a .j) (a .s .now) (a .least) (a .left) p (l .meeting) (l .s) (l .to) (l .inv .1) (l .inv .0) _ (answer (a .n) (l .s) _ _ _ _ (c .before .before .before .before .before .before .last-below .ensures) (c .before .before .before .before .last .given .1)) (c .before .if1 .left) _ refl
+visit-requires c κs = let k = c .before .before .before .before .before .before .before .before .before in let b = k .before .before .before .before .before .before .before .before .before .before in let a = b .args in let l = k .loop in let only = run-only (a .starts) (a .n) (a .j) (a .s .now) (a .least) (a .left) (b .pre) (l .meeting) (l .s) (l .to) (l .inv .1) in run-visitable (a .starts) (a .n) (a .j) (a .s .now) (a .least) (a .left) (b .pre) (l .meeting) (l .s) (l .to) (l .inv .1) (l .inv .0) _ _ (answer (a .n) (a .s .now) (l .s) only _ _ (l .inv .2) _ _ _ (c .before .before .before .before .before .before .last-below .ensures) (c .before .before .before .before .last .given .1)) (c .before .if1 .left) _ refl
 
 loop-less : tie.Need-loop-less Inv-loop μ-loop
-loop-less c = let a = c .before .before .before .before .before .before .before .before .before .before .before .before .before .before .before .before .before .before .before .args in let p = c .before .before .before .before .before .before .before .before .before .before .before .before .before .before .before .before .before .before .before .pre in let l = c .before .before .before .before .before .before .before .before .before .before .before .before .loop in run-falls (a .starts) (a .n) (a .j) (a .s .now) (a .least) (a .left) p (l .meeting) (l .s) (l .to) (l .inv .1) (l .inv .0) _ (answer (a .n) (l .s) _ _ _ _ (c .before .before .before .before .before .before .before .before .before .last-below .ensures) (c .before .before .before .before .before .before .before .last .given .1))
+loop-less c = let k = c .before .before .before .before .before .before .before .before .before .before .before .before in let b = k .before .before .before .before .before .before .before .before .before .before in let a = b .args in let l = k .loop in let only = run-only (a .starts) (a .n) (a .j) (a .s .now) (a .least) (a .left) (b .pre) (l .meeting) (l .s) (l .to) (l .inv .1) in run-falls (a .starts) (a .n) (a .j) (a .s .now) (a .least) (a .left) (b .pre) (l .meeting) (l .s) (l .to) (l .inv .1) (l .inv .0) _ _ (answer (a .n) (a .s .now) (l .s) only _ _ (l .inv .2) _ _ _ (c .before .before .before .before .before .before .before .before .before .last-below .ensures) (c .before .before .before .before .before .before .before .last .given .1))
 
 loop-again : tie.Need-loop-again Inv-loop μ-loop
-loop-again c = let a = c .before .before .before .before .before .before .before .before .before .before .before .before .before .before .before .before .before .before .before .args in let p = c .before .before .before .before .before .before .before .before .before .before .before .before .before .before .before .before .before .before .before .pre in let l = c .before .before .before .before .before .before .before .before .before .before .before .before .loop in (search needs, run-next (a .starts) (a .n) (a .j) (a .s .now) (a .least) (a .left) p (l .meeting) (l .s) (l .to) (l .inv .1) (l .inv .0) _ (answer (a .n) (l .s) _ _ _ _ (c .before .before .before .before .before .before .before .before .before .last-below .ensures) (c .before .before .before .before .before .before .before .last .given .1)) (c .before .before .before .before .if1 .left) _ refl _ (c .before .before .before .before .before .before .before .before .before .before .before .before .before .before .before .before .float-of-key .ensures) _ _ (c .before .before .visit .ensures))
+loop-again c = let k = c .before .before .before .before .before .before .before .before .before .before .before .before in let b = k .before .before .before .before .before .before .before .before .before .before in let a = b .args in let l = k .loop in let only = run-only (a .starts) (a .n) (a .j) (a .s .now) (a .least) (a .left) (b .pre) (l .meeting) (l .s) (l .to) (l .inv .1) in let found = answer (a .n) (a .s .now) (l .s) only _ _ (l .inv .2) _ _ _ (c .before .before .before .before .before .before .before .before .before .last-below .ensures) (c .before .before .before .before .before .before .before .last .given .1) in (search needs, run-next (a .starts) (a .n) (a .j) (a .s .now) (a .least) (a .left) (b .pre) (l .meeting) (l .s) (l .to) (l .inv .1) (l .inv .0) _ _ found (c .before .before .before .before .if1 .left) _ refl _ (c .before .before .before .before .before .before .before .before .before .before .before .before .before .before .before .before .before .before .before .float-of-key .ensures) _ _ (c .before .before .visit .ensures), rest-found (a .n) (a .s .now) (l .s) only _ _ _ _ found)
 
 pub meet-spec : {M : Type 1} → statement M
 meet-spec =
@@ -134,6 +154,12 @@ meet-spec =
     add-to
     mul-to-2
     slice-read-to
+    mul-rest-below
+    mul-rest-below-2
+    sub-rest-below
+    part-rest-below-start
+    part-rest-below-end
+    rest-below-requires
     loop-holds
     mul-last-below
     mul-last-below-2

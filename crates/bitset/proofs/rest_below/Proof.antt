@@ -1,11 +1,11 @@
--- `bitset::word_below` meets its contract. Assumes nothing.
+-- `bitset::rest_below` meets its contract. Assumes nothing.
 use borrow.Author.Needs.{needs}
-use Rattle.bitset.proofs.Looks.{cut-beyond, cut-word, cut-some}
-use Rattle.bitset.proofs.word_below.Statement.{statement}
-use Rattle.bitset.proofs.word_below.Tie as tie
+use Rattle.bitset.proofs.Rests.{cut-beyond, cut-word, cut-some}
+use Rattle.bitset.proofs.rest_below.Statement.{statement}
+use Rattle.bitset.proofs.rest_below.Tie as tie
 
 returns : tie.Need-returns
-returns c = cut-beyond (c .before .args .words .now) (c .before .args .at) (c .before .args .to) (c .if1 .taken)
+returns c = cut-beyond (c .before .args .words .now) (c .before .args .to) (c .if1 .taken)
 
 mul-result : tie.Need-mul-result
 mul-result c = search needs
@@ -22,7 +22,7 @@ rem-result c = cut-some _
 returns-2 : tie.Need-returns-2
 returns-2 c = cut-word _ _
 
-pub word-below-spec : {M : Type 1} → statement M
-word-below-spec =
+pub rest-below-spec : {M : Type 1} → statement M
+rest-below-spec =
     tie.close
     (tie.spec returns mul-result shared-slice-read-result shl-result rem-result returns-2)
