@@ -75,6 +75,7 @@
 #ifndef READABILITY_H
 #define READABILITY_H
 
+#include <stdbool.h>
 #include <stddef.h>
 #include <stdint.h>
 #include <string.h>
@@ -232,6 +233,60 @@ uint32_t readability_congestion(
     const double *fixed, size_t fixed_length,
     const double *start, size_t start_length,
     const double *end, size_t end_length,
+    double cutoff,
+    uint64_t *scratch, size_t scratch_length,
+    uint64_t out[READABILITY_CONGESTION_WORDS]);
+
+/*
+ * The same measures of a list of records: each has the words, the checks and the
+ * visit count of the call by columns without _by_records, and 2 comes only from
+ * the columns of nodes and exemptions. A list above 4,096 records is refused
+ * with 3 as there.
+ */
+struct readability_segment {
+    uint32_t net;
+    bool horizontal;
+    double fixed;
+    double start;
+    double end;
+};
+
+uint32_t readability_clearance_by_records(
+    const struct readability_segment *segments, size_t segments_length,
+    const uint32_t *id, size_t id_length,
+    const double *x, size_t x_length,
+    const double *y, size_t y_length,
+    const double *width, size_t width_length,
+    const double *height, size_t height_length,
+    const uint32_t *exempt_net, size_t exempt_net_length,
+    const uint32_t *exempt_node, size_t exempt_node_length,
+    double threshold,
+    size_t allowance,
+    uint64_t *scratch, size_t scratch_length,
+    uint64_t out[READABILITY_CLEARANCE_WORDS]);
+
+uint32_t readability_separation_by_records(
+    const struct readability_segment *segments, size_t segments_length,
+    size_t allowance,
+    uint64_t *scratch, size_t scratch_length,
+    uint64_t out[READABILITY_SEPARATION_WORDS]);
+
+uint32_t readability_density_profile_by_records(
+    const struct readability_segment *segments, size_t segments_length,
+    double cutoff,
+    size_t allowance,
+    uint64_t *scratch, size_t scratch_length,
+    uint64_t out[READABILITY_CONGESTION_WORDS]);
+
+uint32_t readability_congestion_profile_by_records(
+    const struct readability_segment *segments, size_t segments_length,
+    double cutoff,
+    size_t allowance,
+    uint64_t *scratch, size_t scratch_length,
+    uint64_t out[READABILITY_CONGESTION_WORDS]);
+
+uint32_t readability_congestion_by_records(
+    const struct readability_segment *segments, size_t segments_length,
     double cutoff,
     uint64_t *scratch, size_t scratch_length,
     uint64_t out[READABILITY_CONGESTION_WORDS]);

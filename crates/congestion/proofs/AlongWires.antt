@@ -11,7 +11,7 @@ use borrow.Rule.Slice.PartMut.{midOf, putMid, mid-len, take-put, same-len-mid}
 use lib.Dec.{ltb}
 use lib.Ieee.{Float}
 use Rattle.floats.specs.Grid.{ofUnits}
-use lib.ListN.{length, getD, take, drop, replicate, length-map, length-replicate, getD-replicate, List·getD-append}
+use lib.ListN.{length, getD, take, replicate, length-map, length-replicate, getD-replicate, List·getD-append}
 use lib.Seq.{take-take, length-take-le, getD-append-add}
 use Rattle.laws.specs.Lists.{Mem, All}
 use Rattle.laws.specs.Sort.{Sorted}
@@ -25,11 +25,13 @@ use Rattle.drawing.specs.Entries.{SegmentColumns, segments}
 use Rattle.drawing.specs.declared.gap.Gap.the-variants.{Absent}
 use Rattle.rows.specs.Rows.{Row, words, rowsInOrder}
 use Rattle.rows.specs.Rows as rows
-use Rattle.rows.specs.Tables.{noRow, rowFrom, eventFrom, column, Spread, EventsOrdered, Orderable, RowsOrdered, Spreadable}
+use Rattle.rows.specs.Placed.{rowCount, rowsPlaced, rowsSpread, eventsPlaced}
+use Rattle.rows.specs.Tables.{noRow, rowFrom, eventFrom, column}
 use Rattle.rows.proofs.ColumnParts.{getD-map, at-mem, column-at, column-same}
 use Rattle.rows.proofs.Oriented.{oriented-sorted}
 use Rattle.rows.proofs.LentRows.{rows-count, rows-few, rows-behind, rows-kept}
-use Rattle.rows.proofs.SpreadTables.{ordered-spreadable}
+use Rattle.rows.proofs.SpreadTables.{Spread, rows-spread}
+use Rattle.rows.proofs.EventTables.{EventsOrdered, events-placed}
 use Rattle.congestion.specs.declared.run.Swept.{Swept}
 use Rattle.congestion.specs.declared.run.Swept.the-variants.{Went}
 use Rattle.congestion.specs.Wires.{Wire, cutoffOf}
@@ -142,22 +144,25 @@ module _ (h : Bool) (l : List Row) (sorted : Sorted rowsInOrder l) (proper : (r 
       first-wires few some = refl
 
 -- ---- the same for n rows, whichever they are
-pub rows-spread : (s : List ℕ) (n from table : ℕ) → AtRows s n from table → Spreadable n from table s
-rows-spread s n from table a = let f = a .front in ordered-spreadable (a .l) n from table s (sym (a .size)) (a .ordered) (omega arith) (a .apart) (a .room)
+module _ (s s₁ s₂ : List ℕ) (n from table : ℕ) (spread-is : s₁ ≡ rowsSpread n from table s) (same : length s₁ ≡ length s) (ordered-is : s₂ ≡ eventsPlaced n s₁) (long : length s₂ ≡ length s) where
+  spread : (a : AtRows s n from table) → Spread (a .l) s₁
+  spread a = rows-spread n from table s s₁ spread-is (omega (arith, a .front)) (a .apart) (a .room) (a .l) (a .size) (a .ordered)
 
-module _ (s s₁ s₂ : List ℕ) (n from table : ℕ) (spreads : (l : List Row) → length l ≡ n → RowsOrdered l table (drop from s) → Spread l s₁) (long : length s₂ ≡ length s) (orders : EventsOrdered n s₁ s₂) where
+  ordered : AtRows s n from table → EventsOrdered n s₁ s₂
+  ordered a = events-placed s₁ n s₂ ordered-is (omega (arith, a .front, a .room))
+
   pub rows-rangeable : AtRows s n from table → Rangeable s₂ n
   rows-rangeable a =
-      let d = spreads (a .l) (a .size) (a .ordered) in
+      let d = spread a in
       let f = a .front in
       let r = a .room in
-      subst (λ (m : ℕ). EventsOrdered m s₁ s₂ → 8 * m ≤ length s₂ → Rangeable s₂ m) (a .size) (λ o b. rangeable (a .across) (a .l) (a .sorted) (a .proper) s₁ s₂ d o b) orders (omega arith)
+      subst (λ (m : ℕ). EventsOrdered m s₁ s₂ → 8 * m ≤ length s₂ → Rangeable s₂ m) (a .size) (λ o b. rangeable (a .across) (a .l) (a .sorted) (a .proper) s₁ s₂ d o b) (ordered a) (omega arith)
 
-  module _ (s₃ : List ℕ) (same : length s₃ ≡ length s₂) (cutoff : Float) (cut : Cutoff cutoff) (only : RangesOnly n s₂ s₃) (fills : FillsRanges s₂ s₃ n cutoff) (e : List ℕ) (clear : e ≡ replicate {A = ℕ} (length (midOf (8 * n) (10 * n + 1 - 8 * n) s₃)) 0) where
+  module _ (s₃ : List ℕ) (kept : length s₃ ≡ length s₂) (cutoff : Float) (cut : Cutoff cutoff) (only : RangesOnly n s₂ s₃) (fills : FillsRanges s₂ s₃ n cutoff) (e : List ℕ) (clear : e ≡ replicate {A = ℕ} (length (midOf (8 * n) (10 * n + 1 - 8 * n) s₃)) 0) where
     -- the record that the sweep asks for, with the wires of the rows that are known
     pub rows-first : (a : AtRows s n from table) → (b : AtFirst (putMid (8 * n) (10 * n + 1 - 8 * n) s₃ e) n) × (oriented (b .c) (b .L) ≡ oriented (cutoffOf cutoff) (map (wireOfRow (a .across)) (a .l)))
     rows-first a =
-        let d = spreads (a .l) (a .size) (a .ordered) in
+        let d = spread a in
         let f = a .front in
         let r = a .room in
         let q = a .many in
@@ -165,11 +170,11 @@ module _ (s s₁ s₂ : List ℕ) (n from table : ℕ) (spreads : (l : List Row)
         subst (λ (m : ℕ). EventsOrdered m s₁ s₂ → RangesOnly m s₂ s₃ → FillsRanges s₂ s₃ m cutoff → e ≡ replicate {A = ℕ} (length (midOf (8 * m) (10 * m + 1 - 8 * m) s₃)) 0 → 10 * m + 1 ≤ length s₃ → m ≤ 4096 → 1 ≤ m
         → (b : AtFirst (putMid (8 * m) (10 * m + 1 - 8 * m) s₃ e) m) × (oriented (b .c) (b .L) ≡ oriented (cutoffOf cutoff) (map (wireOfRow (a .across)) (a .l)))) (a .size)
         (λ o x y z room few some. (at-first (a .across) (a .l) (a .sorted) (a .proper) s₁ s₂ d o s₃ cutoff cut x y e room z few some, first-wires (a .across) (a .l) (a .sorted) (a .proper) s₁ s₂ d o s₃ cutoff cut x y e room z few some))
-        orders only fills clear (omega arith) p (omega arith)
+        (ordered a) only fills clear (omega arith) p (omega arith)
 
 -- ---- the columns of one orientation; e is what the words behind the first 16 for each segment became when the rows were ordered there
 module _ (s e : List ℕ) (o n : ℕ) (c : SegmentColumns) (a : AtColumns (length s) o c)
-    (orders : Orderable c (length (midOf (16 * length (c .net)) (length s - 16 * length (c .net)) s)) → (n ≡ length (rows.oriented o (segments c))) × RowsOrdered (rows.oriented o (segments c)) (length (c .net)) e) where
+    (orders : (n ≡ rowCount o c (length (midOf (16 * length (c .net)) (length s - 16 * length (c .net)) s))) × (e ≡ rowsPlaced o c (midOf (16 * length (c .net)) (length s - 16 * length (c .net)) s))) where
   abbrev l : List Row
   l = rows.oriented o (segments c)
 

@@ -27,7 +27,8 @@ use Rattle.drawing.proofs.ListOrders.{SegmentHeld}
 use Rattle.rows.specs.Rows.{fixedOf, startOf, endOf}
 use Rattle.rows.specs.Rows as rows
 use Rattle.rows.specs.Rows.{Row, rowOf, eventsFrom, moment, eventsInOrder, ends, starts}
-use Rattle.rows.specs.Tables.{noRow, rowFrom, eventFrom, column, Spread}
+use Rattle.rows.specs.Tables.{noRow, rowFrom, eventFrom, column}
+use Rattle.rows.proofs.SpreadTables.{Spread}
 use Rattle.rows.proofs.ColumnParts.{getD-map, at-mem, column-at}
 use Rattle.congestion.specs.Wires.{Wire}
 use Rattle.congestion.specs.Sweep.{Event, numbered, events, inOrder, eventRow}

@@ -1,7 +1,6 @@
-// What every measure shares: the records, the gap and the refusals, the checks of a call's input in document 01's order, and the clearing of the scratch.
+// What every measure shares: the gap and the refusals, the checks of a call's input in document 01's order, and the clearing of the scratch.
 pub mod checks;
 pub mod gap;
-pub mod records;
 pub mod refusal;
 pub mod scratch;
 
@@ -12,10 +11,6 @@ pub use checks::check_tight_pair;
 pub use checks::segments_differ;
 pub use gap::Gap;
 pub use gap::minimum_option;
-pub use records::EdgeNodeSegment;
-pub use records::NetNodeRelation;
-pub use records::NodeGeometry;
-pub use records::ParallelSegment;
 pub use refusal::Check;
 pub use refusal::Refusal;
 pub use refusal::number;

@@ -13,7 +13,7 @@ use clearance::measure_edge_node_clearance_bounded;
 use drawing::number;
 
 // 0 where the call was accepted, else the refusal's number.
-fn clearance_status(told: ClearanceAnswer) -> u32
+pub(crate) fn clearance_status(told: ClearanceAnswer) -> u32
     ensures { λ r. ⌜ r ≡ status (result told .refused) ⌝ }
 {
     match told {
@@ -23,7 +23,7 @@ fn clearance_status(told: ClearanceAnswer) -> u32
 }
 
 // The report: the gap's two words, violations, visits. Zeros at a refusal.
-fn clearance_words(told: ClearanceAnswer) -> [u64; 4]
+pub(crate) fn clearance_words(told: ClearanceAnswer) -> [u64; 4]
     ensures { λ r. ⌜ r ≡ clearanceWords (result told) ⌝ }
 {
     let ClearanceAnswer::Report(report) = told else {

@@ -18,7 +18,7 @@ use drawing::number;
 use floats::bits_of;
 
 // 0 where the call was accepted, else the refusal's number.
-fn congestion_status(told: CongestionAnswer) -> u32
+pub(crate) fn congestion_status(told: CongestionAnswer) -> u32
     ensures { λ r. ⌜ r ≡ resultOf told .0 ⌝ }
 {
     match told {
@@ -28,7 +28,7 @@ fn congestion_status(told: CongestionAnswer) -> u32
 }
 
 // The report: the bits of the three lengths, the peak, the gap's two words, visits. Zeros at a refusal.
-fn congestion_words(told: CongestionAnswer) -> [u64; 7]
+pub(crate) fn congestion_words(told: CongestionAnswer) -> [u64; 7]
     ensures { λ r. ⌜ r ≡ congestionWords (resultOf told .1) ⌝ }
 {
     let CongestionAnswer::Report(report) = told else {

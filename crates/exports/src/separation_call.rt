@@ -13,7 +13,7 @@ use separation::SeparationAnswer;
 use separation::measure_parallel_separation_bounded;
 
 // 0 where the call was accepted, else the refusal's number.
-fn separation_status(told: SeparationAnswer) -> u32
+pub(crate) fn separation_status(told: SeparationAnswer) -> u32
     ensures { λ r. ⌜ r ≡ resultOf told .0 ⌝ }
 {
     match told {
@@ -23,7 +23,7 @@ fn separation_status(told: SeparationAnswer) -> u32
 }
 
 // The report: the two words of each gap, visits. Zeros at a refusal.
-fn separation_words(told: SeparationAnswer) -> [u64; 5]
+pub(crate) fn separation_words(told: SeparationAnswer) -> [u64; 5]
     ensures { λ r. ⌜ r ≡ separationWords (resultOf told .1) ⌝ }
 {
     let SeparationAnswer::Report(report) = told else {

@@ -1,4 +1,4 @@
--- What the calls' own contracts say, as the checker reads them: of every call, that it asks nothing of its caller, that it ends, and that its run is one of `Measures`.
+-- What the calls' own contracts say, as the checker reads them: of every call, by columns and by records, that it asks nothing of its caller, that it ends, and that its run is one of `Measures`.
 -- Each entry names the function's module in its own crate, so it speaks of the function and not of a copy of its contract. `a` are the arguments in the order of the signature, `x` is what is returned, and `e` are the arguments at exit.
 use Prim.Native.Nat.{ℕ}
 use mathlib.Core.List.{List}
@@ -6,7 +6,10 @@ use contract.Lifetimes.{Lfts}
 use borrow.Fn.Kinds.{PK, RK, In, Out, Dens, resT, endedOf}
 use denote.Triple.Clauses.{AtExit}
 use denote.Ref.{now}
-use Rattle.drawing.specs.Entries.{segmentColumns, nodeColumns, exemptionColumns}
+use mathlib.Core.Path.{_≡_}
+use mathlib.Core.Bool.{false}
+use Rattle.drawing.specs.Entries.{Segment, segments, segmentColumns, nodeColumns, exemptionColumns}
+use Rattle.drawing.specs.Checks.{segmentsDiffer}
 use Rattle.clearance.specs.TightPair.{Answered}
 use Rattle.clearance.proofs.measure.measure_edge_node_clearance_bounded.Kinds as clearanceKinds
 use Rattle.clearance.proofs.measure.measure_edge_node_clearance_bounded.Reads as clearanceReads
@@ -26,6 +29,22 @@ use Rattle.congestion.proofs.measure.measure_parallel_congestion_profile_bounde
 use Rattle.congestion.proofs.measure.measure_parallel_congestion.Kinds as congestionKinds
 use Rattle.congestion.proofs.measure.measure_parallel_congestion.Reads as congestionReads
 use Rattle.congestion.proofs.measure.measure_parallel_congestion.Statement as congestionTheorem
+use Rattle.records.proofs.Claims.measure_edge_node_clearance_bounded_by_records.Kinds as clearanceEntryKinds
+use Rattle.records.proofs.Claims.measure_edge_node_clearance_bounded_by_records.Reads as clearanceEntryReads
+use Rattle.records.proofs.measure_edge_node_clearance_bounded_by_records.Statement as clearanceEntryTheorem
+use Rattle.records.proofs.Claims.measure_parallel_separation_bounded_by_records.Kinds as separationEntryKinds
+use Rattle.records.proofs.Claims.measure_parallel_separation_bounded_by_records.Reads as separationEntryReads
+use Rattle.records.proofs.measure_parallel_separation_bounded_by_records.Statement as separationEntryTheorem
+use Rattle.records.proofs.Claims.measure_parallel_density_profile_bounded_by_records.Kinds as densityEntryKinds
+use Rattle.records.proofs.Claims.measure_parallel_density_profile_bounded_by_records.Reads as densityEntryReads
+use Rattle.records.proofs.measure_parallel_density_profile_bounded_by_records.Statement as densityEntryTheorem
+use Rattle.records.proofs.Claims.measure_parallel_congestion_profile_bounded_by_records.Kinds as profileEntryKinds
+use Rattle.records.proofs.Claims.measure_parallel_congestion_profile_bounded_by_records.Reads as profileEntryReads
+use Rattle.records.proofs.measure_parallel_congestion_profile_bounded_by_records.Statement as profileEntryTheorem
+use Rattle.records.proofs.Claims.measure_parallel_congestion_by_records.Kinds as congestionEntryKinds
+use Rattle.records.proofs.Claims.measure_parallel_congestion_by_records.Reads as congestionEntryReads
+use Rattle.records.proofs.measure_parallel_congestion_by_records.Statement as congestionEntryTheorem
+use Rattle.records.specs.Records.{parallelColumns, edgeNodeColumns, columnsOf}
 use Rattle.readability.specs.Measures.{Says, clearance, separation, density, profile, congestion}
 
 -- a function of n lifetimes with these parameters and this result; `Asked` is what it asks of a caller, `Learnt` what a caller knows after the call, and `theorem` what is proved of its code
@@ -60,3 +79,21 @@ pub record Contracts : Type 2 where
   pub of-tight-pair : Contract 12 tightPairKinds.ps tightPairKinds.r tightPairReads.Asked tightPairReads.Learnt tightPairTheorem.statement (λ κs a x e. let b = a .1 .1 .1 .1 .1 in let c = b .1 .1 .1 .1 .1 in
       Answered (segmentColumns (now (a .0)) (now (a .1 .0)) (now (a .1 .1 .0)) (now (a .1 .1 .1 .0)) (now (a .1 .1 .1 .1 .0)))
       (nodeColumns (now (b .0)) (now (b .1 .0)) (now (b .1 .1 .0)) (now (b .1 .1 .1 .0)) (now (b .1 .1 .1 .1 .0))) (exemptionColumns (now (c .0)) (now (c .1 .0))) x)
+  -- ---- the thin entries: "it is called by columns or by a thin entry, where there is one". A list of records stands for columns, and the entry answers what the call by columns answers of them.
+  -- records, id, x, y, width, height, exempt_net, exempt_node, threshold, allowance, scratch
+  pub of-clearance-by-records : Contract 9 clearanceEntryKinds.ps clearanceEntryKinds.r clearanceEntryReads.Asked clearanceEntryReads.Learnt clearanceEntryTheorem.statement (λ κs a x e. let b = a .1 in let c = b .1 .1 .1 .1 .1 in
+      Says clearance (record {
+        segments = edgeNodeColumns (now (a .0));
+        nodes = nodeColumns (now (b .0)) (now (b .1 .0)) (now (b .1 .1 .0)) (now (b .1 .1 .1 .0)) (now (b .1 .1 .1 .1 .0));
+        exemptions = exemptionColumns (now (c .0)) (now (c .1 .0));
+      }) (c .1 .1 .0) (c .1 .1 .1 .0) (now (c .1 .1 .1 .1 .0)) x (now (e .1 .1 .1 .1 .1 .1 .1 .1 .1 .1 .0)))
+  -- records, allowance, scratch
+  pub of-separation-by-records : Contract 2 separationEntryKinds.ps separationEntryKinds.r separationEntryReads.Asked separationEntryReads.Learnt separationEntryTheorem.statement (λ κs a x e. Says separation (parallelColumns (now (a .0))) tt (a .1 .0) (now (a .1 .1 .0)) x (now (e .1 .1 .0)))
+  -- records, cutoff, allowance, scratch
+  pub of-density-by-records : Contract 2 densityEntryKinds.ps densityEntryKinds.r densityEntryReads.Asked densityEntryReads.Learnt densityEntryTheorem.statement (λ κs a x e. Says density (parallelColumns (now (a .0))) (a .1 .0) (a .1 .1 .0) (now (a .1 .1 .1 .0)) x (now (e .1 .1 .1 .0)))
+  pub of-profile-by-records : Contract 2 profileEntryKinds.ps profileEntryKinds.r profileEntryReads.Asked profileEntryReads.Learnt profileEntryTheorem.statement (λ κs a x e. Says profile (parallelColumns (now (a .0))) (a .1 .0) (a .1 .1 .0) (now (a .1 .1 .1 .0)) x (now (e .1 .1 .1 .0)))
+  -- records, cutoff, scratch: no allowance
+  pub of-congestion-by-records : Contract 2 congestionEntryKinds.ps congestionEntryKinds.r congestionEntryReads.Asked congestionEntryReads.Learnt congestionEntryTheorem.statement (λ κs a x e. Says congestion (parallelColumns (now (a .0))) (a .1 .0) tt (now (a .1 .1 .0)) x (now (e .1 .1 .0)))
+  -- the columns of a list of entries stand for that list, so lists of records in two orders are drawings in two orders, and so is one of records and one of columns; and refusal 2 does not arise for them
+  pub stand-for : (l : List Segment) → segments (columnsOf l) ≡ l
+  pub never-differ : (l : List Segment) → segmentsDiffer (columnsOf l) ≡ false

@@ -37,5 +37,5 @@ pub record Refusing (m : Measure) : Type 0 where
 
 pub record Demand1 : Type 2 where
   pub of-each : (call : Call) → Refusing (measured call)
-  -- "every call ends, for all inputs, with no condition laid on its caller": of the six functions themselves, with the equations that make a call a `Run`
+  -- "every call ends, for all inputs, with no condition laid on its caller": of the functions themselves, the six by columns and the five by records, with the equations that make a call a `Run`
   pub calls : Contracts

@@ -1,4 +1,4 @@
--- Demand 3, over the five measures. `proofs/Demand3.antt` proves `Demand3`.
+-- Demand 3, over the five measures. A run is a call by columns or by records, so any two calls may be one of each. `proofs/Demand3.antt` proves `Demand3`.
 use mathlib.Core.Path.{_≡_}
 use mathlib.Core.Logic.{_⊎_, _↔_}
 use mathlib.Core.Bool.{true, false, cond}

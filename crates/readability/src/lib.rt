@@ -1,4 +1,4 @@
-// The measures of a drawing under the Rust's names, each from the crate that has it. What is promised of them is in specs/: Demand1, Demand2, Demand3, TightPair and Marked.
+// The measures of a drawing under the Rust's names, each from the crate that has it. By columns a call has the Rust's name alone; the thin entries, whose names end in `_by_records`, take the Rust's list of records. What is promised of them is in specs/: Demand1, Demand2, Demand3, TightPair and Marked.
 pub use clearance::ClearanceAnswer;
 pub use clearance::EdgeNodeClearance;
 pub use clearance::TightPair;
@@ -13,6 +13,13 @@ pub use congestion::measure_parallel_density_profile_bounded;
 pub use drawing::Gap;
 pub use drawing::Refusal;
 pub use drawing::number;
+pub use records::EdgeNodeSegment;
+pub use records::ParallelSegment;
+pub use records::measure_edge_node_clearance_bounded_by_records;
+pub use records::measure_parallel_congestion_by_records;
+pub use records::measure_parallel_congestion_profile_bounded_by_records;
+pub use records::measure_parallel_density_profile_bounded_by_records;
+pub use records::measure_parallel_separation_bounded_by_records;
 pub use separation::ParallelSeparation;
 pub use separation::SeparationAnswer;
 pub use separation::measure_parallel_separation_bounded;

@@ -10,12 +10,14 @@ use Rattle.laws.proofs.Parts.{tail-back, tail-lent}
 use Rattle.drawing.specs.Entries.{SegmentColumns, segments}
 use Rattle.drawing.specs.Lengths.{SegmentsAgree}
 use Rattle.rows.specs.Rows.{oriented}
+use Rattle.rows.specs.Placed.{rowCount, rowsPlaced}
 use Rattle.rows.specs.Tables.{Orderable, RowsOrdered}
 use Rattle.rows.proofs.Oriented.{oriented-few}
+use Rattle.rows.proofs.RowTables.{rows-placed}
 
 -- e is what the words behind became
 module _ (s e : List ℕ) (o n : ℕ) (c : SegmentColumns) (agree : SegmentsAgree c) (room : 21 * length (c .net) ≤ length s)
-    (orders : Orderable c (length (midOf (16 * length (c .net)) (length s - 16 * length (c .net)) s)) → (n ≡ length (oriented o (segments c))) × RowsOrdered (oriented o (segments c)) (length (c .net)) e) where
+    (orders : (n ≡ rowCount o c (length (midOf (16 * length (c .net)) (length s - 16 * length (c .net)) s))) × (e ≡ rowsPlaced o c (midOf (16 * length (c .net)) (length s - 16 * length (c .net)) s))) where
   abbrev from : ℕ
   from = 16 * length (c .net)
 
@@ -25,8 +27,11 @@ module _ (s e : List ℕ) (o n : ℕ) (c : SegmentColumns) (agree : SegmentsAgre
   orderable : Orderable c (length (midOf from (length s - from) s))
   orderable = record { agree = agree; room = omega (arith, lent) }
 
+  placed : (n ≡ length (oriented o (segments c))) × RowsOrdered (oriented o (segments c)) (length (c .net)) e
+  placed = rows-placed o c (midOf from (length s - from) s) orderable e n orders
+
   pub rows-count : n ≡ length (oriented o (segments c))
-  rows-count = orders orderable .0
+  rows-count = placed .0
 
   pub rows-few : n ≤ length (c .net)
   rows-few = omega (arith, rows-count, oriented-few o c agree)
@@ -36,7 +41,7 @@ module _ (s e : List ℕ) (o n : ℕ) (c : SegmentColumns) (agree : SegmentsAgre
     front-length = length-take-le from s (omega arith)
 
     pub rows-behind : RowsOrdered (oriented o (segments c)) (length (c .net)) (drop from (putMid from (length s - from) s e))
-    rows-behind = subst (RowsOrdered (oriented o (segments c)) (length (c .net))) (sym (ap (drop from) (tail-back from s e (omega arith)) ∙ drop-at (take from s) e from front-length)) (orders orderable .1)
+    rows-behind = subst (RowsOrdered (oriented o (segments c)) (length (c .net))) (sym (ap (drop from) (tail-back from s e (omega arith)) ∙ drop-at (take from s) e from front-length)) (placed .1)
 
     pub rows-kept : length (putMid from (length s - from) s e) ≡ length s
     rows-kept =

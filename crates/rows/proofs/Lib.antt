@@ -2,7 +2,8 @@
 pub mod Oriented
 pub mod ColumnParts
 pub mod LentRows
--- what the functions' proofs lean on
+-- what the functions' proofs lean on, and what callers use of their equations
+pub mod Pastes
 pub mod RowTables
 pub mod SpreadTables
 pub mod EventTables

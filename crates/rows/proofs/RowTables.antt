@@ -1,27 +1,26 @@
 -- The rows of one orientation are gathered in a table and put in order. Assumes nothing.
-use mathlib.Core.Path.{_≡_, refl, sym, ap, _∙_, subst}
-use mathlib.Core.Logic.{inl, inr}
-use mathlib.Core.Bool.{Bool, true, false}
-use mathlib.Core.List.{List, [], _∷_, _++_, append-nil, map}
-use Prim.Native.Nat.{ℕ, suc, _+_, _*_, _/_, _≤_, _<_}
+use mathlib.Core.Path.{_≡_, refl, sym, ap, _∙_}
+use mathlib.Core.Bool.{Bool, true, false, not, _&&_, and-false}
+use mathlib.Core.List.{List, [], _∷_, _++_, append-assoc, append-nil, map}
+use Prim.Native.Nat.{ℕ, zero, suc, _+_, _*_, _/_, _≤_, _<_}
 use native.Mathlib.Numerals.{add-one}
 use native.Mathlib.Omega.{arith}
-use borrow.Author.Tests.{eq-eqb, ne-eqb}
+use borrow.Author.Tests.{eq-eqb, ne-eqb, le-leb, lt-leb}
 use lib.Dec.{eqb}
-use lib.ListN.{length, getD, set, take, drop, length-append, List·getD-append}
-use lib.Seq.{paste, sets-eq, length-paste, take-suc, take-all, drop-drop, getD-append-add, getD-take, length-take-le}
+use lib.ListN.{length, getD, set, take, drop, length-append}
+use lib.Seq.{paste, paste-zero, sets-eq, length-paste, take-at, drop-at, take-suc, take-all, drop-drop, getD-take, length-take-le}
 use Rattle.laws.specs.Lists.{chosen, put}
 use Rattle.laws.specs.Sort.{sortBy}
-use Rattle.laws.proofs.Tests.{clash, le-or-lt}
+use Rattle.laws.proofs.Tests.{cond-true, cond-false}
 use Rattle.laws.proofs.ListLaws.{mem-all, chosen-append}
 use Rattle.laws.proofs.Folds.{count-chosen, count-at-most}
 use Rattle.laws.proofs.Places.{first-at}
-use Rattle.laws.proofs.Parts.{drop-past}
+use Rattle.laws.proofs.Parts.{drop-past, part-same}
 use Rattle.laws.proofs.Perms.{perm-length}
 use Rattle.laws.proofs.Sorting.{sort-perm}
 use Rattle.sorting.specs.Sorted.{upTo, sorted}
 use Rattle.sorting.proofs.Entries.{Ordered, all-ordered, sorted-entries, upTo-below, upTo-entries}
-use Rattle.sorting.proofs.Tables.{row-kept, row-there}
+use Rattle.sorting.proofs.Tables.{row-there}
 use Rattle.floats.specs.TotalOrder.{keyOf}
 use Rattle.floats.specs.Values.{canonicalZero}
 use Rattle.drawing.specs.Entries.{Segment, SegmentColumns, segments}
@@ -31,20 +30,48 @@ use Rattle.drawing.proofs.EntryLaws.{segmentAt, length-segments, segments-at}
 use Rattle.drawing.proofs.FirstRefusal.{segments-agree}
 use Rattle.drawing.proofs.AnyOrder.{same-segments}
 use Rattle.rows.specs.Rows.{Row, fixedOf, startOf, endOf, rowOf, words, rowsInOrder, oriented}
-use Rattle.rows.specs.Tables.{noRow, rowFrom, Orderable, RowsOrdered, rowsOf, RowsAt, RowAdded, Gathered}
-use Rattle.rows.proofs.Oriented.{words-one, list-order-idle}
+use Rattle.rows.specs.Placed.{rowsOf, allWords, orderable, rowCount, rowsPlaced}
+use Rattle.rows.specs.Tables.{noRow, rowFrom, Orderable, RowsOrdered, RowAdded, Gathered}
+use Rattle.rows.proofs.Oriented.{words-one, list-order-idle, oriented-few}
 use Rattle.rows.proofs.ColumnParts.{getD-map}
+use Rattle.rows.proofs.Pastes.{paste-behind}
 
 -- ---- what is tested before any work
-module _ (c : SegmentColumns) (m : ℕ) where
-  pub orderable : segmentsDiffer c ≡ false → length (c .net) ≤ m / 5 → Orderable c m
-  orderable e h = record { agree = segments-agree c e; room = omega arith }
+pub to-order : (c : SegmentColumns) (m : ℕ) → segmentsDiffer c ≡ false → length (c .net) ≤ m / 5 → Orderable c m
+to-order c m e h = record { agree = segments-agree c e; room = omega arith }
 
-  pub unequal : segmentsDiffer c ≡ true → Orderable c m → ⊥
-  unequal e o = clash (segmentsDiffer c) e (same-segments c (o .agree))
+module _ (o : ℕ) (c : SegmentColumns) (s : List ℕ) where
+  abbrev k : List Row
+  k = rowsOf o (segments c)
 
-  pub short : m / 5 < length (c .net) → Orderable c m → ⊥
-  short h o = omega (arith, o .room)
+  abbrev whole : List ℕ
+  whole = sorted (upTo (length k) ++ drop (length k) (paste s (length (c .net)) (allWords k) (4 * length k))) (length k) (length (c .net)) 4
+
+  -- nothing is done where the columns differ or the slice is short
+  refused : orderable c (length s) ≡ false → (0 ≡ rowCount o c (length s)) × (s ≡ rowsPlaced o c s)
+  unfolding rowCount rowsPlaced
+  refused e = (sym (cond-false (orderable c (length s)) (length k) 0 e), sym (cond-false (orderable c (length s)) whole s e))
+
+  pub unequal : segmentsDiffer c ≡ true → (0 ≡ rowCount o c (length s)) × (s ≡ rowsPlaced o c s)
+  unfolding orderable
+  unequal e = refused (rw e)
+
+  pub short : length s / 5 < length (c .net) → (0 ≡ rowCount o c (length s)) × (s ≡ rowsPlaced o c s)
+  unfolding orderable
+  short h = refused (ap (λ (b : Bool). not (segmentsDiffer c) && b) (lt-leb (5 * length (c .net)) (length s) (omega arith)) ∙ and-false (not (segmentsDiffer c)))
+
+  module _ (h : Orderable c (length s)) where
+    passed : orderable c (length s) ≡ true
+    unfolding orderable
+    passed = rw (same-segments c (h .agree)) (le-leb (5 * length (c .net)) (length s) (h .room))
+
+    count-is : rowCount o c (length s) ≡ length k
+    unfolding rowCount
+    count-is = cond-true (orderable c (length s)) (length k) 0 passed
+
+    placed-is : rowsPlaced o c s ≡ whole
+    unfolding rowsPlaced
+    placed-is = cond-true (orderable c (length s)) whole s passed
 
 -- ---- one row
 words-wide : (r : Row) → length (words r) ≡ 4
@@ -60,6 +87,38 @@ four-stores s at line start end net r h a b c d =
     let three : at + 3 ≡ suc (suc (suc at)) = omega arith in
     (λ i. set (set (set (set s at (a i)) (one i) (b i)) (two i) (c i)) (three i) (d i)) ∙ sets-eq (r .line ∷ r .start ∷ r .end ∷ r .net ∷ []) s at h
 
+-- ---- the words of rows
+words-long : (l : List Row) → length (allWords l) ≡ 4 * length l
+unfolding allWords
+words-long [] = refl
+words-long (r ∷ l) = omega (arith, length-append (words r) (allWords l), words-wide r, words-long l)
+
+words-append : (l r : List Row) → allWords (l ++ r) ≡ allWords l ++ allWords r
+unfolding allWords
+words-append [] r = refl
+words-append (x ∷ l) r = ap (λ (z : List ℕ). words x ++ z) (words-append l r) ∙ sym (append-assoc (words x) (allWords l) (allWords r))
+
+words-at : (l : List Row) (i : ℕ) → i < length l → take 4 (drop (4 * i) (allWords l)) ≡ words (rowFrom l i)
+unfolding allWords
+words-at [] i h = absurd (omega arith)
+words-at (x ∷ l) zero h = take-at (words x) (allWords l) 4 (words-wide x)
+words-at (x ∷ l) (suc i) h =
+    let e : 4 * suc i ≡ 4 + 4 * i = omega arith in
+    ap (λ (j : ℕ). take 4 (drop j (words x ++ allWords l))) e
+    ∙ ap (take 4) (sym (drop-drop (4 * i) 4 (words x ++ allWords l)) ∙ ap (drop (4 * i)) (drop-at (words x) (allWords l) 4 (words-wide x)))
+    ∙ words-at l i (omega arith)
+
+-- s has these rows in a table from word t on
+record RowsAt (t : ℕ) (l : List Row) (s : List ℕ) : Type 0 where
+  pub rows : (i : ℕ) → i < length l → take 4 (drop (t + 4 * i) s) ≡ words (rowFrom l i)
+
+rows-at : (t : ℕ) (l : List Row) (s r : List ℕ) → t + 4 * length l ≤ length s → r ≡ paste s t (allWords l) (4 * length l) → RowsAt t l r
+rows-at t l s r h e = record {
+  rows = λ i b.
+      let there : take (4 * length l) (drop t r) ≡ take (4 * length l) (allWords l) = row-there s r (allWords l) t (4 * length l) h (words-long l) e ∙ sym (take-all (4 * length l) (allWords l) (omega (arith, words-long l))) in
+      ap (take 4) (sym (drop-drop (4 * i) t r)) ∙ part-same (4 * i) 4 (4 * length l) (drop t r) (allWords l) there (omega arith) ∙ words-at l i b;
+}
+
 -- the row that a segment adds to those of orientation o
 rows-none : (o : ℕ) (x : Segment) → (x .orientation ≡ o → ⊥) → rowsOf o (x ∷ []) ≡ []
 unfolding chosen
@@ -70,43 +129,24 @@ unfolding chosen
 rows-one o x h = ap (λ (b : Bool). put b (rowOf x) []) (eq-eqb (x .orientation) o h)
 
 pub row-passed : (t n o : ℕ) (x : Segment) (s : List ℕ) → (x .orientation ≡ o → ⊥) → RowAdded t n o x s s n
+unfolding allWords
 row-passed t n o x s h =
     let e = rows-none o x h in
     record {
       same = refl;
       count = omega (arith, ap length e);
-      rows = λ l q r. subst (λ (k : List Row). RowsAt t k s) (sym (ap (λ (k : List Row). l ++ k) e ∙ append-nil l)) r;
+      is = paste-zero s (t + 4 * n) [] ∙ sym (ap (λ (l : List Row). paste s (t + 4 * n) (allWords l) (4 * length l)) e);
     }
-
--- a table of rows with one more behind them
-table-more : (t : ℕ) (s r : List ℕ) (l : List Row) (x : Row) → RowsAt t l s → t + 4 * length l + 4 ≤ length s → r ≡ paste s (t + 4 * length l) (words x) 4 → RowsAt t (l ++ x ∷ []) r
-table-more t s r l x u h e = record {
-  rows = λ i b. elim (le-or-lt (length l) i) [
-    | inr low ↦
-        row-kept s r (words x) (t + 4 * length l) 4 h (words-wide x) e (t + 4 * i) 4 (omega arith)
-        ∙ u .rows i low
-        ∙ ap words (sym (List·getD-append l (x ∷ []) noRow i low))
-    | inl high ↦
-        let last : i ≡ length l = omega (arith, length-append l (x ∷ [])) in
-        let zero : length l + 0 ≡ length l = omega arith in
-        let there : getD (l ++ x ∷ []) (length l) noRow ≡ x = ap (λ (k : ℕ). getD (l ++ x ∷ []) k noRow) (sym zero) ∙ getD-append-add l (x ∷ []) 0 noRow in
-        ap (λ (k : ℕ). take 4 (drop (t + 4 * k) r)) last
-        ∙ row-there s r (words x) (t + 4 * length l) 4 h (words-wide x) e
-        ∙ ap words (sym (ap (λ (k : ℕ). rowFrom (l ++ x ∷ []) k) last ∙ there))
-  ];
-}
 
 pub row-added : (t n o : ℕ) (x : Segment) (s r : List ℕ) → x .orientation ≡ o → t + 4 * n + 4 ≤ length s
     → r ≡ paste s (t + 4 * n) (words (record { net = x .net; line = keyOf (canonicalZero (x .fixed)); start = keyOf (canonicalZero (x .start)); end = keyOf (canonicalZero (x .end)) })) 4 → RowAdded t n o x s r (n + 1)
-unfolding rowOf fixedOf startOf endOf
+unfolding rowOf fixedOf startOf endOf allWords
 row-added t n o x s r h room e =
     let one = rows-one o x h in
     record {
       same = ap length e ∙ length-paste s (t + 4 * n) (words (rowOf x)) 4 room (omega (arith, words-wide (rowOf x)));
       count = omega (arith, ap length one);
-      rows = λ l q u.
-          let to : RowsAt t (l ++ rowOf x ∷ []) r = table-more t s r l (rowOf x) u (rw q room) (rw q e) in
-          subst (λ (k : List Row). RowsAt t (l ++ k) r) (sym one) to;
+      is = e ∙ ap (λ (w : List ℕ). paste s (t + 4 * n) w 4) (sym (append-nil (words (rowOf x)))) ∙ sym (ap (λ (l : List Row). paste s (t + 4 * n) (allWords l) (4 * length l)) one);
     }
 
 -- ---- all rows of one orientation: after i segments there are n
@@ -115,14 +155,14 @@ pub record Gathering (t o : ℕ) (c : SegmentColumns) (s r : List ℕ) (n i : �
   pub same : length r ≡ length s
   pub few : n ≤ i
   pub count : n ≡ length (rowsOf o (take i (segments c)))
-  pub rows : RowsAt t (rowsOf o (take i (segments c))) r
+  pub is : r ≡ paste s t (allWords (rowsOf o (take i (segments c)))) (4 * n)
 
 pub gather-none : (t o : ℕ) (c : SegmentColumns) (s : List ℕ) → Gathering t o c s s 0 0
 unfolding chosen
-gather-none t o c s = record { small = omega arith; same = refl; few = omega arith; count = refl; rows = record { rows = λ i h. absurd (omega arith) } }
+gather-none t o c s = record { small = omega arith; same = refl; few = omega arith; count = refl; is = paste-zero s t (allWords []) }
 
-pub gather-next : (t o : ℕ) (c : SegmentColumns) (s r q : List ℕ) (n m i : ℕ) → SegmentsAgree c → Gathering t o c s r n i → i < length (c .net) → RowAdded t n o (segmentAt c i) r q m → Gathering t o c s q m (i + 1)
-gather-next t o c s r q n m i a g h u =
+pub gather-next : (t o : ℕ) (c : SegmentColumns) (s r q : List ℕ) (n m i : ℕ) → SegmentsAgree c → t + 4 * length (c .net) ≤ length s → Gathering t o c s r n i → i < length (c .net) → RowAdded t n o (segmentAt c i) r q m → Gathering t o c s q m (i + 1)
+gather-next t o c s r q n m i a room g h u =
     let x = segmentAt c i in
     let own : Segment → Bool = λ z. eqb (z .orientation) o in
     let l = rowsOf o (take i (segments c)) in
@@ -137,7 +177,10 @@ gather-next t o c s r q n m i a g h u =
       same = u .same ∙ g .same;
       few = omega (arith, u .count, g .few);
       count = omega (arith, u .count, g .count, ap length all, length-append l (rowsOf o (x ∷ [])));
-      rows = subst (λ (k : List Row). RowsAt t k q) (sym all) (u .rows l (sym (g .count)) (g .rows));
+      is =
+          let y = rowsOf o (x ∷ []) in
+          paste-behind s r q (allWords l) (allWords y) t (4 * n) (4 * length y) (4 * m) (omega (arith, u .count)) (omega (arith, u .count, g .few)) (omega (arith, words-long l, g .count)) (words-long y) (g .is) (u .is)
+          ∙ ap (λ (w : List ℕ). paste s t w (4 * m)) (sym (words-append l y) ∙ ap allWords (sym all));
     }
 
 pub gather-all : (t o : ℕ) (c : SegmentColumns) (s r : List ℕ) (n i : ℕ) → SegmentsAgree c → Gathering t o c s r n i → length (c .net) ≤ i → Gathered t o c s r n
@@ -147,7 +190,7 @@ gather-all t o c s r n i a g h =
       same = g .same;
       few = omega (arith, g .few, g .small);
       count = g .count ∙ ap (λ (l : List Segment). length (rowsOf o l)) all;
-      rows = subst (λ (l : List Segment). RowsAt t (rowsOf o l) r) all (g .rows);
+      is = g .is ∙ ap (λ (l : List Segment). paste s t (allWords (rowsOf o l)) (4 * n)) all;
     }
 
 -- ---- in order
@@ -180,13 +223,27 @@ module _ (k l : List Row) (t : ℕ) (s o : List ℕ) (is : l ≡ sortBy rowsInOr
             ap (take 4) (drop-past (length k) (t + 4 * i) o s (h .rest) (omega arith)) ∙ u .rows i (small j b) ∙ ap words (row j b);
       }
 
--- r has the rows, q is r with all places in front, and p is q with the places in order
-pub rows-in-order : (o : ℕ) (c : SegmentColumns) (s r q p : List ℕ) (n : ℕ) → 5 * length (c .net) ≤ length s → Gathered (length (c .net)) o c s r n → q ≡ upTo n ++ drop n r → p ≡ sorted q n (length (c .net)) 4
-    → (n ≡ length (oriented o (segments c))) × RowsOrdered (oriented o (segments c)) (length (c .net)) p
-rows-in-order o c s r q p n room g e f =
-    let k = rowsOf o (segments c) in
-    let t = length (c .net) in
-    let is : oriented o (segments c) ≡ sortBy rowsInOrder k = list-order-idle o (segments c) in
-    let few : length k ≤ t = omega (arith, g .few, g .count) in
-    let h : Ordered r n t 4 p = all-ordered r q p n t 4 (g .few) (omega (arith, g .few, g .same)) e f in
-    (g .count ∙ sym (ap length is ∙ perm-length (sort-perm rowsInOrder k)), rows-ordered k (oriented o (segments c)) t r p is (g .rows) (subst (λ (m : ℕ). Ordered r m t 4 p) (g .count) h) few (omega (arith, g .same)))
+module _ (o : ℕ) (c : SegmentColumns) (s : List ℕ) (orders : Orderable c (length s)) where
+  -- r has the rows, q is r with all places in front, and p is q with the places in order
+  pub rows-done : (r q p : List ℕ) (n : ℕ) → Gathered (length (c .net)) o c s r n → q ≡ upTo n ++ drop n r → p ≡ sorted q n (length (c .net)) 4 → (n ≡ rowCount o c (length s)) × (p ≡ rowsPlaced o c s)
+  rows-done r q p n g e f =
+      let t = length (c .net) in
+      let w = allWords (rowsOf o (segments c)) in (
+        g .count ∙ sym (count-is o c s orders),
+        f ∙ ap (λ (l : List ℕ). sorted l n t 4) (e ∙ ap (λ (l : List ℕ). upTo n ++ drop n l) (g .is)) ∙ ap (λ (m : ℕ). sorted (upTo m ++ drop m (paste s t w (4 * m))) m t 4) (g .count) ∙ sym (placed-is o c s orders),
+      )
+
+  -- what callers use
+  pub rows-placed : (p : List ℕ) (n : ℕ) → (n ≡ rowCount o c (length s)) × (p ≡ rowsPlaced o c s) → (n ≡ length (oriented o (segments c))) × RowsOrdered (oriented o (segments c)) (length (c .net)) p
+  rows-placed p n h =
+      let k = rowsOf o (segments c) in
+      let m = length k in
+      let t = length (c .net) in
+      let r = paste s t (allWords k) (4 * m) in
+      let is : oriented o (segments c) ≡ sortBy rowsInOrder k = list-order-idle o (segments c) in
+      let many : length (oriented o (segments c)) ≡ m = ap length is ∙ perm-length (sort-perm rowsInOrder k) in
+      let few : m ≤ t = omega (arith, many, oriented-few o c (orders .agree)) in
+      let room : t + 4 * m ≤ length s = omega (arith, orders .room) in
+      let same : length r ≡ length s = length-paste s t (allWords k) (4 * m) room (omega (arith, words-long k)) in
+      let order : Ordered r m t 4 p = all-ordered r (upTo m ++ drop m r) p m t 4 few (omega arith) refl (h .1 ∙ placed-is o c s orders) in
+      (h .0 ∙ count-is o c s orders ∙ sym many, rows-ordered k (oriented o (segments c)) t r p is (rows-at t k s r room refl) order few (omega arith))

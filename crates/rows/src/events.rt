@@ -1,15 +1,12 @@
 // The events of one orientation's rows, put in order.
 ghost use mathlib.Core.Path.{_≡_};
-ghost use Prim.Native.Nat.{_*_, _≤_, _<_};
-ghost use lib.ListN.{length};
-ghost use Rattle.rows.specs.Tables.{EventsOrdered};
+ghost use Rattle.rows.specs.Placed.{eventsPlaced};
 use sorting::fill_places;
 use sorting::sort_indices;
 
 // Event j < n is the end of row j, event n + j its start; the keys of both stand from word 2 n on, in this order. Ties go by the number, so that ends come before starts at one coordinate, and then by the index. A slice that is too short for numbers and keys stays as it is.
 pub fn order_events(s: &mut [u64], n: usize)
-    ensures ordered { λ _. ⌜ (4 * n ≤ length (now (s .entry)) → EventsOrdered n (now (s .entry)) (now (s .exit))) ⌝ }
-    ensures refused { λ _. ⌜ (length (now (s .entry)) < 4 * n → now (s .exit) ≡ now (s .entry)) ⌝ }
+    ensures { λ _. ⌜ now (s .exit) ≡ eventsPlaced n (now (s .entry)) ⌝ }
 {
     if s.len() / 4 < n {
         return;

@@ -1,14 +1,14 @@
 // The segments of one orientation as rows of four words, put in the Rust's own order and spread over columns.
 ghost use mathlib.Core.Path.{_≡_};
-ghost use mathlib.Core.List.{List};
 ghost use Prim.Native.Nat.{_+_, _*_, _≤_, _<_};
 ghost use lib.ListN.{length, drop};
 ghost use lib.Seq.{paste};
 ghost use Rattle.floats.specs.TotalOrder.{keyOf};
 ghost use Rattle.floats.specs.Values.{canonicalZero};
-ghost use Rattle.drawing.specs.Entries.{segmentColumns, segments};
-ghost use Rattle.rows.specs.Rows.{Row, words, oriented};
-ghost use Rattle.rows.specs.Tables.{Orderable, RowsOrdered, Spreadable, Spread, RowAdded, Gathered, ColumnSpread};
+ghost use Rattle.drawing.specs.Entries.{segmentColumns};
+ghost use Rattle.rows.specs.Rows.{words};
+ghost use Rattle.rows.specs.Placed.{rowCount, rowsPlaced, rowColumn, rowsSpread};
+ghost use Rattle.rows.specs.Tables.{Orderable, Spreadable, RowAdded, Gathered};
 use drawing::segments_differ;
 use floats::canonical_zero;
 use floats::key_of;
@@ -96,8 +96,8 @@ pub fn order_rows(
     start: &[f64],
     end: &[f64],
 ) -> usize
-    ensures ordered { λ r. ⌜ (Orderable (segmentColumns (now (net .entry)) (now (orientation .entry)) (now (fixed .entry)) (now (start .entry)) (now (end .entry))) (length (now (p .entry))) → (r ≡ length (oriented wanted (segments (segmentColumns (now (net .entry)) (now (orientation .entry)) (now (fixed .entry)) (now (start .entry)) (now (end .entry)))))) × RowsOrdered (oriented wanted (segments (segmentColumns (now (net .entry)) (now (orientation .entry)) (now (fixed .entry)) (now (start .entry)) (now (end .entry))))) (length (now (net .entry))) (now (p .exit))) ⌝ }
-    ensures refused { λ r. ⌜ ((Orderable (segmentColumns (now (net .entry)) (now (orientation .entry)) (now (fixed .entry)) (now (start .entry)) (now (end .entry))) (length (now (p .entry))) → ⊥) → (r ≡ 0) × (now (p .exit) ≡ now (p .entry))) ⌝ }
+    ensures { λ r. ⌜ r ≡ rowCount wanted (segmentColumns (now (net .entry)) (now (orientation .entry)) (now (fixed .entry)) (now (start .entry)) (now (end .entry))) (length (now (p .entry))) ⌝ }
+    ensures { λ _. ⌜ now (p .exit) ≡ rowsPlaced wanted (segmentColumns (now (net .entry)) (now (orientation .entry)) (now (fixed .entry)) (now (start .entry)) (now (end .entry))) (now (p .entry)) ⌝ }
 {
     if segments_differ(net, orientation, fixed, start, end) {
         return 0;
@@ -114,7 +114,7 @@ pub fn order_rows(
 // One word of each row, in the order of the rows, from word `to` on. The places of the rows stand from word `from` on, their table `table` words further on.
 fn spread_column(s: &mut [u64], n: usize, from: usize, table: usize, word: usize, to: usize)
     requires { ⌜ Spreadable n from table (now s) × (word < 4) × (to + n ≤ from) ⌝ }
-    ensures { λ _. ⌜ ColumnSpread n from table word to (now (s .entry)) (now (s .exit)) ⌝ }
+    ensures { λ _. ⌜ now (s .exit) ≡ paste (now (s .entry)) to (rowColumn n table word (drop from (now (s .entry)))) n ⌝ }
 {
     let mut j = 0;
     while j < n {
@@ -127,8 +127,7 @@ fn spread_column(s: &mut [u64], n: usize, from: usize, table: usize, word: usize
 
 // The ordered rows column by column: the nets, the lines, the starts and the ends. The last column is written first, so that behind each one nothing changes any more. A slice that has no room for the columns, or not the whole row of every place, stays as it is.
 pub fn spread_rows(s: &mut [u64], n: usize, from: usize, table: usize)
-    ensures spread { λ _. ⌜ (Spreadable n from table (now (s .entry)) → (l : List Row) → length l ≡ n → RowsOrdered l table (drop from (now (s .entry))) → Spread l (now (s .exit))) ⌝ }
-    ensures refused { λ _. ⌜ ((Spreadable n from table (now (s .entry)) → ⊥) → now (s .exit) ≡ now (s .entry)) ⌝ }
+    ensures { λ _. ⌜ now (s .exit) ≡ rowsSpread n from table (now (s .entry)) ⌝ }
 {
     if from / 6 < n {
         return;

@@ -11,7 +11,8 @@ use Rattle.laws.specs.Charged.{within}
 use Rattle.drawing.specs.declared.gap.Gap.the-variants.{Absent}
 use Rattle.drawing.specs.Entries.{SegmentColumns, segments}
 use Rattle.rows.specs.Rows.{Row, rowsInOrder, oriented}
-use Rattle.rows.specs.Tables.{Orderable, RowsOrdered}
+use Rattle.rows.specs.Placed.{rowCount, rowsPlaced}
+use Rattle.rows.specs.Tables.{RowsOrdered}
 use Rattle.rows.proofs.Oriented.{oriented-sorted}
 use Rattle.rows.proofs.LentRows.{rows-count, rows-few, rows-behind, rows-kept}
 use Rattle.separation.specs.declared.sweep.Swept.{Swept}
@@ -24,7 +25,7 @@ use Rattle.separation.proofs.Allowances.{along-few, along-more}
 
 -- e is what the words behind the first 16 for each segment became when the rows were ordered there
 module _ (s e : List ℕ) (o n : ℕ) (c : SegmentColumns) (a : AtColumns (length s) o c)
-    (ordered : Orderable c (length (midOf (16 * length (c .net)) (length s - 16 * length (c .net)) s)) → (n ≡ length (oriented o (segments c))) × RowsOrdered (oriented o (segments c)) (length (c .net)) e) where
+    (ordered : (n ≡ rowCount o c (length (midOf (16 * length (c .net)) (length s - 16 * length (c .net)) s))) × (e ≡ rowsPlaced o c (midOf (16 * length (c .net)) (length s - 16 * length (c .net)) s))) where
   abbrev l : List Row
   l = oriented o (segments c)
 

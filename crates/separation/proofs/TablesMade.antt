@@ -15,9 +15,11 @@ use Rattle.laws.proofs.Tests.{le-or-lt}
 use Rattle.laws.proofs.ListLaws.{mem-all, mem-map}
 use Rattle.laws.proofs.Parts.{drop-past}
 use Rattle.rows.specs.Rows.{Row, rowsInOrder}
-use Rattle.rows.specs.Tables.{eventFrom, column, RowsOrdered, Spreadable, Spread, EventsOrdered}
+use Rattle.rows.specs.Placed.{rowsSpread, eventsPlaced}
+use Rattle.rows.specs.Tables.{eventFrom, column, RowsOrdered}
 use Rattle.rows.proofs.ColumnParts.{column-same}
-use Rattle.rows.proofs.SpreadTables.{ordered-spreadable}
+use Rattle.rows.proofs.SpreadTables.{Spread, rows-spread}
+use Rattle.rows.proofs.EventTables.{EventsOrdered, events-placed}
 use Rattle.separation.specs.declared.summary.NetSummary.the-variants.{Nothing}
 use Rattle.separation.specs.declared.sweep.Swept.{Swept}
 use Rattle.separation.specs.Lines.{lines, levels}
@@ -71,12 +73,12 @@ module _ (l : List Row) (sorted : Sorted rowsInOrder l) (s₁ s₂ s₃ : List �
 
 -- the same for n rows
 module _ (n from table : ℕ) (s s₁ s₂ s₃ : List ℕ) (many : ℕ) (a : AtRows s n from table) (same : length s₁ ≡ length s)
-    (spread-of : Spreadable n from table s → (l : List Row) → length l ≡ n → RowsOrdered l table (drop from s) → Spread l s₁) (ordered-of : 4 * n ≤ length s₁ → EventsOrdered n s₁ s₂) (numbered : LinesNumbered n s₂ s₃ many) where
+    (spread-is : s₁ ≡ rowsSpread n from table s) (ordered-is : s₂ ≡ eventsPlaced n s₁) (numbered : LinesNumbered n s₂ s₃ many) where
   spread : (l : List Row) → length l ≡ n → RowsOrdered l table (drop from s) → Spread l s₁
-  spread = spread-of (ordered-spreadable (a .l) n from table s (sym (a .size)) (a .ordered) (omega (arith, a .front)) (a .apart) (a .room))
+  spread = rows-spread n from table s s₁ spread-is (omega (arith, a .front)) (a .apart) (a .room)
 
   ordered : EventsOrdered n s₁ s₂
-  ordered = ordered-of (omega (arith, a .room))
+  ordered = events-placed s₁ n s₂ ordered-is (omega (arith, a .room))
 
   pub at-rows-slottable : length s₃ ≡ length s₁ → Slottable n s₃
   at-rows-slottable long =

@@ -2,8 +2,8 @@
 //! every call of that measure.
 
 use crate::{
-    drawing::Drawing,
-    port::{run, run_ratio, scratch_words, Call, Columns, Told, CALLS},
+    drawing::{drawing_d, Drawing, Segment},
+    port::{run, run_by_records, run_ratio, scratch_words, Call, Columns, Told, CALLS},
     random::Random,
     reference::{self, Fed, Run},
     refusals::{before_work, settle},
@@ -224,7 +224,8 @@ impl Tried {
         }
     }
 
-    /// One call: what it tells, and what it leaves in the scratch.
+    /// One call by columns: what it tells, and what it leaves in the scratch;
+    /// and the same of the entry that takes the segments as records.
     fn compare(
         &mut self,
         about: &str,
@@ -255,6 +256,10 @@ impl Tried {
                 "the port's {call}, {about}: the scratch is not as document 01 says"
             ));
         }
+        self.found.extend(
+            differs_by_records(self.call, columns, allowance, words, before, &told, &after)
+                .map(|difference| format!("the port's {call} by records, {about}: {difference}")),
+        );
     }
 
     /// What stands in the scratch before a call: zeros, ones, or anything.
@@ -265,6 +270,92 @@ impl Tried {
             _ => (0..words).map(|_| self.random.word()).collect(),
         }
     }
+}
+
+/// The entry by records against what the call by columns told and left, from
+/// the same scratch; nothing where no records stand for the columns.
+fn differs_by_records(
+    call: Call,
+    columns: &Columns,
+    allowance: u64,
+    words: usize,
+    mut scratch: Vec<u64>,
+    told: &Told,
+    left: &[u64],
+) -> Option<String> {
+    let records = columns.records()?;
+    let by_records = run_by_records(call, &records, columns, allowance, &mut scratch[..words]);
+    if by_records != *told {
+        Some(format!("{by_records:x?}, where by columns it is {told:x?}"))
+    } else if scratch != left {
+        Some("the scratch is not as by columns".to_string())
+    } else {
+        None
+    }
+}
+
+/// Compares the entries by records with the calls by columns at the ends of
+/// what a list may hold, and past them: with scratch enough and one word short,
+/// with every allowance that matters, and for clearance with nodes whose
+/// columns differ too, a refusal that comes before the number of entries.
+pub fn differences_at_sizes() -> Vec<String> {
+    let mut found = Vec::new();
+    for count in [0, 1, 2, 4_095, 4_096, 4_097, 5_000] {
+        let columns = Columns::of(&drawing_of(count));
+        let mut uneven = columns.clone();
+        uneven.width.pop();
+        for call in CALLS {
+            let need = scratch_words(call.measure(), &drawing_of(count));
+            for (lists, words) in [(&columns, need), (&columns, need - 1), (&uneven, need)] {
+                let mut visits = vec![u64::MAX];
+                let (told, _) = from_ones(call, lists, words, u64::MAX);
+                let expected = if count > 4_096 { 3 } else { 0 };
+                if words == need && lists.width.len() == 3 && told.status != expected {
+                    found.push(format!(
+                        "the port's {}, {count} segments: {told:x?}",
+                        call.name()
+                    ));
+                }
+                visits.extend([told.visits(), told.visits().saturating_sub(1), 0]);
+                for allowance in visits {
+                    let (told, left) = from_ones(call, lists, words, allowance);
+                    let ones = vec![u64::MAX; words + GUARDS];
+                    let differs =
+                        differs_by_records(call, lists, allowance, words, ones, &told, &left);
+                    found.extend(differs.map(|difference| {
+                        let call = call.name();
+                        format!("the port's {call} by records, {count} segments: {difference}")
+                    }));
+                }
+            }
+        }
+    }
+    found
+}
+
+/// A call by columns from a scratch of ones: what it tells and leaves.
+fn from_ones(call: Call, columns: &Columns, words: usize, allowance: u64) -> (Told, Vec<u64>) {
+    let mut scratch = vec![u64::MAX; words + GUARDS];
+    let told = run(call, columns, allowance, &mut scratch[..words]);
+    (told, scratch)
+}
+
+/// A fit drawing with so many segments, of both orientations and some nets,
+/// and three nodes.
+fn drawing_of(count: usize) -> Drawing {
+    let mut drawing = drawing_d();
+    let node = drawing.nodes[0];
+    drawing.nodes = vec![node; 3];
+    drawing.segments = (0..count)
+        .map(|place| Segment {
+            net: (place % 7) as u32,
+            orientation: (place % 2) as u8,
+            fixed: (place % 501) as f64,
+            start: (place % 97) as f64,
+            end: (place % 97 + 1 + place % 13) as f64,
+        })
+        .collect();
+    drawing
 }
 
 /// Lengths that no congestion call reports, and some that one does.

@@ -2,7 +2,7 @@
 //! generated ones.
 
 #[cfg(port)]
-use crate::port_sheet::Sheets;
+use crate::{against_port, port_sheet::Sheets};
 use crate::{
     drawing::{drawing_d, Drawing, SHEET_OF_D},
     examine::{smallest_difference, Examined},
@@ -25,6 +25,8 @@ pub fn check(count: u64, seed: u64) -> u64 {
             differences.extend(differences_on_document_01());
             let mut random = Random::for_drawing(seed, index);
             differences.extend(tally.sheets.compare_d(&mut random));
+            #[cfg(port)]
+            differences.extend(against_port::differences_at_sizes());
             tally.add(index, "drawing D", examined, differences);
         } else {
             let mut random = Random::for_drawing(seed, index);
@@ -161,7 +163,7 @@ impl Tally {
             );
         }
         if cfg!(port) {
-            println!("the port: the five calls, the ratio and the tight pair on every drawing");
+            println!("the port: the five calls by columns and by records, the ratio and the tight pair on every drawing");
             println!("the sheet: {}", self.sheets.summary());
         } else {
             println!("the port: not linked");

@@ -1,5 +1,5 @@
-//! The port: the proved library, called by columns, or with the bytes of a
-//! drawing file.
+//! The port: the proved library, called by columns, by records, or with the
+//! bytes of a drawing file.
 //!
 //! The declarations below stand for `crates/exports`; nothing holds the two
 //! against each other but this comparison. A slice passes as a pointer and a
@@ -119,6 +119,73 @@ extern "C" {
         out: *mut [u64; 7],
     ) -> u32;
 
+    #[link_name = "readability_clearance_by_records"]
+    fn clearance_by_records(
+        records: *const Record,
+        records_length: usize,
+        id: *const u32,
+        id_length: usize,
+        x: *const f64,
+        x_length: usize,
+        y: *const f64,
+        y_length: usize,
+        width: *const f64,
+        width_length: usize,
+        height: *const f64,
+        height_length: usize,
+        exempt_net: *const u32,
+        exempt_net_length: usize,
+        exempt_node: *const u32,
+        exempt_node_length: usize,
+        threshold: f64,
+        allowance: usize,
+        scratch: *mut u64,
+        scratch_length: usize,
+        out: *mut [u64; 4],
+    ) -> u32;
+
+    #[link_name = "readability_separation_by_records"]
+    fn separation_by_records(
+        records: *const Record,
+        records_length: usize,
+        allowance: usize,
+        scratch: *mut u64,
+        scratch_length: usize,
+        out: *mut [u64; 5],
+    ) -> u32;
+
+    #[link_name = "readability_density_profile_by_records"]
+    fn density_profile_by_records(
+        records: *const Record,
+        records_length: usize,
+        cutoff: f64,
+        allowance: usize,
+        scratch: *mut u64,
+        scratch_length: usize,
+        out: *mut [u64; 7],
+    ) -> u32;
+
+    #[link_name = "readability_congestion_profile_by_records"]
+    fn congestion_profile_by_records(
+        records: *const Record,
+        records_length: usize,
+        cutoff: f64,
+        allowance: usize,
+        scratch: *mut u64,
+        scratch_length: usize,
+        out: *mut [u64; 7],
+    ) -> u32;
+
+    #[link_name = "readability_congestion_by_records"]
+    fn congestion_by_records(
+        records: *const Record,
+        records_length: usize,
+        cutoff: f64,
+        scratch: *mut u64,
+        scratch_length: usize,
+        out: *mut [u64; 7],
+    ) -> u32;
+
     #[link_name = "readability_ratio"]
     fn ratio(total: f64, congested: f64) -> f64;
 
@@ -157,6 +224,18 @@ extern "C" {
 
 /// The bytes that a sheet's text is lent; the longest text is shorter.
 pub const SHEET_ROOM: usize = 256;
+
+/// A segment as the thin entries take it, `ParallelSegment` and
+/// `EdgeNodeSegment` alike.
+#[repr(C)]
+#[derive(Clone, Copy)]
+pub struct Record {
+    net: u32,
+    horizontal: bool,
+    fixed: f64,
+    start: f64,
+    end: f64,
+}
 
 /// The five calls that document 01 counts as measures. Congestion's three have
 /// lists, settings, checks and visit count in common.
@@ -263,6 +342,29 @@ impl Columns {
         }
     }
 
+    /// The segments as records, where there are any that the columns stand
+    /// for: columns of one length, and no orientation above 1.
+    pub fn records(&self) -> Option<Vec<Record>> {
+        let count = self.net.len();
+        let lengths = [
+            self.orientation.len(),
+            self.fixed.len(),
+            self.start.len(),
+            self.end.len(),
+        ];
+        if lengths != [count; 4] || self.orientation.iter().any(|byte| *byte > 1) {
+            return None;
+        }
+        let record = |place: usize| Record {
+            net: self.net[place],
+            horizontal: self.orientation[place] == 1,
+            fixed: self.fixed[place],
+            start: self.start[place],
+            end: self.end[place],
+        };
+        Some((0..count).map(record).collect())
+    }
+
     /// What a call with these columns and so many words is lent.
     pub fn lent(&self, scratch_words: usize) -> Lent {
         Lent {
@@ -339,29 +441,18 @@ fn report_words(report: &Report) -> Vec<u64> {
 /// which is not written shows.
 const UNWRITTEN: u64 = 0x5555_5555_5555_5555;
 
-/// Calls the port with the segments' columns, then the other columns named,
-/// each as a pointer and a length, then the rest, and last the words that the
-/// call is to write.
+/// Calls the port with the lists named, each as a pointer and a length, then
+/// the rest, and last the words that the call is to write.
 ///
 /// A call is sound because the pointers and lengths are those of slices that
 /// live through it, and because only the scratch and the words, which no other
 /// slice overlaps, are written.
-macro_rules! told {
-    ($call:ident, $columns:ident, [$($column:ident),*], [$($rest:expr),*], $words:literal) => {{
+macro_rules! told_of {
+    ($call:ident, [$($list:expr),*], [$($rest:expr),*], $words:literal) => {{
         let mut words = [UNWRITTEN; $words];
         let status = unsafe {
             $call(
-                $columns.net.as_ptr(),
-                $columns.net.len(),
-                $columns.orientation.as_ptr(),
-                $columns.orientation.len(),
-                $columns.fixed.as_ptr(),
-                $columns.fixed.len(),
-                $columns.start.as_ptr(),
-                $columns.start.len(),
-                $columns.end.as_ptr(),
-                $columns.end.len(),
-                $($columns.$column.as_ptr(), $columns.$column.len(),)*
+                $($list.as_ptr(), $list.len(),)*
                 $($rest,)*
                 &mut words,
             )
@@ -371,6 +462,25 @@ macro_rules! told {
             words: words.to_vec(),
         }
     }};
+}
+
+/// The same with the segments' columns first, then the other columns named.
+macro_rules! told {
+    ($call:ident, $columns:ident, [$($column:ident),*], [$($rest:expr),*], $words:literal) => {
+        told_of!(
+            $call,
+            [
+                $columns.net,
+                $columns.orientation,
+                $columns.fixed,
+                $columns.start,
+                $columns.end
+                $(, $columns.$column)*
+            ],
+            [$($rest),*],
+            $words
+        )
+    };
 }
 
 /// One call of the port. The call that is given no allowance leaves it aside.
@@ -402,6 +512,56 @@ pub fn run(call: Call, columns: &Columns, allowance: u64, scratch: &mut [u64]) -
             7
         ),
         Call::Congestion => told!(congestion, columns, [], [cutoff, start, length], 7),
+    }
+}
+
+/// The same call by records: the segments as a list of records, the rest as
+/// columns.
+pub fn run_by_records(
+    call: Call,
+    records: &[Record],
+    columns: &Columns,
+    allowance: u64,
+    scratch: &mut [u64],
+) -> Told {
+    let allowance = usize::try_from(allowance).unwrap_or(usize::MAX);
+    let (threshold, cutoff) = (columns.threshold, columns.cutoff);
+    let (start, length) = (scratch.as_mut_ptr(), scratch.len());
+    match call {
+        Call::Clearance => told_of!(
+            clearance_by_records,
+            [
+                records,
+                columns.id,
+                columns.x,
+                columns.y,
+                columns.width,
+                columns.height,
+                columns.exempt_net,
+                columns.exempt_node
+            ],
+            [threshold, allowance, start, length],
+            4
+        ),
+        Call::Separation => told_of!(
+            separation_by_records,
+            [records],
+            [allowance, start, length],
+            5
+        ),
+        Call::DensityProfile => told_of!(
+            density_profile_by_records,
+            [records],
+            [cutoff, allowance, start, length],
+            7
+        ),
+        Call::CongestionProfile => told_of!(
+            congestion_profile_by_records,
+            [records],
+            [cutoff, allowance, start, length],
+            7
+        ),
+        Call::Congestion => told_of!(congestion_by_records, [records], [cutoff, start, length], 7),
     }
 }
 

@@ -1,10 +1,9 @@
 -- `congestion::along::sweep_rows` meets its contract: the rows spread, the events in order, the ranges, the words behind them cleared, the sweep. Assumes nothing.
 use borrow.Author.Needs.{needs}
-use Rattle.congestion.proofs.AlongWires.{rows-spread, rows-rangeable, rows-first}
+use Rattle.congestion.proofs.AlongWires.{rows-rangeable, rows-first}
 use Rattle.congestion.specs.Sweeping.{sweptOf}
 use Rattle.laws.specs.Charged.{within}
 use denote.Ref.{now}
-use native.Mathlib.Omega.{arith}
 use mathlib.Core.Path.{ap, _∙_}
 use Rattle.congestion.proofs.along.sweep_rows.Statement.{statement}
 use Rattle.congestion.proofs.along.sweep_rows.Tie as tie
@@ -16,7 +15,7 @@ order-events-requires : tie.Need-order-events-requires
 order-events-requires c κs = search needs
 
 fill-ranges-requires : tie.Need-fill-ranges-requires
-fill-ranges-requires c κs = rows-rangeable (now (c .before .before .before .before .before .before .before .before .before .before .args .s)) _ _ (c .before .before .before .before .before .before .before .before .before .before .args .n) (c .before .before .before .before .before .before .before .before .before .before .args .from) (c .before .before .before .before .before .before .before .before .before .before .args .table) (c .before .before .before .before .before .before .before .spread-rows .ensures .0 (rows-spread _ _ _ _ (c .before .before .before .before .before .before .before .before .before .before .pre .0))) (c .before .before .before .order-events .kept .0 ∙ c .before .before .before .before .before .before .before .spread-rows .kept .0) (c .before .before .before .order-events .ensures .0 (omega (arith, c .before .before .before .before .before .before .before .before .before .before .pre .0 .front, c .before .before .before .before .before .before .before .before .before .before .pre .0 .room, c .before .before .before .before .before .before .before .spread-rows .kept .0))) (c .before .before .before .before .before .before .before .before .before .before .pre .0)
+fill-ranges-requires c κs = rows-rangeable (now (c .before .before .before .before .before .before .before .before .before .before .args .s)) _ _ (c .before .before .before .before .before .before .before .before .before .before .args .n) (c .before .before .before .before .before .before .before .before .before .before .args .from) (c .before .before .before .before .before .before .before .before .before .before .args .table) (c .before .before .before .before .before .before .before .spread-rows .ensures) (c .before .before .before .before .before .before .before .spread-rows .kept .0) (c .before .before .before .order-events .ensures) (c .before .before .before .order-events .kept .0 ∙ c .before .before .before .before .before .before .before .spread-rows .kept .0) (c .before .before .before .before .before .before .before .before .before .before .pre .0)
 
 mul-end : tie.Need-mul-end
 mul-end c = search needs
@@ -43,13 +42,13 @@ clear-requires : tie.Need-clear-requires
 clear-requires c κs = search needs
 
 run-events-requires : tie.Need-run-events-requires
-run-events-requires c κs = rows-first (now (c .before .before .before .before .before .before .before .before .before .before .before .before .before .before .before .before .before .before .args .s)) _ _ (c .before .before .before .before .before .before .before .before .before .before .before .before .before .before .before .before .before .before .args .n) (c .before .before .before .before .before .before .before .before .before .before .before .before .before .before .before .before .before .before .args .from) (c .before .before .before .before .before .before .before .before .before .before .before .before .before .before .before .before .before .before .args .table) (c .before .before .before .before .before .before .before .before .before .before .before .before .before .before .before .spread-rows .ensures .0 (rows-spread _ _ _ _ (c .before .before .before .before .before .before .before .before .before .before .before .before .before .before .before .before .before .before .pre .0))) (c .before .before .before .before .before .before .before .before .before .before .before .order-events .kept .0 ∙ c .before .before .before .before .before .before .before .before .before .before .before .before .before .before .before .spread-rows .kept .0) (c .before .before .before .before .before .before .before .before .before .before .before .order-events .ensures .0 (omega (arith, c .before .before .before .before .before .before .before .before .before .before .before .before .before .before .before .before .before .before .pre .0 .front, c .before .before .before .before .before .before .before .before .before .before .before .before .before .before .before .before .before .before .pre .0 .room, c .before .before .before .before .before .before .before .before .before .before .before .before .before .before .before .spread-rows .kept .0))) _ (c .before .before .before .before .before .before .before .fill-ranges .kept .0) _ (c .before .before .before .before .before .before .before .before .before .before .before .before .before .before .before .before .before .before .pre .1) (c .before .before .before .before .before .before .before .fill-ranges .ensures .0) (c .before .before .before .before .before .before .before .fill-ranges .ensures .1) _ (c .before .before .before .clear .ensures) (c .before .before .before .before .before .before .before .before .before .before .before .before .before .before .before .before .before .before .pre .0) .0
+run-events-requires c κs = rows-first (now (c .before .before .before .before .before .before .before .before .before .before .before .before .before .before .before .before .before .before .args .s)) _ _ (c .before .before .before .before .before .before .before .before .before .before .before .before .before .before .before .before .before .before .args .n) (c .before .before .before .before .before .before .before .before .before .before .before .before .before .before .before .before .before .before .args .from) (c .before .before .before .before .before .before .before .before .before .before .before .before .before .before .before .before .before .before .args .table) (c .before .before .before .before .before .before .before .before .before .before .before .before .before .before .before .spread-rows .ensures) (c .before .before .before .before .before .before .before .before .before .before .before .before .before .before .before .spread-rows .kept .0) (c .before .before .before .before .before .before .before .before .before .before .before .order-events .ensures) (c .before .before .before .before .before .before .before .before .before .before .before .order-events .kept .0 ∙ c .before .before .before .before .before .before .before .before .before .before .before .before .before .before .before .spread-rows .kept .0) _ (c .before .before .before .before .before .before .before .fill-ranges .kept .0) _ (c .before .before .before .before .before .before .before .before .before .before .before .before .before .before .before .before .before .before .pre .1) (c .before .before .before .before .before .before .before .fill-ranges .ensures .0) (c .before .before .before .before .before .before .before .fill-ranges .ensures .1) _ (c .before .before .before .clear .ensures) (c .before .before .before .before .before .before .before .before .before .before .before .before .before .before .before .before .before .before .pre .0) .0
 
 same-length : tie.Need-same-length
 same-length c = search needs
 
 returns : tie.Need-returns
-returns c = λ a. let k = rows-first (now (c .before .before .before .before .before .before .before .before .before .before .before .before .before .before .before .before .before .before .before .before .before .args .s)) _ _ (c .before .before .before .before .before .before .before .before .before .before .before .before .before .before .before .before .before .before .before .before .before .args .n) (c .before .before .before .before .before .before .before .before .before .before .before .before .before .before .before .before .before .before .before .before .before .args .from) (c .before .before .before .before .before .before .before .before .before .before .before .before .before .before .before .before .before .before .before .before .before .args .table) (c .before .before .before .before .before .before .before .before .before .before .before .before .before .before .before .before .before .before .spread-rows .ensures .0 (rows-spread _ _ _ _ (c .before .before .before .before .before .before .before .before .before .before .before .before .before .before .before .before .before .before .before .before .before .pre .0))) (c .before .before .before .before .before .before .before .before .before .before .before .before .before .before .order-events .kept .0 ∙ c .before .before .before .before .before .before .before .before .before .before .before .before .before .before .before .before .before .before .spread-rows .kept .0) (c .before .before .before .before .before .before .before .before .before .before .before .before .before .before .order-events .ensures .0 (omega (arith, c .before .before .before .before .before .before .before .before .before .before .before .before .before .before .before .before .before .before .before .before .before .pre .0 .front, c .before .before .before .before .before .before .before .before .before .before .before .before .before .before .before .before .before .before .before .before .before .pre .0 .room, c .before .before .before .before .before .before .before .before .before .before .before .before .before .before .before .before .before .before .spread-rows .kept .0))) _ (c .before .before .before .before .before .before .before .before .before .before .fill-ranges .kept .0) _ (c .before .before .before .before .before .before .before .before .before .before .before .before .before .before .before .before .before .before .before .before .before .pre .1) (c .before .before .before .before .before .before .before .before .before .before .fill-ranges .ensures .0) (c .before .before .before .before .before .before .before .before .before .before .fill-ranges .ensures .1) _ (c .before .before .before .before .before .before .clear .ensures) a in c .before .before .run-events .ensures (k .0) ∙ ap (λ z. sweptOf (within (c .before .before .before .before .before .before .before .before .before .before .before .before .before .before .before .before .before .before .before .before .before .args .allowance) z)) (k .1)
+returns c = λ a. let k = rows-first (now (c .before .before .before .before .before .before .before .before .before .before .before .before .before .before .before .before .before .before .before .before .before .args .s)) _ _ (c .before .before .before .before .before .before .before .before .before .before .before .before .before .before .before .before .before .before .before .before .before .args .n) (c .before .before .before .before .before .before .before .before .before .before .before .before .before .before .before .before .before .before .before .before .before .args .from) (c .before .before .before .before .before .before .before .before .before .before .before .before .before .before .before .before .before .before .before .before .before .args .table) (c .before .before .before .before .before .before .before .before .before .before .before .before .before .before .before .before .before .before .spread-rows .ensures) (c .before .before .before .before .before .before .before .before .before .before .before .before .before .before .before .before .before .before .spread-rows .kept .0) (c .before .before .before .before .before .before .before .before .before .before .before .before .before .before .order-events .ensures) (c .before .before .before .before .before .before .before .before .before .before .before .before .before .before .order-events .kept .0 ∙ c .before .before .before .before .before .before .before .before .before .before .before .before .before .before .before .before .before .before .spread-rows .kept .0) _ (c .before .before .before .before .before .before .before .before .before .before .fill-ranges .kept .0) _ (c .before .before .before .before .before .before .before .before .before .before .before .before .before .before .before .before .before .before .before .before .before .pre .1) (c .before .before .before .before .before .before .before .before .before .before .fill-ranges .ensures .0) (c .before .before .before .before .before .before .before .before .before .before .fill-ranges .ensures .1) _ (c .before .before .before .before .before .before .clear .ensures) a in c .before .before .run-events .ensures (k .0) ∙ ap (λ z. sweptOf (within (c .before .before .before .before .before .before .before .before .before .before .before .before .before .before .before .before .before .before .before .before .before .args .allowance) z)) (k .1)
 
 pub sweep-rows-spec : {M : Type 1} → statement M
 sweep-rows-spec =

@@ -1,16 +1,15 @@
 -- `rows::events::order_events` meets its contract: all numbers are written in front and put in order by their keys. Assumes nothing.
-use mathlib.Core.Path.{refl}
 use Prim.Native.Nat.{_*_, _≤_}
 use native.Mathlib.Omega.{arith}
 use borrow.Author.Needs.{needs}
 use lib.ListN.{length}
 use Rattle.sorting.proofs.Entries.{front-filled}
-use Rattle.rows.proofs.EventTables.{events-are}
+use Rattle.rows.proofs.EventTables.{events-refused, events-done}
 use Rattle.rows.proofs.events.order_events.Statement.{statement}
 use Rattle.rows.proofs.events.order_events.Tie as tie
 
 returns : tie.Need-returns
-returns c = (λ h. absurd (omega (arith, c .if1 .taken)), λ h. refl)
+returns c = events-refused _ _ (omega (arith, c .if1 .taken))
 
 mul-m : tie.Need-mul-m
 mul-m c = search needs
@@ -40,7 +39,7 @@ returns-2 c =
     let s = t .before .before .args .s .now in
     let n = t .before .before .args .n in
     let room : 4 * n ≤ length s = omega (arith, t .if1 .left) in
-    (λ h. events-are s _ _ n room (front-filled s _ _ (omega arith) (f .fill-places .ensures)) (c .before .before .sort-indices .ensures), λ h. absurd (omega arith))
+    events-done s n _ _ room (front-filled s _ _ (omega arith) (f .fill-places .ensures)) (c .before .before .sort-indices .ensures)
 
 pub order-events-spec : {M : Type 1} → statement M
 order-events-spec =

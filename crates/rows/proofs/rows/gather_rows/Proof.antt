@@ -1,6 +1,7 @@
 -- `rows::rows::gather_rows` meets its contract: after i turns the rows of the first i segments are gathered. Assumes nothing.
 use borrow.Author.Needs.{needs}
 use Prim.Native.Nat.{_-_}
+use native.Mathlib.Omega.{arith}
 use lib.ListN.{length}
 use Rattle.drawing.specs.Entries.{segmentColumns}
 use Rattle.rows.proofs.RowTables.{Gathering, gather-none, gather-next, gather-all}
@@ -57,7 +58,7 @@ loop-again c =
     let turn = c .before .before .before .before .before .before .before .before .before in
     let start = turn .before .before .before .before .before .before .before .before in
     let a = start .args in
-    gather-next _ _ (segmentColumns (a .net .now) (a .orientation .now) (a .fixed .now) (a .start .now) (a .end .now)) _ _ _ _ _ _ (start .pre .agree) (turn .before .loop .inv) (turn .loop-test .taken) (c .before .before .add-row .ensures)
+    gather-next _ _ (segmentColumns (a .net .now) (a .orientation .now) (a .fixed .now) (a .start .now) (a .end .now)) _ _ _ _ _ _ (start .pre .agree) (omega (arith, start .pre .room)) (turn .before .loop .inv) (turn .loop-test .taken) (c .before .before .add-row .ensures)
 
 same-length : tie.Need-same-length Inv-loop μ-loop
 same-length c = search needs

@@ -1,10 +1,10 @@
 -- `rows::rows::order_rows` meets its contract: the rows are gathered, and their places are put in order by them. Assumes nothing.
-use mathlib.Core.Path.{refl, sym, _∙_}
+use mathlib.Core.Path.{sym, _∙_}
 use native.Mathlib.Omega.{arith}
 use borrow.Author.Needs.{needs}
 use Rattle.sorting.proofs.Entries.{front-filled}
 use Rattle.drawing.specs.Entries.{segmentColumns}
-use Rattle.rows.proofs.RowTables.{orderable, unequal, short, rows-in-order}
+use Rattle.rows.proofs.RowTables.{to-order, unequal, short, rows-done}
 use Rattle.rows.proofs.rows.order_rows.Statement.{statement}
 use Rattle.rows.proofs.rows.order_rows.Tie as tie
 
@@ -12,15 +12,15 @@ segments-differ-requires : tie.Need-segments-differ-requires
 segments-differ-requires c κs = search needs
 
 returns : tie.Need-returns
-returns c = (λ o. absurd (unequal _ _ (sym (c .before .segments-differ .ensures) ∙ c .if1 .taken) o), λ no. (refl, refl))
+returns c = unequal _ _ _ (sym (c .before .segments-differ .ensures) ∙ c .if1 .taken)
 
 returns-2 : tie.Need-returns-2
-returns-2 c = (λ o. absurd (short _ _ (c .if2 .taken) o), λ no. (refl, refl))
+returns-2 c = short _ _ _ (c .if2 .taken)
 
 gather-rows-requires : tie.Need-gather-rows-requires
 gather-rows-requires c κs =
     let t = c .before in
-    orderable _ _ (sym (t .before .before .segments-differ .ensures) ∙ t .before .if1 .left) (t .if2 .left)
+    to-order _ _ (sym (t .before .before .segments-differ .ensures) ∙ t .before .if1 .left) (t .if2 .left)
 
 sub-fill-places : tie.Need-sub-fill-places
 sub-fill-places c = search needs
@@ -48,8 +48,8 @@ returns-3 c =
     let t = gather .before .before in
     let a = t .before .before .before .before .before .before .before .before .before .args in
     let columns = segmentColumns (a .net .now) (a .orientation .now) (a .fixed .now) (a .start .now) (a .end .now) in
-    let o = orderable columns _ (sym (t .before .before .segments-differ .ensures) ∙ t .before .if1 .left) (t .if2 .left) in
-    (λ p. rows-in-order (a .wanted) columns (a .p .now) _ _ _ _ (o .room) g (front-filled _ _ _ (omega (arith, g .few, g .same, o .room)) (fill .fill-places .ensures)) (c .before .before .sort-indices .ensures), λ no. absurd (no o))
+    let o = to-order columns _ (sym (t .before .before .segments-differ .ensures) ∙ t .before .if1 .left) (t .if2 .left) in
+    rows-done (a .wanted) columns (a .p .now) o _ _ _ _ g (front-filled _ _ _ (omega (arith, g .few, g .same, o .room)) (fill .fill-places .ensures)) (c .before .before .sort-indices .ensures)
 
 pub order-rows-spec : {M : Type 1} → statement M
 order-rows-spec =

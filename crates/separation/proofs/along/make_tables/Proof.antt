@@ -21,7 +21,7 @@ assign-slots-requires c κs =
     let events = lines .before .before .before .before in
     let columns = events .before .before .before .before in
     let start = columns .before .before .before in
-    at-rows-slottable _ _ _ (now (start .args .s)) _ _ _ _ (start .pre) (columns .spread-rows .kept .0) (columns .spread-rows .ensures .0) (events .order-events .ensures .0) (lines .number-lines .ensures) (lines .number-lines .kept .0 ∙ events .order-events .kept .0)
+    at-rows-slottable _ _ _ (now (start .args .s)) _ _ _ _ (start .pre) (columns .spread-rows .kept .0) (columns .spread-rows .ensures) (events .order-events .ensures) (lines .number-lines .ensures) (lines .number-lines .kept .0 ∙ events .order-events .kept .0)
 
 same-length : tie.Need-same-length
 same-length c = search needs
@@ -33,7 +33,7 @@ returns c =
     let events = lines .before .before .before .before in
     let columns = events .before .before .before .before in
     let start = columns .before .before .before in
-    tables-made _ (start .args .from) (start .args .table) (now (start .args .s)) _ _ _ _ (start .pre) (columns .spread-rows .kept .0) (columns .spread-rows .ensures .0) (events .order-events .ensures .0) (lines .number-lines .ensures) _ (slots .assign-slots .ensures)
+    tables-made _ (start .args .from) (start .args .table) (now (start .args .s)) _ _ _ _ (start .pre) (columns .spread-rows .kept .0) (columns .spread-rows .ensures) (events .order-events .ensures) (lines .number-lines .ensures) _ (slots .assign-slots .ensures)
 
 pub make-tables-spec : {M : Type 1} → statement M
 make-tables-spec =

@@ -33,7 +33,7 @@ returns c =
     let start = rows .before .before .before .before .before .before .before .before in
     let a = start .args in
     let columns = segmentColumns (now (a .net)) (now (a .orientation)) (now (a .fixed)) (now (a .start)) (now (a .end)) in
-    few-swept (now (a .s)) (rows .order-rows .last .0) _ _ columns (start .pre) (rows .order-rows .ensures .0) _ (c .if1 .taken)
+    few-swept (now (a .s)) (rows .order-rows .last .0) _ _ columns (start .pre) (rows .order-rows .ensures) _ (c .if1 .taken)
 
 make-tables-requires : tie.Need-make-tables-requires
 make-tables-requires c κs =
@@ -41,7 +41,7 @@ make-tables-requires c κs =
     let start = rows .before .before .before .before .before .before .before .before in
     let a = start .args in
     let columns = segmentColumns (now (a .net)) (now (a .orientation)) (now (a .fixed)) (now (a .start)) (now (a .end)) in
-    at-rows (now (a .s)) (rows .order-rows .last .0) _ _ columns (start .pre) (rows .order-rows .ensures .0) (rows .order-rows .kept .0)
+    at-rows (now (a .s)) (rows .order-rows .last .0) _ _ columns (start .pre) (rows .order-rows .ensures) (rows .order-rows .kept .0)
 
 sweep-tables-requires : tie.Need-sweep-tables-requires
 sweep-tables-requires c κs =
@@ -50,7 +50,7 @@ sweep-tables-requires c κs =
     let start = rows .before .before .before .before .before .before .before .before in
     let a = start .args in
     let columns = segmentColumns (now (a .net)) (now (a .orientation)) (now (a .fixed)) (now (a .start)) (now (a .end)) in
-    at-tables (now (a .s)) (rows .order-rows .last .0) _ _ columns (start .pre) (rows .order-rows .ensures .0) (rows .order-rows .kept .0) _ (made .make-tables .kept .0) _ (made .make-tables .ensures) (made .before .before .if1 .left)
+    at-tables (now (a .s)) (rows .order-rows .last .0) _ _ columns (start .pre) (rows .order-rows .ensures) (rows .order-rows .kept .0) _ (made .make-tables .kept .0) _ (made .make-tables .ensures) (made .before .before .if1 .left)
 
 same-length-2 : tie.Need-same-length-2
 same-length-2 c = search needs
@@ -63,7 +63,7 @@ returns-2 c =
     let start = rows .before .before .before .before .before .before .before .before in
     let a = start .args in
     let columns = segmentColumns (now (a .net)) (now (a .orientation)) (now (a .fixed)) (now (a .start)) (now (a .end)) in
-    more-swept (now (a .s)) (rows .order-rows .last .0) _ _ columns (start .pre) (rows .order-rows .ensures .0) (rows .order-rows .kept .0) _ (made .make-tables .kept .0) _ (made .make-tables .ensures) _ _ (made .before .before .if1 .left) (swept .sweep-tables .ensures)
+    more-swept (now (a .s)) (rows .order-rows .last .0) _ _ columns (start .pre) (rows .order-rows .ensures) (rows .order-rows .kept .0) _ (made .make-tables .kept .0) _ (made .make-tables .ensures) _ _ (made .before .before .if1 .left) (swept .sweep-tables .ensures)
 
 pub sweep-along-spec : {M : Type 1} → statement M
 sweep-along-spec =

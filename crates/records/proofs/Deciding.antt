@@ -1,0 +1,115 @@
+-- The first 4,097 entries of a list decide as the whole list does: with more than 4,096 entries a call is refused, whatever they are. Assumes nothing.
+use mathlib.Core.Path.{_≡_, refl, sym, ap, _∙_}
+use mathlib.Core.Logic.{_⊎_, inl, inr}
+use mathlib.Core.Bool.{Bool, true, false, cond, _||_}
+use mathlib.Core.List.{List, [], _∷_, _++_}
+use Prim.Native.Nat.{ℕ, _≤_, _<_}
+use native.Mathlib.Omega.{arith}
+use borrow.Author.Tests.{lt-ltb}
+use lib.Ieee.{Float}
+use lib.ListN.{length, take}
+use lib.Seq.{take-all, length-take-le}
+use Rattle.laws.specs.Charged.{settle}
+use Rattle.laws.proofs.Tests.{le-or-lt, decide}
+use Rattle.drawing.specs.declared.refusal.Check.{Check}
+use Rattle.drawing.specs.declared.refusal.Check.the-variants as check
+use Rattle.drawing.specs.declared.refusal.Refusal.{Refusal}
+use Rattle.drawing.specs.declared.refusal.Refusal.the-variants.{ColumnsDiffer, TooManyEntries}
+use Rattle.drawing.specs.Entries.{Segment, SegmentColumns, NodeColumns, ExemptionColumns}
+use Rattle.drawing.specs.Conditions.{tooMany}
+use Rattle.drawing.specs.Refusals.{firstOf}
+use Rattle.drawing.specs.Checks.{nodesDiffer, exemptionsDiffer, separationConditions, congestionConditions, listConditions, clearanceConditions}
+use Rattle.drawing.proofs.FirstRefusal.{first-yes, first-no, first-stop}
+use Rattle.separation.specs.declared.report.SeparationAnswer.the-variants as ofSeparation
+use Rattle.separation.specs.Answer.{separation}
+use Rattle.congestion.specs.declared.report.CongestionAnswer.the-variants as ofCongestion
+use Rattle.congestion.specs.Answer.{densityAnswer, profileAnswer, congestionAnswer}
+use Rattle.clearance.specs.declared.report.ClearanceAnswer.the-variants as ofClearance
+use Rattle.clearance.specs.Answer.{answer, unless}
+use Rattle.records.specs.Records.{columnsOf}
+use Rattle.records.proofs.ColumnLaws.{columns-same, columns-count}
+
+-- a list has at most 4,096 entries, or it is refused for their number alone
+few-or-many : {A : Type 0} (P : List A → List A → Type 0) (l : List A) → ((k : List A) → P k k) → ((j k : List A) → 4096 < length j → 4096 < length k → P j k) → P (take 4097 l) l
+few-or-many P l same many = elim (le-or-lt (length l) 4096) [
+  | inl h ↦ let e : take 4097 l ≡ l = take-all 4097 l (omega arith) in rw e (same l)
+  | inr h ↦ let e : length (take 4097 l) ≡ 4097 = length-take-le 4097 l (omega arith) in many (take 4097 l) l (omega (arith, e)) h
+]
+
+too-many : (l : List Segment) → 4096 < length l → tooMany (length (columnsOf l .net)) ≡ true
+unfolding tooMany
+too-many l h = lt-ltb 4096 (length (columnsOf l .net)) (rw (columns-count l) h)
+
+-- ---- the checks of a list with more than 4,096 entries
+pub separation-many : (l : List Segment) (words : ℕ) → 4096 < length l → firstOf (separationConditions (columnsOf l) words) ≡ check.Refused TooManyEntries
+unfolding separationConditions
+separation-many l words h = first-no _ _ _ (columns-same l) ∙ first-yes _ _ _ (too-many l h)
+
+pub congestion-many : (l : List Segment) (cutoff : Float) (words : ℕ) → 4096 < length l → firstOf (congestionConditions (columnsOf l) cutoff words) ≡ check.Refused TooManyEntries
+unfolding congestionConditions
+congestion-many l cutoff words h = sym (first-stop (separationConditions (columnsOf l) words) _ (check.Refused TooManyEntries) TooManyEntries (sym (separation-many l words h)) refl)
+
+-- refusal 2 of the other lists comes first
+abbrev stops : NodeColumns → ExemptionColumns → Refusal
+stops n e = cond (nodesDiffer n) ColumnsDiffer (cond (exemptionsDiffer e) ColumnsDiffer TooManyEntries)
+
+lists-many : (l : List Segment) (n : NodeColumns) (e : ExemptionColumns) → 4096 < length l → firstOf (listConditions (columnsOf l) n e) ≡ check.Refused (stops n e)
+unfolding listConditions
+lists-many l n e h = first-no _ _ _ (columns-same l) ∙ elim (decide (nodesDiffer n)) [
+  | inl d ↦ first-yes _ _ _ d ∙ rw d
+  | inr d ↦ first-no _ _ _ d ∙ elim (decide (exemptionsDiffer e)) [
+    | inl x ↦ first-yes _ _ _ x ∙ rw (d, x)
+    | inr x ↦ first-no _ _ _ x ∙ first-yes _ _ _ (too-many l h) ∙ rw (d, x)
+  ]
+]
+
+pub clearance-many : (l : List Segment) (n : NodeColumns) (e : ExemptionColumns) (threshold : Float) (words : ℕ) → 4096 < length l → firstOf (clearanceConditions (columnsOf l) n e threshold words) ≡ check.Refused (stops n e)
+unfolding clearanceConditions
+clearance-many l n e threshold words h = sym (first-stop (listConditions (columnsOf l) n e) _ (check.Refused (stops n e)) (stops n e) (sym (lists-many l n e h)) refl)
+
+-- ---- so 4,097 entries decide what the checks say, and with them what is answered
+module _ (l : List Segment) (words : ℕ) where
+  pub separation-checked : firstOf (separationConditions (columnsOf (take 4097 l)) words) ≡ firstOf (separationConditions (columnsOf l) words)
+  separation-checked = few-or-many (λ j k. firstOf (separationConditions (columnsOf j) words) ≡ firstOf (separationConditions (columnsOf k) words)) l (λ k. refl) (λ j k h i. separation-many j words h ∙ sym (separation-many k words i))
+
+  pub congestion-checked : (cutoff : Float) → firstOf (congestionConditions (columnsOf (take 4097 l)) cutoff words) ≡ firstOf (congestionConditions (columnsOf l) cutoff words)
+  congestion-checked cutoff = few-or-many (λ j k. firstOf (congestionConditions (columnsOf j) cutoff words) ≡ firstOf (congestionConditions (columnsOf k) cutoff words)) l (λ k. refl) (λ j k h i. congestion-many j cutoff words h ∙ sym (congestion-many k cutoff words i))
+
+  pub clearance-checked : (n : NodeColumns) (e : ExemptionColumns) (threshold : Float) → firstOf (clearanceConditions (columnsOf (take 4097 l)) n e threshold words) ≡ firstOf (clearanceConditions (columnsOf l) n e threshold words)
+  clearance-checked n e threshold = few-or-many (λ j k. firstOf (clearanceConditions (columnsOf j) n e threshold words) ≡ firstOf (clearanceConditions (columnsOf k) n e threshold words)) l (λ k. refl) (λ j k h i. clearance-many j n e threshold words h ∙ sym (clearance-many k n e threshold words i))
+
+separation-refused : (s : SegmentColumns) (allowance words : ℕ) (r : Refusal) → firstOf (separationConditions s words) ≡ check.Refused r → separation s allowance words ≡ ofSeparation.Refused r
+unfolding separation
+separation-refused s allowance words r e = rw e
+
+density-refused : (s : SegmentColumns) (cutoff : Float) (allowance words : ℕ) (r : Refusal) → firstOf (congestionConditions s cutoff words) ≡ check.Refused r → densityAnswer s cutoff allowance words ≡ ofCongestion.Refused r
+unfolding densityAnswer
+density-refused s cutoff allowance words r e = rw e
+
+profile-refused : (s : SegmentColumns) (cutoff : Float) (allowance words : ℕ) (r : Refusal) → firstOf (congestionConditions s cutoff words) ≡ check.Refused r → profileAnswer s cutoff allowance words ≡ ofCongestion.Refused r
+unfolding profileAnswer
+profile-refused s cutoff allowance words r e = rw e
+
+congestion-refused : (s : SegmentColumns) (cutoff : Float) (words : ℕ) (r : Refusal) → firstOf (congestionConditions s cutoff words) ≡ check.Refused r → congestionAnswer s cutoff words ≡ ofCongestion.Refused r
+unfolding congestionAnswer
+congestion-refused s cutoff words r e = rw e
+
+clearance-refused : (s : SegmentColumns) (n : NodeColumns) (e : ExemptionColumns) (threshold : Float) (allowance words : ℕ) (r : Refusal) → firstOf (clearanceConditions s n e threshold words) ≡ check.Refused r → answer s n e threshold allowance words ≡ ofClearance.Refused r
+unfolding answer unless
+clearance-refused s n e threshold allowance words r p = rw p
+
+module _ (l : List Segment) where
+  pub separation-decided : (allowance words : ℕ) → separation (columnsOf (take 4097 l)) allowance words ≡ separation (columnsOf l) allowance words
+  separation-decided a w = few-or-many (λ j k. separation (columnsOf j) a w ≡ separation (columnsOf k) a w) l (λ k. refl) (λ j k h i. separation-refused _ a w _ (separation-many j w h) ∙ sym (separation-refused _ a w _ (separation-many k w i)))
+
+  pub density-decided : (cutoff : Float) (allowance words : ℕ) → densityAnswer (columnsOf (take 4097 l)) cutoff allowance words ≡ densityAnswer (columnsOf l) cutoff allowance words
+  density-decided c a w = few-or-many (λ j k. densityAnswer (columnsOf j) c a w ≡ densityAnswer (columnsOf k) c a w) l (λ k. refl) (λ j k h i. density-refused _ c a w _ (congestion-many j c w h) ∙ sym (density-refused _ c a w _ (congestion-many k c w i)))
+
+  pub profile-decided : (cutoff : Float) (allowance words : ℕ) → profileAnswer (columnsOf (take 4097 l)) cutoff allowance words ≡ profileAnswer (columnsOf l) cutoff allowance words
+  profile-decided c a w = few-or-many (λ j k. profileAnswer (columnsOf j) c a w ≡ profileAnswer (columnsOf k) c a w) l (λ k. refl) (λ j k h i. profile-refused _ c a w _ (congestion-many j c w h) ∙ sym (profile-refused _ c a w _ (congestion-many k c w i)))
+
+  pub congestion-decided : (cutoff : Float) (words : ℕ) → congestionAnswer (columnsOf (take 4097 l)) cutoff words ≡ congestionAnswer (columnsOf l) cutoff words
+  congestion-decided c w = few-or-many (λ j k. congestionAnswer (columnsOf j) c w ≡ congestionAnswer (columnsOf k) c w) l (λ k. refl) (λ j k h i. congestion-refused _ c w _ (congestion-many j c w h) ∙ sym (congestion-refused _ c w _ (congestion-many k c w i)))
+
+  pub clearance-decided : (n : NodeColumns) (e : ExemptionColumns) (threshold : Float) (allowance words : ℕ) → answer (columnsOf (take 4097 l)) n e threshold allowance words ≡ answer (columnsOf l) n e threshold allowance words
+  clearance-decided n e t a w = few-or-many (λ j k. answer (columnsOf j) n e t a w ≡ answer (columnsOf k) n e t a w) l (λ k. refl) (λ j k h i. clearance-refused _ n e t a w _ (clearance-many j n e t w h) ∙ sym (clearance-refused _ n e t a w _ (clearance-many k n e t w i)))

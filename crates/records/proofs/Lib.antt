@@ -1,0 +1,8 @@
+-- What the proofs of the functions lean on.
+mod Copying
+mod Enough
+pub mod ColumnLaws
+mod Deciding
+mod Unpacking
+-- what callers cite of the functions that take a slice of records
+pub mod Claims

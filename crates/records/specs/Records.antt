@@ -1,0 +1,29 @@
+-- The columns that a lent list of records stands for. "`&[ParallelSegment]` and the like: the core takes columns of equal length (net, orientation byte 1 horizontal or 0 vertical, fixed, start, end). Afterwards, one thin entry for each measure takes the lent list of segment records as the Rust does."
+use mathlib.Core.Bool.{Bool, true, false}
+use mathlib.Core.List.{List, map}
+use Prim.Native.Nat.{ℕ}
+use Rattle.drawing.specs.Entries.{Segment, SegmentColumns, segmentColumns}
+use Rattle.records.specs.declared.parallel.ParallelSegment.{ParallelSegment}
+use Rattle.records.specs.declared.edge_node.EdgeNodeSegment.{EdgeNodeSegment}
+
+-- "orientation byte 1 horizontal or 0 vertical"
+unfoldable pub orientationByte : Bool → ℕ
+orientationByte true = 1
+orientationByte false = 0
+
+-- the entry that a record stands for
+unfoldable pub ofParallel : ParallelSegment → Segment
+ofParallel p = record { net = p .net; orientation = orientationByte (p .horizontal); fixed = p .fixed; start = p .start; end = p .end }
+
+unfoldable pub ofEdgeNode : EdgeNodeSegment → Segment
+ofEdgeNode p = record { net = p .net; orientation = orientationByte (p .horizontal); fixed = p .fixed; start = p .start; end = p .end }
+
+-- the columns of a list of entries
+unfoldable pub columnsOf : List Segment → SegmentColumns
+columnsOf l = segmentColumns (map (λ (s : Segment). s .net) l) (map (λ (s : Segment). s .orientation) l) (map (λ (s : Segment). s .fixed) l) (map (λ (s : Segment). s .start) l) (map (λ (s : Segment). s .end) l)
+
+abbrev pub parallelColumns : List ParallelSegment → SegmentColumns
+parallelColumns l = columnsOf (map ofParallel l)
+
+abbrev pub edgeNodeColumns : List EdgeNodeSegment → SegmentColumns
+edgeNodeColumns l = columnsOf (map ofEdgeNode l)

@@ -1,0 +1,101 @@
+// Clearance of a lent list of records. The borrow checker does not cover a slice of structs, so these functions are thin: they make a list of lines, and a covered function does the work.
+ghost use mathlib.Core.Path.{_≡_};
+ghost use mathlib.Core.List.{map};
+ghost use Prim.Native.Nat.{_<_};
+ghost use lib.ListN.{length, take, getD};
+ghost use Rattle.drawing.specs.Refusals.{firstOf, scratchAfter};
+ghost use Rattle.drawing.specs.Entries.{nodeColumns, exemptionColumns};
+ghost use Rattle.drawing.specs.Checks.{clearanceConditions};
+ghost use Rattle.clearance.specs.Answer.{answer};
+ghost use Rattle.records.specs.Records.{ofEdgeNode, edgeNodeColumns};
+ghost use Rattle.records.specs.Lines.{entryOf, noEdgeNode};
+use crate::line::Line;
+use crate::line::orientation_byte;
+use crate::line::unpacked;
+use crate::of_lines::clearance_of_lines;
+use clearance::ClearanceAnswer;
+
+// A straight wire segment, as clearance takes it.
+#[repr(C)]
+pub struct EdgeNodeSegment {
+    pub net: u32,
+    pub horizontal: bool,
+    pub fixed: f64,
+    pub start: f64,
+    pub end: f64,
+}
+
+pub(crate) fn edge_node_at(records: &[EdgeNodeSegment], i: usize) -> EdgeNodeSegment
+    requires { ⌜ i < length (now records) ⌝ }
+    ensures { λ r. ⌜ r ≡ getD (now (records .entry)) i noEdgeNode ⌝ }
+{
+    records[i]
+}
+
+pub(crate) fn edge_node_line(p: EdgeNodeSegment) -> Line
+    ensures { λ r. ⌜ entryOf r ≡ ofEdgeNode p ⌝ }
+{
+    Line {
+        net: p.net,
+        orientation: orientation_byte(p.horizontal),
+        fixed: p.fixed,
+        start: p.start,
+        end: p.end,
+    }
+}
+
+// The lines of the list, or of its first 4,097 records.
+pub(crate) fn edge_node_lines(records: &[EdgeNodeSegment]) -> [Line; 4097]
+    ensures { λ r. ⌜ map entryOf (take (length (now (records .entry))) r) ≡ take 4097 (map ofEdgeNode (now (records .entry))) ⌝ }
+{
+    let n = unpacked(records.len());
+    let blank = Line {
+        net: 0,
+        orientation: 0,
+        fixed: 0.0,
+        start: 0.0,
+        end: 0.0,
+    };
+    let mut lines = [blank; 4097];
+    let mut i = 0;
+    while i < n {
+        let p = edge_node_at(records, i);
+        lines[i] = edge_node_line(p);
+        i += 1;
+    }
+    lines
+}
+
+pub fn measure_edge_node_clearance_bounded_by_records(
+    records: &[EdgeNodeSegment],
+    id: &[u32],
+    x: &[f64],
+    y: &[f64],
+    width: &[f64],
+    height: &[f64],
+    exempt_net: &[u32],
+    exempt_node: &[u32],
+    threshold: f64,
+    allowance: usize,
+    scratch: &mut [u64],
+) -> ClearanceAnswer
+    ensures { λ r. ⌜ r ≡ answer (edgeNodeColumns (now (records .entry))) (nodeColumns (now (id .entry)) (now (x .entry)) (now (y .entry)) (now (width .entry)) (now (height .entry))) (exemptionColumns (now («exempt_net» .entry)) (now («exempt_node» .entry))) threshold allowance (length (now (scratch .entry))) ⌝ }
+    ensures { λ _. ⌜ now (scratch .exit) ≡ scratchAfter (firstOf (clearanceConditions (edgeNodeColumns (now (records .entry))) (nodeColumns (now (id .entry)) (now (x .entry)) (now (y .entry)) (now (width .entry)) (now (height .entry))) (exemptionColumns (now («exempt_net» .entry)) (now («exempt_node» .entry))) threshold (length (now (scratch .entry))))) (now (scratch .entry)) ⌝ }
+{
+    let n = records.len();
+    let lines = edge_node_lines(records);
+    clearance_of_lines(
+        lines,
+        n,
+        id,
+        x,
+        y,
+        width,
+        height,
+        exempt_net,
+        exempt_node,
+        threshold,
+        allowance,
+        scratch,
+    )
+}
