@@ -69,8 +69,8 @@
  * where it is 2 to 6.
  *
  * Nothing is kept from one call to the next, so that threads may call at the
- * same time, each with a scratch of its own. A measure takes less than 64 KiB
- * of stack, sheet less than 256 KiB.
+ * same time, each with a scratch of its own. A measure by columns takes less
+ * than 64 KiB of stack, one by records less than 512, the sheet less than 256.
  */
 #ifndef READABILITY_H
 #define READABILITY_H
