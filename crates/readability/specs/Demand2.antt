@@ -7,13 +7,13 @@ use Rattle.congestion.specs.Wires.{cutoffOf}
 use Rattle.congestion.specs.Rounded.{roundedTotal, roundedOverlap}
 use Rattle.congestion.specs.RoundedSweep.{roundedSweep}
 use Rattle.readability.specs.Applies.{NoneApplies}
-use Rattle.readability.specs.Measures.{Measure, Run, resultOfRun, visitCount, earlier, Call, measured, density}
+use Rattle.readability.specs.Measures.{Measure, Run, Binary, resultOfRun, visitCount, earlier, Call, measured, density}
 
 pub record AllPairs (m : Measure) : Type 0 where
   -- the figures of the walk, which skips pairs, are the figures over all pairs, bit by bit, and its visits are the count
-  pub walk : (r : Run m) → NoneApplies (earlier m r) → m .walk (r .drawing) (r .settings) ≡ record { value = m .figures (r .drawing) (r .settings); cost = visitCount m r }
+  pub walk : (r : Run m) → Binary m r → NoneApplies (earlier m r) → m .walk (r .drawing) (r .settings) ≡ record { value = m .figures (r .drawing) (r .settings); cost = visitCount m r }
   -- so an accepted call returns what the walk finds, which is what all pairs give
-  pub returned : (r : Run m) → NoneApplies (earlier m r) → m .reaches (r .allowance) (visitCount m r) ≡ true → resultOfRun m r ≡ m .accepted (m .figures (r .drawing) (r .settings)) (m .walk (r .drawing) (r .settings) .cost)
+  pub returned : (r : Run m) → Binary m r → NoneApplies (earlier m r) → m .reaches (r .allowance) (visitCount m r) ≡ true → resultOfRun m r ≡ m .accepted (m .figures (r .drawing) (r .settings)) (m .walk (r .drawing) (r .settings) .cost)
 
 -- congestion's figures are defined in whole numbers of 1/64. "There every sum and product is exact": the same sums with IEEE 754's rounding at each step are these figures, bit by bit. `roundedTotal` and `roundedOverlap` are over the segments and over all pairs, `roundedSweep` adds in the Rust's order.
 pub record Exact (r : Run density) : Type 0 where

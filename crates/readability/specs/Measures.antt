@@ -181,10 +181,13 @@ pub record Run (m : Measure) : Type 0 where
   pub before : List ℕ
   pub returned : m .Answer
   pub after : List ℕ
-  pub held : m .Held drawing settings
   pub says : Says m drawing settings allowance before returned after
 
 module _ (m : Measure) (r : Run m) where
+  -- its floats are values of binary64, as the parameters' type has it
+  abbrev pub Binary : Type 0
+  Binary = m .Held (r .drawing) (r .settings)
+
   -- what the run returned, and the count of its drawing
   abbrev pub resultOfRun : m .Result
   resultOfRun = m .result (r .returned)
