@@ -1,6 +1,8 @@
 //! The comparison of many drawings: D with the marked cases first, then
 //! generated ones.
 
+use std::thread;
+
 #[cfg(port)]
 use crate::{against_port, port_sheet::Sheets};
 use crate::{
@@ -15,29 +17,48 @@ use crate::{
 };
 
 /// Compares `count` drawings, D first, prints what was met, and returns how
-/// many differ.
+/// many differ. The drawings are shared out among as many threads as there are
+/// processors; each depends on its number and the seed alone.
 pub fn check(count: u64, seed: u64) -> u64 {
+    let threads = thread::available_parallelism().map_or(1, |threads| threads.get() as u64);
+    let tallies: Vec<Tally> = thread::scope(|scope| {
+        let running: Vec<_> = (0..threads)
+            .map(|first| scope.spawn(move || part(first, threads, count, seed)))
+            .collect();
+        running
+            .into_iter()
+            .map(|thread| thread.join().expect("a thread compares to its end"))
+            .collect()
+    });
+    let mut whole = Tally::default();
+    for tally in tallies {
+        whole.join(tally);
+    }
+    whole.print();
+    whole.differ
+}
+
+/// Every `step`th drawing from number `first` on.
+fn part(first: u64, step: u64, count: u64, seed: u64) -> Tally {
     let mut tally = Tally::default();
-    for index in 0..count {
+    for index in (first..count).step_by(step as usize) {
+        let mut random = Random::for_drawing(seed, index);
         if index == 0 {
             let examined = Examined::new(drawing_d());
             let mut differences = examined.differences();
             differences.extend(differences_on_document_01());
-            let mut random = Random::for_drawing(seed, index);
             differences.extend(tally.sheets.compare_d(&mut random));
             #[cfg(port)]
             differences.extend(against_port::differences_at_sizes());
             tally.add(index, "drawing D", examined, differences);
         } else {
-            let mut random = Random::for_drawing(seed, index);
             let (name, examined) = generated(&mut random);
             let mut differences = examined.differences();
             differences.extend(tally.sheets.compare_drawing(&examined.drawing, &mut random));
             tally.add(index, name, examined, differences);
         }
     }
-    tally.print();
-    tally.differ
+    tally
 }
 
 /// A generated drawing, with the name of its kind.
@@ -92,6 +113,8 @@ impl Sheets {
         Vec::new()
     }
 
+    fn join(&mut self, _other: &Self) {}
+
     fn summary(&self) -> String {
         "none".to_string()
     }
@@ -106,7 +129,7 @@ struct Tally {
     reports: [u64; 3],
     refused: [u64; 3],
     sheets: Sheets,
-    first_to_differ: Vec<String>,
+    first_to_differ: Vec<(u64, &'static str)>,
     smallest: Option<(Drawing, Vec<String>)>,
 }
 
@@ -118,7 +141,7 @@ impl Tally {
         examined: Examined,
         differences: Vec<String>,
     ) {
-        self.count_kind(kind);
+        self.count_kind(kind, 1);
         for (place, answer) in examined.answers.iter().enumerate() {
             match answer {
                 Ok(Ok(_)) => self.reports[place] += 1,
@@ -131,19 +154,48 @@ impl Tally {
             return;
         }
         self.differ += 1;
-        if self.first_to_differ.len() < 10 {
-            self.first_to_differ.push(format!("{index} ({kind})"));
+        self.note_differing(index, kind);
+        self.note_smallest(examined.drawing, differences);
+    }
+
+    /// What another thread met besides.
+    fn join(&mut self, other: Self) {
+        self.agree += other.agree;
+        self.differ += other.differ;
+        for (kind, count) in other.kinds {
+            self.count_kind(kind, count);
         }
-        let fewest = self.smallest.as_ref().map(|(drawing, _)| drawing.entries());
-        if fewest.is_none_or(|fewest| examined.drawing.entries() < fewest) {
-            self.smallest = Some((examined.drawing, differences));
+        for place in 0..MEASURES.len() {
+            self.reports[place] += other.reports[place];
+            self.refused[place] += other.refused[place];
+        }
+        self.sheets.join(&other.sheets);
+        for (index, kind) in other.first_to_differ {
+            self.note_differing(index, kind);
+        }
+        if let Some((drawing, differences)) = other.smallest {
+            self.note_smallest(drawing, differences);
         }
     }
 
-    fn count_kind(&mut self, kind: &'static str) {
+    fn count_kind(&mut self, kind: &'static str, more: u64) {
         match self.kinds.iter_mut().find(|(name, _)| *name == kind) {
-            Some((_, count)) => *count += 1,
-            None => self.kinds.push((kind, 1)),
+            Some((_, count)) => *count += more,
+            None => self.kinds.push((kind, more)),
+        }
+    }
+
+    /// Keeps the ten lowest numbers.
+    fn note_differing(&mut self, index: u64, kind: &'static str) {
+        self.first_to_differ.push((index, kind));
+        self.first_to_differ.sort_unstable();
+        self.first_to_differ.truncate(10);
+    }
+
+    fn note_smallest(&mut self, drawing: Drawing, differences: Vec<String>) {
+        let fewest = self.smallest.as_ref().map(|(kept, _)| kept.entries());
+        if fewest.is_none_or(|fewest| drawing.entries() < fewest) {
+            self.smallest = Some((drawing, differences));
         }
     }
 
@@ -169,7 +221,12 @@ impl Tally {
             println!("the port: not linked");
         }
         if let Some((drawing, differences)) = &self.smallest {
-            println!("first to differ: {}", self.first_to_differ.join(", "));
+            let first: Vec<String> = self
+                .first_to_differ
+                .iter()
+                .map(|(index, kind)| format!("{index} ({kind})"))
+                .collect();
+            println!("first to differ: {}", first.join(", "));
             println!("the smallest that differs:");
             match smallest_difference(drawing) {
                 Some(text) => println!("{text}"),

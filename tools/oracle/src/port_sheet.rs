@@ -68,6 +68,12 @@ impl Sheets {
         found
     }
 
+    /// What another thread has compared besides.
+    pub fn join(&mut self, other: &Self) {
+        self.in_process += other.in_process;
+        self.through_the_program += other.through_the_program;
+    }
+
     /// The drawing's file and a damaged one; the program gets one of the two.
     pub fn compare_drawing(&mut self, drawing: &Drawing, random: &mut Random) -> Vec<String> {
         let whole = file::write(drawing);
