@@ -1,24 +1,28 @@
 -- Closeness by comparisons of floats is the closeness of wires. Assumes nothing.
 use mathlib.Core.Path.{_≡_, refl, sym, ap, ap₂, _∙_, subst}
-use mathlib.Core.Bool.{Bool, true, false, _&&_, Bool·beq}
+use mathlib.Core.Logic.{inl, inr}
+use mathlib.Core.List.{List, [], _∷_, map}
+use mathlib.Core.Bool.{Bool, true, false, not, _&&_, Bool·beq}
 use Prim.Native.Nat.{ℕ, zero, suc, _^_, _≤_, _<_}
 use native.Mathlib.Omega.{arith}
 use lib.Dec.{T, ltb, eqb}
 use lib.Ieee.{Float, nan, inf, fin, lt}
 use lib.Ieee.Exact.{HasValue}
 use borrow.Author.Tests.{le-ltb}
+use Rattle.laws.specs.Lists.{Mem, put, chosen, pairs}
 use Rattle.laws.proofs.Tests.{clash}
-use Rattle.floats.specs.Values.{lesserOf, greaterOf}
+use Rattle.laws.proofs.ListLaws.{mem-pairs}
+use Rattle.floats.specs.Values.{plusZero, lesserOf, greaterOf}
 use Rattle.floats.specs.Grid.{onGrid, steps, unit, ofUnits}
 use Rattle.floats.proofs.Rank.{sgn}
 use Rattle.floats.proofs.Units.{grid-value, of-units-value, lt-lengths, lt-units}
 use Rattle.drawing.specs.Entries.{Segment}
 use Rattle.congestion.specs.Wires.{wireOf, cutoffOf}
-use Rattle.congestion.specs.Figures.{apart, close}
-use Rattle.congestion.specs.Rounded.{closeFloats}
+use Rattle.congestion.specs.Figures.{apart, close, pairOverlap}
+use Rattle.congestion.specs.Rounded.{closeFloats, runningSum, roundedOverlap}
 use Rattle.congestion.proofs.LeastGap.{grid-gap}
-use Rattle.congestion.proofs.RoundedSums.{greater-unit, lesser-unit}
-use Rattle.congestion.proofs.Fitness.{FitSegment}
+use Rattle.congestion.proofs.RoundedSums.{greater-unit, lesser-unit, overlap-exact}
+use Rattle.congestion.proofs.Fitness.{FitSegment, FitList}
 
 -- a length is not below a cutoff of 0 or less
 not-below : (x y : Float) (a b : ℕ) → HasValue x false a 64 → HasValue y true b 64 → lt x y ≡ false
@@ -71,3 +75,15 @@ close-floats cutoff s t p q g =
     let d = lesser-unit (s .end) (t .end) (p .end) (q .end) in
     ap₂ _&&_ (ap₂ _&&_ (same-byte (s .orientation) (t .orientation) (p .byte) (q .byte)) (ap (λ (z : Float). lt z cutoff) (a .0) ∙ below-cutoff (apart (unit (s .fixed)) (unit (t .fixed))) cutoff (a .1) g))
     (lt-units (greaterOf (s .start) (t .start)) (lesserOf (s .end) (t .end)) (b .0) (d .0) ∙ ap₂ ltb (b .1) (d .1))
+
+-- ---- the overlap of the pairs that are close by comparisons of floats
+same-chosen : {A C : Type 0} (p q : A → Bool) (h : A → C) (l : List A) → ((x : A) → Mem x l → p x ≡ q x) → chosen p h l ≡ chosen q h l
+unfolding chosen
+same-chosen p q h [] f = refl
+same-chosen p q h (x ∷ l) f = λ i. put (f x (inl refl) i) (h x) (same-chosen p q h l (λ y m. f y (inr m)) i)
+
+pub overlap-floats : (cutoff : Float) (l : List Segment) → FitList l → T (onGrid cutoff) → roundedOverlap cutoff l ≡ ofUnits (pairOverlap (cutoffOf cutoff) (map wireOf l))
+unfolding roundedOverlap
+overlap-floats cutoff l f g =
+    ap (runningSum plusZero) (same-chosen _ _ _ (pairs l) (λ p m. let q = mem-pairs p l m in ap (λ (b : Bool). b && not (eqb (p .0 .net) (p .1 .net))) (close-floats cutoff (p .0) (p .1) (f .each (p .0) (q .0)) (f .each (p .1) (q .1)) g)))
+    ∙ overlap-exact (cutoffOf cutoff) l f

@@ -6,9 +6,10 @@ pub mod Answers
 pub mod Closeness
 pub mod RoundedSums
 pub mod RoundedDrawing
+pub mod RangeTests
 pub mod Examples
 pub mod FoldLaws
--- what they lean on: cells and counts
+-- what they use: cells and counts
 mod CellLaws
 mod Sets
 -- the sweep, event by event

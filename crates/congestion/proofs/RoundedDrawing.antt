@@ -35,7 +35,8 @@ use Rattle.congestion.proofs.Oriented.{leastUnits}
 use Rattle.congestion.proofs.Orientations.{of-only, alike, congested-two, overlap-two, least-two}
 use Rattle.congestion.proofs.SweepFigures.{no-congested, no-overlap, no-least, alone}
 use Rattle.congestion.proofs.Bounds.{congested-small, overlap-small}
-use Rattle.congestion.proofs.RoundedSums.{zero-units, small-wires, low-wires, total-exact, overlap-exact}
+use Rattle.congestion.proofs.RoundedSums.{zero-units, small-wires, low-wires, total-exact}
+use Rattle.congestion.proofs.Closeness.{overlap-floats}
 use Rattle.congestion.proofs.LeastGap.{held-lesser, held-least, lesser-gap, least-gap}
 use Rattle.congestion.proofs.RoundedSweep.{ItemStands, amounts-exact}
 
@@ -148,7 +149,7 @@ pub record Exact (cutoff : Float) (l : List Segment) : Type 0 where
   pub total : roundedTotal l ≡ allPairs cutoff l .value .0 .«total_length»
   pub congested : roundedSweep (cutoffOf cutoff) l .0 ≡ allPairs cutoff l .value .0 .«congested_length»
   pub overlap : roundedSweep (cutoffOf cutoff) l .1 ≡ allPairs cutoff l .value .0 .«pair_overlap_length»
-  pub overlap-pairs : roundedOverlap (cutoffOf cutoff) l ≡ allPairs cutoff l .value .0 .«pair_overlap_length»
+  pub overlap-pairs : T (onGrid cutoff) → roundedOverlap cutoff l ≡ allPairs cutoff l .value .0 .«pair_overlap_length»
   pub least : roundedSweep (cutoffOf cutoff) l .2 ≡ allPairs cutoff l .value .1
 
 pub report-exact : (cutoff : Float) (l : List Segment) → FitList l → Exact cutoff l
@@ -160,6 +161,6 @@ report-exact cutoff l f =
       total = total-exact l f;
       congested = ap (λ (z : Sums). z .0) s;
       overlap = ap (λ (z : Sums). z .1) s;
-      overlap-pairs = overlap-exact c l f;
+      overlap-pairs = λ g. overlap-floats cutoff l f g;
       least = ap (λ (z : Sums). z .2) s ∙ sym (least-gap c l (λ t m. f .each t m .fixed));
     }

@@ -23,7 +23,7 @@ use Rattle.drawing.specs.Entries.{Segment}
 use Rattle.congestion.specs.Wires.{Wire, wireOf}
 use Rattle.congestion.specs.Cells.{extent}
 use Rattle.congestion.specs.Figures.{near, overlaps, overlap, close, other, closeOther, total, pairOverlap}
-use Rattle.congestion.specs.Rounded.{runningSum, span, roundedTotal, roundedOverlap}
+use Rattle.congestion.specs.Rounded.{runningSum, span, roundedTotal}
 use Rattle.congestion.proofs.FoldLaws.{fold-chosen, chosen-under, both, pairs-map}
 use Rattle.congestion.proofs.Orientations.{overlap-sum}
 use Rattle.congestion.proofs.Fitness.{FitList, sound-wires}
@@ -161,6 +161,5 @@ module _ (c : ℕ) (l : List Segment) (f : FitList l) where
       any-order (chosen counts units (pairs l)) (omega arith) r (via (perm-eq (sym (chosen-under counts units ofUnits (λ p. span (greaterOf (p .0 .start) (p .1 .start)) (lesserOf (p .0 .end) (p .1 .end))) (pairs l) one-overlap))) p)
       ∙ ap ofUnits e
 
-  pub overlap-exact : roundedOverlap c l ≡ ofUnits (pairOverlap c (map wireOf l))
-  unfolding roundedOverlap
+  pub overlap-exact : runningSum plusZero (chosen counts (λ p. span (greaterOf (p .0 .start) (p .1 .start)) (lesserOf (p .0 .end) (p .1 .end))) (pairs l)) ≡ ofUnits (pairOverlap c (map wireOf l))
   overlap-exact = overlap-any-order (chosen counts (λ p. span (greaterOf (p .0 .start) (p .1 .start)) (lesserOf (p .0 .end) (p .1 .end))) (pairs l)) (perm-refl _)

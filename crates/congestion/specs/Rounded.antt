@@ -1,18 +1,23 @@
 -- Closeness and the sums of lengths with IEEE 754's rounded steps.
 use mathlib.Core.List.{List, [], _∷_, map}
-use mathlib.Core.Bool.{Bool, _&&_}
-use Prim.Native.Nat.{ℕ}
-use lib.Dec.{eqb}
+use mathlib.Core.Bool.{Bool, not, _&&_}
+use lib.Dec.{eqb, ltb}
 use lib.Ieee.{Float, binary64, add, sub, lt}
 use Rattle.laws.specs.Lists.{chosen, pairs}
+use Rattle.floats.specs.TotalOrder.{keyOf}
 use Rattle.floats.specs.Values.{plusZero, canonicalZero, lesserOf, greaterOf, gapOf}
 use Rattle.drawing.specs.Entries.{Segment}
-use Rattle.congestion.specs.Wires.{wireOf}
-use Rattle.congestion.specs.Figures.{closeOther}
 
 -- "Close: same orientation, positive overlap, fixed gap below the cutoff", by comparisons of floats
 unfoldable pub closeFloats : Float → Segment → Segment → Bool
 closeFloats cutoff s t = eqb (s .orientation) (t .orientation) && lt (gapOf (s .fixed) (t .fixed)) cutoff && lt (greaterOf (s .start) (t .start)) (lesserOf (s .end) (t .end))
+
+-- `Excluded(query.fixed - cutoff), Excluded(query.fixed + cutoff)`: the Rust's range of lines, each bound one rounded step, compared by totalOrder's keys; zeros are +0 first
+unfoldable pub inRangeFloats : Float → Segment → Segment → Bool
+inRangeFloats cutoff s t =
+    let x = canonicalZero (s .fixed) in
+    let y = keyOf (canonicalZero (t .fixed)) in
+    ltb (keyOf (sub binary64 x cutoff)) y && ltb y (keyOf (add binary64 x cutoff))
 
 -- a sum from a float on, one rounded addition after the other
 unfoldable pub runningSum : Float → List Float → Float
@@ -28,5 +33,5 @@ unfoldable pub roundedTotal : List Segment → Float
 roundedTotal l = runningSum plusZero (map (λ s. span (s .start) (s .end)) l)
 
 -- "summed overlap of close different-net pairs": each from the larger start to the smaller end
-unfoldable pub roundedOverlap : ℕ → List Segment → Float
-roundedOverlap c l = runningSum plusZero (chosen (λ p. closeOther c (wireOf (p .0)) (wireOf (p .1))) (λ p. span (greaterOf (p .0 .start) (p .1 .start)) (lesserOf (p .0 .end) (p .1 .end))) (pairs l))
+unfoldable pub roundedOverlap : Float → List Segment → Float
+roundedOverlap cutoff l = runningSum plusZero (chosen (λ p. closeFloats cutoff (p .0) (p .1) && not (eqb (p .0 .net) (p .1 .net))) (λ p. span (greaterOf (p .0 .start) (p .1 .start)) (lesserOf (p .0 .end) (p .1 .end))) (pairs l))
