@@ -32,6 +32,9 @@ struct Kind {
     reach: f64,
     nets: usize,
     exemptions: usize,
+    /// Whether the lists come in the order of document 01's departures; otherwise
+    /// the segments are shuffled.
+    in_order: bool,
 }
 
 /// The lines that the wires lie on.
@@ -56,6 +59,7 @@ const SPARSE: Kind = Kind {
     reach: 8.0,
     nets: 256,
     exemptions: 0,
+    in_order: false,
 };
 
 const DENSE: Kind = Kind {
@@ -94,6 +98,21 @@ const ONE_LINE: Kind = Kind {
     ..DENSE
 };
 
+/// The Rust's sort takes one look at a list that is in order.
+const ONE_LINE_IN_ORDER: Kind = Kind {
+    name: "one line, one net, in order",
+    nets: 1,
+    in_order: true,
+    ..ONE_LINE
+};
+
+/// Nothing is close, and nothing is swept.
+const CUTOFF_ZERO: Kind = Kind {
+    name: "cutoff 0",
+    reach: 0.0,
+    ..DENSE
+};
+
 /// The lines lie as far apart as the cutoff, so that no two wires are close.
 const OUT_OF_REACH: Kind = Kind {
     name: "own lines, out of reach",
@@ -118,11 +137,12 @@ const CLEARANCE: [Kind; 6] = [
     },
 ];
 
-const SEPARATION: [Kind; 7] = [
+const SEPARATION: [Kind; 8] = [
     SPARSE,
     DENSE,
     ONE_NET,
     ONE_LINE,
+    ONE_LINE_IN_ORDER,
     Kind {
         segments: 256,
         ..ALL_OVERLAPPING
@@ -134,7 +154,7 @@ const SEPARATION: [Kind; 7] = [
     ALL_OVERLAPPING,
 ];
 
-const CONGESTION: [Kind; 10] = [
+const CONGESTION: [Kind; 11] = [
     SPARSE,
     Kind {
         segments: 256,
@@ -162,12 +182,14 @@ const CONGESTION: [Kind; 10] = [
         ..OUT_OF_REACH
     },
     OUT_OF_REACH,
+    CUTOFF_ZERO,
 ];
 
 /// Prints for each measure a line for each kind: segments, visits, the best
-/// time of each side, the port's best over the reference's, and the median of
-/// that ratio over the runs, which a busy machine disturbs less. Fails where the
-/// two answers differ.
+/// time of each side, the port's best over the reference's, the median of that
+/// ratio over the runs, which a busy machine disturbs less, and the best time
+/// that clearing the scratch takes alone: the port's calls clear theirs, and the
+/// reference has nothing to clear. Fails where the two answers differ.
 pub fn bench(runs: u64) -> Result<(), String> {
     for (measure, kinds) in [
         (Measure::Clearance, &CLEARANCE[..]),
@@ -175,14 +197,15 @@ pub fn bench(runs: u64) -> Result<(), String> {
         (Measure::Congestion, &CONGESTION[..]),
     ] {
         println!(
-            "{:<28}{:>8}{:>10}{:>10}{:>10}{:>8}{:>8}",
+            "{:<28}{:>8}{:>10}{:>10}{:>10}{:>8}{:>8}{:>10}",
             measure.name(),
             "segments",
             "visits",
             "Rust ms",
             "port ms",
             "ratio",
-            "median"
+            "median",
+            "clear ms"
         );
         for kind in kinds {
             bench_kind(measure, kind, runs)?;
@@ -197,9 +220,9 @@ fn bench_kind(measure: Measure, kind: &Kind, runs: u64) -> Result<(), String> {
         let (measure, kind) = (measure.name(), kind.name);
         format!("{measure}, {kind}: the port tells {told:?}, the Rust otherwise")
     })?;
-    let [rust, port] = best(&times);
+    let [rust, port, clearing] = best(&times);
     println!(
-        "{:<28}{:>8}{visits:>10}{rust:>10.3}{port:>10.3}{:>8.3}{:>8.3}",
+        "{:<28}{:>8}{visits:>10}{rust:>10.3}{port:>10.3}{:>8.3}{:>8.3}{clearing:>10.3}",
         kind.name,
         kind.segments,
         port / rust,
@@ -208,10 +231,10 @@ fn bench_kind(measure: Measure, kind: &Kind, runs: u64) -> Result<(), String> {
     Ok(())
 }
 
-/// The visits, and for each run the milliseconds of the reference and of the
-/// port. The two take turns, so that a machine that is slow for a while is slow
-/// for both.
-fn times(measure: Measure, drawing: &Drawing, runs: u64) -> Result<(u64, Vec<[f64; 2]>), Told> {
+/// The visits, and for each run the milliseconds of the reference, of the port
+/// and of clearing its scratch. They take turns, so that a machine that is slow
+/// for a while is slow for all.
+fn times(measure: Measure, drawing: &Drawing, runs: u64) -> Result<(u64, Vec<[f64; 3]>), Told> {
     let call = Call::of_sheet(measure);
     let fed = Fed::as_given(drawing);
     let columns = Columns::of(drawing);
@@ -225,19 +248,20 @@ fn times(measure: Measure, drawing: &Drawing, runs: u64) -> Result<(u64, Vec<[f6
             return Err(by_port);
         }
         visits = by_port.visits();
-        times.push([rust, port]);
+        let ((), clearing) = timed(|| black_box(&mut scratch[..]).fill(0));
+        times.push([rust, port, clearing]);
     }
     Ok((visits, times))
 }
 
-fn best(times: &[[f64; 2]]) -> [f64; 2] {
-    times.iter().fold([f64::INFINITY; 2], |best, time| {
-        [best[0].min(time[0]), best[1].min(time[1])]
+fn best(times: &[[f64; 3]]) -> [f64; 3] {
+    times.iter().fold([f64::INFINITY; 3], |best, time| {
+        [0, 1, 2].map(|of| best[of].min(time[of]))
     })
 }
 
-fn median_ratio(times: &[[f64; 2]]) -> f64 {
-    let mut ratios: Vec<f64> = times.iter().map(|[rust, port]| port / rust).collect();
+fn median_ratio(times: &[[f64; 3]]) -> f64 {
+    let mut ratios: Vec<f64> = times.iter().map(|[rust, port, _]| port / rust).collect();
     ratios.sort_by(f64::total_cmp);
     ratios[ratios.len() / 2]
 }
@@ -283,6 +307,9 @@ fn drawing(kind: &Kind, random: &mut Random) -> Drawing {
             congestion: u64::MAX,
         },
     };
+    if kind.in_order {
+        return drawing.in_list_order();
+    }
     random.shuffle(&mut drawing.segments);
     drawing
 }
