@@ -2,7 +2,7 @@
 ghost use mathlib.Core.Path.{_≡_};
 ghost use mathlib.Core.List.{_++_};
 ghost use lib.ListN.{length, drop};
-ghost use Rattle.file.specs.Sheet as Sheet;
+ghost use Rattle.printing.specs.Sheet as Sheet;
 
 // The text's length. The text stands at the front of the buffer, and the bytes behind it are untouched.
 #[no_mangle]
@@ -10,5 +10,5 @@ pub extern "C" fn readability_sheet(bytes: &[u8], text: &mut [u8; 256]) -> usize
     ensures { λ r. ⌜ r ≡ length (Sheet.sheet (now (bytes .entry))) ⌝ }
     ensures { λ _. ⌜ now (text .exit) ≡ Sheet.sheet (now (bytes .entry)) ++ drop (length (Sheet.sheet (now (bytes .entry)))) (now (text .entry)) ⌝ }
 {
-    file::sheet(bytes, text)
+    printing::sheet(bytes, text)
 }

@@ -1,5 +1,4 @@
--- Drawing D, and that the first 9,774 bytes decide.
-pub mod DrawingD
+-- The first 9,774 bytes decide.
 pub mod FirstBytes
 -- readers of one width, their lists, and the parts of a file
 pub mod BigEndian
@@ -12,8 +11,3 @@ pub mod ReadingLaid
 -- the columns that a file fills
 pub mod ColumnsFilled
 pub mod ColumnsRead
--- a text put into a buffer, the digits of numbers, and the sheet's lines
-pub mod TextPuts
-pub mod DigitTexts
-pub mod Printing
-pub mod SheetFits

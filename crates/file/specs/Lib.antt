@@ -1,8 +1,5 @@
--- The definitions: what the bytes of a file say, and the text of its sheet.
+-- The definitions: what the bytes of a file say.
 pub mod Reading
 pub mod Columns
-pub mod Text
-pub mod Sheet
 -- what only private contracts cite
 pub mod Places
-pub mod TextPut

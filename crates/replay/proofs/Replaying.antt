@@ -5,7 +5,7 @@ use mathlib.Core.List.{List, _++_}
 use Prim.Native.Nat.{ℕ, _≤_}
 use lib.ListN.{length, take, drop}
 use lib.Seq.{take-append-seam}
-use Rattle.file.specs.Sheet.{sheet}
+use Rattle.printing.specs.Sheet.{sheet}
 use Rattle.replay.specs.declared.Part.{Part}
 use Rattle.replay.specs.declared.Part.the-variants.{Whole}
 use Rattle.replay.specs.Parts.{Within}

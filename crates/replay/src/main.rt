@@ -3,7 +3,7 @@
 // A record is the length of a drawing file, the file, the length of its sheet and the sheet; a length has 32 bits, big-endian. Where a part is not whole or does not fit its buffer nothing behind it can be told apart, so that the record counts as differing and the run ends.
 ghost use mathlib.Core.Path.{_≡_};
 ghost use mathlib.Core.Bool.{true};
-ghost use Rattle.file.specs.Sheet as Sheet;
+ghost use Rattle.printing.specs.Sheet as Sheet;
 ghost use Rattle.replay.specs.Parts.{Within};
 use libc::STDIN_FILENO;
 use libc::STDOUT_FILENO;
@@ -67,7 +67,7 @@ fn agrees(bytes: &[u8], expected: &[u8]) -> bool
     ensures { λ r. ⌜ (r ≡ true → Sheet.sheet (now (bytes .entry)) ≡ now (expected .entry)) × (Sheet.sheet (now (bytes .entry)) ≡ now (expected .entry) → r ≡ true) ⌝ }
 {
     let mut text = [0u8; 256];
-    let length = file::sheet(bytes, &mut text);
+    let length = printing::sheet(bytes, &mut text);
     check::same(&text[..length], expected)
 }
 

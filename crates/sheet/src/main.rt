@@ -6,6 +6,6 @@ fn main() {
     let mut bytes = [0u8; 9774];
     let n = io::read_full(STDIN_FILENO, &mut bytes);
     let mut text = [0u8; 256];
-    let length = file::sheet(&bytes[..n], &mut text);
+    let length = printing::sheet(&bytes[..n], &mut text);
     io::write_all(STDOUT_FILENO, &text[..length]);
 }

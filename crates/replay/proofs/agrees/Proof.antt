@@ -1,5 +1,5 @@
 -- `replay::agrees` meets its contract: the front of the buffer is the sheet, and it is compared byte by byte. Assumes nothing.
-use Rattle.file.proofs.SheetFits.{sheet-fits}
+use Rattle.printing.proofs.SheetFits.{sheet-fits}
 use Rattle.io.proofs.Counting.{front}
 use Rattle.replay.proofs.Replaying.{front-is-sheet, same-is-agreeing}
 use borrow.Author.Needs.{needs}

@@ -1,6 +1,6 @@
 -- `sheet::main` is safe and ends: the text that was put stands within its buffer. Assumes nothing.
 use Rattle.io.proofs.Counting.{front}
-use Rattle.file.proofs.SheetFits.{sheet-fits}
+use Rattle.printing.proofs.SheetFits.{sheet-fits}
 use borrow.Author.Needs.{needs}
 use Rattle.sheet.proofs.main.Statement.{statement}
 use Rattle.sheet.proofs.main.Tie as tie

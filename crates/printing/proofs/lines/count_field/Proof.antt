@@ -1,0 +1,20 @@
+-- `printing::lines::count_field` meets its contract: a space, and the field behind it. Assumes nothing.
+use Rattle.printing.proofs.TextPuts.{put-both}
+use borrow.Author.Needs.{needs}
+use Rattle.printing.proofs.lines.count_field.Statement.{statement}
+use Rattle.printing.proofs.lines.count_field.Tie as tie
+
+put-byte-requires : tie.Need-put-byte-requires
+put-byte-requires c κs = search needs
+
+put-decimal-requires : tie.Need-put-decimal-requires
+put-decimal-requires c κs = search needs
+
+same-length : tie.Need-same-length
+same-length c = search needs
+
+returns : tie.Need-returns
+returns c = put-both (c .before .before .before .before .before .before .put-byte .ensures) (c .before .before .put-decimal .ensures)
+
+pub count-field-spec : {M : Type 1} → statement M
+count-field-spec = tie.close (tie.spec put-byte-requires put-decimal-requires same-length returns)

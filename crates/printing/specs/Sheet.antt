@@ -1,0 +1,86 @@
+-- The text of a sheet: "three lines", or "a refused file only `file refused` and the number".
+use mathlib.Core.List.{List, [], _∷_, _++_, map}
+use Prim.Native.Nat.{ℕ}
+use Rattle.drawing.specs.declared.refusal.Refusal.{Refusal}
+use Rattle.drawing.specs.Entries.{Segment, Node, Exemption, SegmentColumns, NodeColumns, ExemptionColumns}
+use Rattle.drawing.specs.Refusals.{numberOf}
+use Rattle.clearance.specs.declared.report.ClearanceAnswer.{ClearanceAnswer}
+use Rattle.clearance.specs.declared.report.ClearanceAnswer.the-variants as ofClearance
+use Rattle.clearance.specs.Answer.{answer}
+use Rattle.separation.specs.declared.report.SeparationAnswer.{SeparationAnswer}
+use Rattle.separation.specs.declared.report.SeparationAnswer.the-variants as ofSeparation
+use Rattle.separation.specs.Answer.{separation}
+use Rattle.congestion.specs.declared.report.CongestionAnswer.{CongestionAnswer}
+use Rattle.congestion.specs.declared.report.CongestionAnswer.the-variants as ofCongestion
+use Rattle.congestion.specs.Answer.{densityAnswer}
+use Rattle.file.specs.Reading.{Settings, Drawing, Read, got, refused, read}
+use Rattle.printing.specs.Text.{decimal, float, gap, fields}
+
+-- the words of a sheet, as bytes: clearance, separation, congestion, file, refused
+unfoldable pub clearanceWord : List ℕ
+clearanceWord = 99 ∷ 108 ∷ 101 ∷ 97 ∷ 114 ∷ 97 ∷ 110 ∷ 99 ∷ 101 ∷ []
+
+unfoldable pub separationWord : List ℕ
+separationWord = 115 ∷ 101 ∷ 112 ∷ 97 ∷ 114 ∷ 97 ∷ 116 ∷ 105 ∷ 111 ∷ 110 ∷ []
+
+unfoldable pub congestionWord : List ℕ
+congestionWord = 99 ∷ 111 ∷ 110 ∷ 103 ∷ 101 ∷ 115 ∷ 116 ∷ 105 ∷ 111 ∷ 110 ∷ []
+
+unfoldable pub fileWord : List ℕ
+fileWord = 102 ∷ 105 ∷ 108 ∷ 101 ∷ []
+
+unfoldable pub refusedWord : List ℕ
+refusedWord = 114 ∷ 101 ∷ 102 ∷ 117 ∷ 115 ∷ 101 ∷ 100 ∷ []
+
+-- "A refused measure prints its name, `refused` and the number"
+unfoldable pub refusal : List ℕ → Refusal → List ℕ
+refusal name r = name ++ fields (refusedWord ∷ decimal (numberOf r) ∷ [])
+
+-- "least, violations, visits"
+unfoldable pub clearanceLine : ClearanceAnswer → List ℕ
+clearanceLine (ofClearance.Report r) = clearanceWord ++ fields (gap (r .«minimum_clearance») ∷ decimal (r .violations) ∷ decimal (r .visits) ∷ [])
+clearanceLine (ofClearance.Refused r) = refusal clearanceWord r
+
+-- "least, least nonzero, visits"
+unfoldable pub separationLine : SeparationAnswer → List ℕ
+separationLine (ofSeparation.Report r) = separationWord ++ fields (gap (r .minimum) ∷ gap (r .«minimum_positive») ∷ decimal (r .visits) ∷ [])
+separationLine (ofSeparation.Refused r) = refusal separationWord r
+
+-- "total, congested, pair overlap, peak, least nonzero close gap, visits"
+unfoldable pub congestionLine : CongestionAnswer → List ℕ
+congestionLine (ofCongestion.Report r) =
+    let c = r .congestion in
+    congestionWord ++ fields (float (c .«total_length») ∷ float (c .«congested_length») ∷ float (c .«pair_overlap_length») ∷ decimal (c .«peak_close_neighbors») ∷ gap (r .«minimum_positive») ∷ decimal (r .visits) ∷ [])
+congestionLine (ofCongestion.Refused r) = refusal congestionWord r
+
+-- a drawing's lists as columns
+unfoldable pub segmentsApart : List Segment → SegmentColumns
+segmentsApart l = record { net = map (λ s. s .net) l; orientation = map (λ s. s .orientation) l; fixed = map (λ s. s .fixed) l; start = map (λ s. s .start) l; end = map (λ s. s .end) l }
+
+unfoldable pub nodesApart : List Node → NodeColumns
+nodesApart l = record { id = map (λ n. n .id) l; x = map (λ n. n .x) l; y = map (λ n. n .y) l; width = map (λ n. n .width) l; height = map (λ n. n .height) l }
+
+unfoldable pub exemptionsApart : List Exemption → ExemptionColumns
+exemptionsApart l = record { net = map (λ e. e .net) l; node = map (λ e. e .node) l }
+
+-- the words of scratch that the program lends to each call: "32 times (segments + nodes) plus 64 words" for 120 segments and 120 nodes
+unfoldable pub scratchWords : ℕ
+scratchWords = 7744
+
+-- the three lines of columns and settings: clearance, separation, congestion, each by its own allowance
+unfoldable pub measured : SegmentColumns → NodeColumns → ExemptionColumns → Settings → List ℕ
+measured s n e set =
+    clearanceLine (answer s n e (set .threshold) (set .clearance) scratchWords)
+    ++ (separationLine (separation s (set .separation) scratchWords)
+    ++ congestionLine (densityAnswer s (set .cutoff) (set .congestion) scratchWords))
+
+unfoldable pub lines : Drawing → List ℕ
+lines d = measured (segmentsApart (d .segments)) (nodesApart (d .nodes)) (exemptionsApart (d .exemptions)) (d .settings)
+
+unfoldable pub printed : Read Drawing → List ℕ
+printed (got d rest) = lines d
+printed (refused r) = refusal fileWord r
+
+-- "reads it from standard input and writes three lines"
+unfoldable pub sheet : List ℕ → List ℕ
+sheet bytes = printed (read bytes)
