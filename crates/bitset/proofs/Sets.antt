@@ -1,15 +1,14 @@
--- The members of a set of places: none in words that are 0 and none beyond the words; one more, one less. Assumes nothing.
+-- The members of a set of places: none beyond the words; one more, one less. Assumes nothing.
 use mathlib.Core.Path.{_≡_, refl, _∙_}
 use mathlib.Core.Logic.{inl, inr}
 use mathlib.Core.Bool.{Bool, false, not, _&&_, _||_}
-use mathlib.Core.List.{List, [], _∷_}
-use Prim.Native.Nat.{ℕ, zero, suc, _+_, _-_, _/_, _%_, _^_, _≤_, _<_}
+use mathlib.Core.List.{List}
+use Prim.Native.Nat.{ℕ, _+_, _-_, _/_, _%_, _^_, _≤_, _<_}
 use native.Mathlib.Omega.{arith}
 use borrow.Author.Tests.{eq-eqb, ne-eqb}
 use lib.Dec.{eqb}
-use lib.ListN.{length, getD, set, replicate, length-set, List·getD-eq-default}
+use lib.ListN.{length, getD, set, length-set, List·getD-eq-default}
 use lib.Seq.{getD-set-same, getD-set-other, set-out}
-use Rattle.laws.specs.Lists.{All}
 use Rattle.laws.proofs.Tests.{decide, same-or-not}
 use Rattle.bitset.specs.Members.{bitAt, member, inserted, removed}
 use Rattle.bitset.proofs.Digits.{bit-zero, bit-set, bit-set-other, bit-clear, bit-clear-other}
@@ -18,29 +17,13 @@ member-bit : (w : List ℕ) (p : ℕ) {b : Bool} → member w p ≡ b → bitAt 
 unfolding member
 member-bit w p m = m
 
--- ---- no members
+-- ---- no members where the word is 0, nor beyond the words
 none-at : (w : List ℕ) (p : ℕ) → getD w (p / 64) 0 ≡ 0 → member w p ≡ false
 unfolding member
 none-at w p e = rw e (bit-zero (p % 64))
 
 pub member-beyond : (w : List ℕ) (p : ℕ) → length w ≤ p / 64 → member w p ≡ false
 member-beyond w p h = none-at w p (List·getD-eq-default w 0 {n = p / 64} h)
-
-zero-word : (w : List ℕ) → All (λ x. x ≡ 0) w → (i : ℕ) → getD w i 0 ≡ 0
-zero-word [] h i = refl
-zero-word (x ∷ w) h zero = h .0
-zero-word (x ∷ w) h (suc i) = zero-word w (h .1) i
-
--- words that are 0 hold no members
-pub member-zeros : (w : List ℕ) → All (λ x. x ≡ 0) w → (p : ℕ) → member w p ≡ false
-member-zeros w h p = none-at w p (zero-word w h (p / 64))
-
-all-zero : (n : ℕ) → All (λ x. x ≡ 0) (replicate {A = ℕ} n 0)
-all-zero zero = tt
-all-zero (suc n) = (refl, all-zero n)
-
-pub member-cleared : (n p : ℕ) → member (replicate {A = ℕ} n 0) p ≡ false
-member-cleared n p = member-zeros (replicate {A = ℕ} n 0) (all-zero n) p
 
 -- ---- another word v takes the place of the word of `place`
 module _ (w : List ℕ) (place v : ℕ) (inside : place / 64 < length w) where

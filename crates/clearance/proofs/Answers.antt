@@ -15,7 +15,7 @@ use Rattle.drawing.specs.declared.refusal.Check.{Check}
 use Rattle.drawing.specs.declared.refusal.Check.the-variants.{Passed, Refused as Stopped}
 use Rattle.drawing.specs.declared.refusal.Refusal.the-variants.{WorkLimitExceeded}
 use Rattle.drawing.specs.Entries.{SegmentColumns, NodeColumns, ExemptionColumns, segments, nodes, exemptions}
-use Rattle.drawing.specs.Refusals.{numberOf, firstOf}
+use Rattle.drawing.specs.Refusals.{numberOf, firstOf, checked}
 use Rattle.drawing.specs.Conditions.{unfitSegment, unfitNode}
 use Rattle.drawing.specs.Checks.{listConditions, entryConditions, clearanceConditions}
 use Rattle.drawing.proofs.FirstRefusal.{passed-head}
@@ -25,7 +25,7 @@ use Rattle.clearance.specs.declared.report.ClearanceAnswer.{ClearanceAns
 use Rattle.clearance.specs.declared.report.ClearanceAnswer.the-variants.{Refused}
 use Rattle.clearance.specs.Figures.{Figures, figures}
 use Rattle.clearance.specs.Walk.{visitCount}
-use Rattle.clearance.specs.Answer.{accepted, allPairs, unless, answer, Result, acceptedResult, refusedResult, result}
+use Rattle.clearance.specs.Answer.{accepted, allPairs, answer, Result, acceptedResult, refusedResult, result}
 use Rattle.clearance.proofs.Fit.{FitSegment, FitNode, FitThreshold}
 use Rattle.clearance.proofs.AnyOrder.{all-pairs-any-order}
 
@@ -69,11 +69,11 @@ module _ (s s′ : SegmentColumns) (o : SameSegments s s′) (n n′ : NodeColum
   unfolding answer
   answer-any-order allowance words =
       go (firstOf (clearanceConditions s n e t words)) (λ h. ap (settle accepted (Refused WorkLimitExceeded) allowance) (all-pairs-order words h))
-      ∙ ap (λ (c : Check). unless c (settle accepted (Refused WorkLimitExceeded) allowance (allPairs (exemptions e′) t (segments s′) (nodes n′)))) (ap firstOf (clearance-order s s′ o n n′ p e e′ q t words))
+      ∙ ap (λ (c : Check). checked Refused c (settle accepted (Refused WorkLimitExceeded) allowance (allPairs (exemptions e′) t (segments s′) (nodes n′)))) (ap firstOf (clearance-order s s′ o n n′ p e e′ q t words))
     where
-      go : (c : Check) {x y : ClearanceAnswer} → (c ≡ Passed → x ≡ y) → unless c x ≡ unless c y
-      go Passed k = unfold unless in k refl
-      go (Stopped r) k = unfold unless in refl
+      go : (c : Check) {x y : ClearanceAnswer} → (c ≡ Passed → x ≡ y) → checked Refused c x ≡ checked Refused c y
+      go Passed k = k refl
+      go (Stopped r) k = refl
 
 -- ---- the allowance
 -- "7 is the spent-allowance refusal"
@@ -82,7 +82,7 @@ spent = refusedResult 7
 
 result-passed : (s : SegmentColumns) (n : NodeColumns) (e : ExemptionColumns) (t : Float) (allowance words : ℕ) → passes s n e t words
     → result (answer s n e t allowance words) ≡ settle acceptedResult spent allowance (allPairs (exemptions e) t (segments s) (nodes n))
-unfolding answer unless settle result accepted numberOf
+unfolding answer settle result accepted numberOf
 result-passed s n e t allowance words h = let c = allPairs (exemptions e) t (segments s) (nodes n) in rw h (go (reaches allowance c) (c .value) (c .cost))
   where
     go : (b : Bool) (g : Figures) (count : ℕ) → result (cond b (accepted g count) (Refused WorkLimitExceeded)) ≡ cond b (acceptedResult g count) spent

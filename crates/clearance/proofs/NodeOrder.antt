@@ -78,12 +78,12 @@ unfolding indexedRow
 row-one true m n p q e = held-one m n p q (cc) (cc) (cc) (cc) (cc)
 row-one false m n p q e = held-one m n p q (cc) (cc) (cc) (cc) (cc)
 
-pub indexed-one-order : (horizontal : Bool) {l r : List IndexedNode} → Perm l r → All FitIndexed l → indexedInOrder horizontal l ≡ indexedInOrder horizontal r
+indexed-one-order : (horizontal : Bool) {l r : List IndexedNode} → Perm l r → All FitIndexed l → indexedInOrder horizontal l ≡ indexedInOrder horizontal r
 unfolding indexedInOrder
 indexed-one-order h p k = sort-same (λ a b. rowLe (indexedRow h a) (indexedRow h b)) (by-rows (indexedRow h)) FitIndexed (λ a b x y u v. row-one h a b x y (row-antisym (indexedRow h a) (indexedRow h b) u v)) p k
 
 -- ---- a tree over nodes in any order: the boxes that the Rust folds are only alike, those of the leaves and so their unions are the same
-pub build-any-nodes : (k : ℕ) {l r : List IndexedNode} → Perm l r → All WholeIndexed l → rejoined (build k l) ≡ rejoined (build k r)
+build-any-nodes : (k : ℕ) {l r : List IndexedNode} → Perm l r → All WholeIndexed l → rejoined (build k l) ≡ rejoined (build k r)
 unfolding build rejoined
 build-any-nodes k {l} {r} p h = go k l r p h
   where

@@ -34,7 +34,7 @@ use Rattle.clearance.specs.Figures.{exempt, distances}
 use Rattle.clearance.specs.Tree.{indexed}
 use Rattle.clearance.specs.Exempting.{Holds, Gathered, Own, Listed}
 use Rattle.clearance.specs.Looking.{nearer, noPair, withPair, inTurn, lookNodes, lookSegments}
-use Rattle.clearance.specs.TightPair.{Tight, unless, found, answer, Answered}
+use Rattle.clearance.specs.TightPair.{Tight, found, answer, Answered}
 use Rattle.clearance.proofs.Fit.{FitSegment, FitNode}
 use Rattle.clearance.proofs.BoxLaws.{fit-node, fit-segment, distance-good}
 use Rattle.clearance.proofs.TreeLaws.{indexed-fit}
@@ -247,7 +247,7 @@ module _ (ex : List Exemption) (ss : List Segment) (ns : List Node) (b : Best) (
 
 module _ (s : SegmentColumns) (n : NodeColumns) (e : ExemptionColumns) where
   pub answer-refused : (why : Refusal) → firstOf (tightPairConditions s n e) ≡ Stopped why → Answered s n e (Refused why)
-  unfolding answer unless
+  unfolding answer
   answer-refused why h = record { choice = (0, 0); is = rw h; tight = λ i j g. let z : _≡_ {A = ℕ} 0 1 = cc in absurd (omega arith) }
 
   module _ (passed : firstOf (tightPairConditions s n e) ≡ Passed) (held : FloatsLent s n) (before words : List ℕ) (gathered : Gathered e before words)
@@ -261,7 +261,7 @@ module _ (s : SegmentColumns) (n : NodeColumns) (e : ExemptionColumns) where
         (all-looked (exemptions e) (segments s) (nodes n) (pair-segments s n e passed held) (pair-nodes s n e passed held))
 
     pub answered : (r : TightPair) → r ≡ found (b .least) (b .segment, b .node) → Answered s n e r
-    unfolding answer unless
+    unfolding answer
     answered r is = record {
       choice = (b .segment, b .node);
       is = is ∙ rw passed (ap (λ (g : Gap). found g (b .segment, b .node)) (best .least));

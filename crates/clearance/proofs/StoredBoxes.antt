@@ -181,9 +181,6 @@ splits-one s i n b h g e = record { len = refl; else = λ q o. refl; tree = tree
     box (suc k) q = e ∙ sym (ap boundsOf (one-leaf k s i n one) ∙ unfold boundsOf in refl)
 
 module _ (s₀ s₁ s₂ s₃ : List ℕ) (i n : ℕ) (bl br u : Aabb) (two : 2 ≤ n) (p : SplitsPut s₀ s₁ i (n / 2) bl) (q : SplitsPut s₁ s₂ (i + n / 2) (n - n / 2) br) (e : u ≡ union bl br) (b : BoxPut s₂ s₃ (9 * (i + n / 2) + 4) u) where
-  half : ℕ
-  half = n / 2
-
   -- the leaves stay
   last-leaf : (j : ℕ) → leafAt s₃ j ≡ leafAt s₂ j
   last-leaf j = elim (le-or-lt j (i + n / 2)) [

@@ -18,7 +18,7 @@ use Rattle.clearance.specs.declared.tight_pair.TightPair.{TightPair}
 use Rattle.clearance.specs.declared.tight_pair.TightPair.the-variants.{Pair, Absent}
 use Rattle.clearance.specs.Boxes.{fromNode, fromSegment, nodeBox, segmentBox, axisGap, distance}
 use Rattle.clearance.specs.Figures.{exempt, distances}
-use Rattle.clearance.specs.TightPair.{Tight, unless, found, answer, Answered, Result, result}
+use Rattle.clearance.specs.TightPair.{Tight, found, answer, Answered, Result, result}
 
 abbrev float : ℕ → Float
 float bits = ofBits binary64 bits
@@ -54,7 +54,7 @@ pub record PairExamples : Type 0 where
   pub no-length : (pair : ℕ × ℕ) → result (answer (segmentColumns (1 ∷ []) (1 ∷ []) (float 0 ∷ []) (float 0 ∷ []) (float 0 ∷ [])) d-nodes d-exemptions pair) ≡ refusal 5
 
 pub pair-examples : PairExamples
-unfolding ofBits toBits add sub lt some-of chosen cross lesser least greaterOf segmentsOf nodesOf exemptionsOf gapFrom leastGap numberOf firstOf differ tooMany unfitLine unfitSegment unfitExtent unfitNode segmentsDiffer nodesDiffer exemptionsDiffer listConditions entryConditions tightPairConditions fromNode fromSegment nodeBox segmentBox axisGap distance exempt distances unless found answer result
+unfolding ofBits toBits add sub lt some-of chosen cross lesser least greaterOf segmentsOf nodesOf exemptionsOf gapFrom leastGap numberOf firstOf differ tooMany unfitLine unfitSegment unfitExtent unfitNode segmentsDiffer nodesDiffer exemptionsDiffer listConditions entryConditions tightPairConditions fromNode fromSegment nodeBox segmentBox axisGap distance exempt distances found answer result
 pair-examples = record {
   d = λ i j. refl;
   d-tight = record { segment = _; node = _; segment-at = refl; node-at = refl; free = refl; least = refl };

@@ -46,7 +46,7 @@ use Rattle.clearance.specs.Tables.{SegmentsOrdered}
 use Rattle.clearance.specs.Stored.{storedTree, Grown}
 use Rattle.clearance.specs.Exempting.{Holds, Gathered}
 use Rattle.clearance.specs.Walking.{walkedOf, Part, Held, InTurns, allWalks, Remains, Answers}
-use Rattle.clearance.specs.Answer.{accepted, unless, answer}
+use Rattle.clearance.specs.Answer.{accepted, answer}
 use Rattle.clearance.proofs.Fit.{FitSegment, FitNode}
 use Rattle.clearance.proofs.Answers.{Lent, passes, fit-call}
 use Rattle.clearance.proofs.WithinAllowance.{reply-within}
@@ -207,12 +207,12 @@ remains c allowance r e w h = elim (le-or-lt (c .cost) allowance) [
 
 -- ---- the call
 pub refused-answer : (s : SegmentColumns) (n : NodeColumns) (e : ExemptionColumns) (t : Float) (allowance words : ℕ) (c : Check) (r : Refusal) → c ≡ firstOf (clearanceConditions s n e t words) → c ≡ Stopped r → Refused r ≡ answer s n e t allowance words
-unfolding answer unless
+unfolding answer
 refused-answer s n e t allowance words c r h g = sym (rw (sym h ∙ g))
 
 pub passed-answer : (s : SegmentColumns) (n : NodeColumns) (e : ExemptionColumns) (t : Float) (allowance words : ℕ) → passes s n e t words → Lent s n t → (w : Walked) → w ≡ walkedOf (within allowance (walkAll (exemptions e) t (segments s) (nodes n)))
     → (a : ClearanceAnswer) → Answers w allowance a → a ≡ answer s n e t allowance words
-unfolding answer unless
+unfolding answer
 passed-answer s n e t allowance words p lent w h a k =
     let f = fit-call s n e t words lent p in
     rw p (k (within allowance (walkAll (exemptions e) t (segments s) (nodes n))) h ∙ reply-within (exemptions e) t (segments s) (nodes n) (f .threshold-fit) (f .segments-fit) (f .nodes-fit) allowance)

@@ -6,11 +6,9 @@ use lib.Ieee.{Float}
 use Rattle.laws.specs.Charged.{Charged, settle}
 use Rattle.drawing.specs.declared.gap.Gap.{Gap}
 use Rattle.drawing.specs.declared.gap.Gap.the-variants.{Absent}
-use Rattle.drawing.specs.declared.refusal.Check.{Check}
-use Rattle.drawing.specs.declared.refusal.Check.the-variants.{Passed, Refused as Stopped}
 use Rattle.drawing.specs.declared.refusal.Refusal.the-variants.{WorkLimitExceeded}
 use Rattle.drawing.specs.Entries.{Segment, Node, Exemption, SegmentColumns, NodeColumns, ExemptionColumns, segments, nodes, exemptions}
-use Rattle.drawing.specs.Refusals.{numberOf, firstOf}
+use Rattle.drawing.specs.Refusals.{numberOf, firstOf, checked}
 use Rattle.drawing.specs.Checks.{clearanceConditions}
 use Rattle.clearance.specs.declared.report.ClearanceAnswer.{ClearanceAnswer}
 use Rattle.clearance.specs.declared.report.ClearanceAnswer.the-variants.{Report, Refused}
@@ -25,15 +23,10 @@ accepted g count = Report (record { «minimum_clearance» = g .least; violations
 unfoldable pub allPairs : List Exemption → Float → List Segment → List Node → Charged Figures
 allPairs ex threshold ss ns = record { value = figures ex threshold ss ns; cost = visitCount ex threshold ss ns }
 
--- the first refusal that applies, else what follows
-unfoldable pub unless : Check → ClearanceAnswer → ClearanceAnswer
-unless Passed a = a
-unless (Stopped r) a = Refused r
-
 -- the checks in order; then "`WorkLimitExceeded`: the visit count exceeds the allowance", else the all-pairs report
 unfoldable pub answer : SegmentColumns → NodeColumns → ExemptionColumns → Float → ℕ → ℕ → ClearanceAnswer
 answer s n e threshold allowance words =
-    unless (firstOf (clearanceConditions s n e threshold words))
+    checked Refused (firstOf (clearanceConditions s n e threshold words))
     (settle accepted (Refused WorkLimitExceeded) allowance (allPairs (exemptions e) threshold (segments s) (nodes n)))
 
 -- what a reader finds in an answer, document 01's number and values: `refused` is absent where the call was accepted

@@ -7,11 +7,9 @@ use Prim.Native.Nat.{ℕ}
 use lib.ListN.{getElem?}
 use Rattle.drawing.specs.declared.gap.Gap.{Gap}
 use Rattle.drawing.specs.declared.gap.Gap.the-variants.{Absent as NoGap, Present}
-use Rattle.drawing.specs.declared.refusal.Check.{Check}
-use Rattle.drawing.specs.declared.refusal.Check.the-variants.{Passed, Refused as Stopped}
 use Rattle.drawing.specs.Entries.{Segment, Node, Exemption, SegmentColumns, NodeColumns, ExemptionColumns, segments, nodes, exemptions}
 use Rattle.drawing.specs.Gaps.{leastGap}
-use Rattle.drawing.specs.Refusals.{numberOf, firstOf}
+use Rattle.drawing.specs.Refusals.{numberOf, firstOf, checked}
 use Rattle.drawing.specs.Checks.{tightPairConditions}
 use Rattle.clearance.specs.declared.tight_pair.TightPair.{TightPair}
 use Rattle.clearance.specs.declared.tight_pair.TightPair.the-variants.{Pair, Absent, Refused}
@@ -27,11 +25,6 @@ pub record Tight (ex : List Exemption) (ss : List Segment) (ns : List Node) (i j
   pub free : exempt ex (segment .net) (node .id) ≡ false
   pub least : Present (distance (segmentBox segment) (nodeBox node)) ≡ leastGap (distances ex ss ns)
 
--- the first refusal that applies, else what follows
-unfoldable pub unless : Check → TightPair → TightPair
-unless Passed a = a
-unless (Stopped r) a = Refused r
-
 -- the pair where there is a least clearance, "or absent if there is none"
 unfoldable pub found : Gap → ℕ × ℕ → TightPair
 found NoGap pair = Absent
@@ -39,7 +32,7 @@ found (Present d) pair = Pair (pair .0) (pair .1)
 
 -- "checks 2, 3 and 5 of clearance, then answers any pair ..": which pair is left to the program, so it is an argument
 unfoldable pub answer : SegmentColumns → NodeColumns → ExemptionColumns → ℕ × ℕ → TightPair
-answer s n e pair = unless (firstOf (tightPairConditions s n e)) (found (leastGap (distances (exemptions e) (segments s) (nodes n))) pair)
+answer s n e pair = checked Refused (firstOf (tightPairConditions s n e)) (found (leastGap (distances (exemptions e) (segments s) (nodes n))) pair)
 
 -- what the call promises of r: it is the answer for some `choice` of a pair, which is left to the program, and a pair that is answered is tight
 pub record Answered (s : SegmentColumns) (n : NodeColumns) (e : ExemptionColumns) (r : TightPair) : Type 0 where

@@ -11,7 +11,7 @@ use lib.ListN.{length, length-map}
 use Rattle.laws.specs.Charged.{Charged, reaches, settle}
 use Rattle.laws.proofs.Runs.{settle-reached, settle-short, settle-equal}
 use Rattle.drawing.specs.Entries.{Segment, SegmentColumns, segments}
-use Rattle.drawing.specs.Refusals.{firstOf, numberOf}
+use Rattle.drawing.specs.Refusals.{numberOf, firstOf, checked}
 use Rattle.drawing.specs.Checks.{congestionConditions}
 use Rattle.drawing.specs.declared.gap.Gap.{Gap}
 use Rattle.drawing.specs.declared.refusal.Refusal.{Refusal}
@@ -26,7 +26,7 @@ use Rattle.congestion.specs.declared.report.CongestionAnswer.{Congestion
 use Rattle.congestion.specs.declared.report.CongestionAnswer.the-variants.{Report, Refused}
 use Rattle.congestion.specs.Wires.{wireOf, cutoffOf}
 use Rattle.congestion.specs.Profile.{allPairs}
-use Rattle.congestion.specs.Answer.{reportOf, checked, settled, densityAnswer, withoutDensity, profileAnswer, congestionAnswer, resultOf}
+use Rattle.congestion.specs.Answer.{reportOf, settled, densityAnswer, withoutDensity, profileAnswer, congestionAnswer, resultOf}
 use Rattle.congestion.proofs.Bounds.{visits-at-most}
 use Rattle.congestion.proofs.Fitness.{agree, fit-list}
 use Rattle.congestion.proofs.SweepTheorem.{all-pairs-order}
@@ -64,15 +64,15 @@ apart p n e = let z : _≡_ {A = ℕ} 0 7 = ap (λ (r : ℕ × CongestionReport)
 
 -- a call that checks and then settles a report that every order of the segments shares
 module _ (answer : SegmentColumns → Float → ℕ → ℕ → CongestionAnswer) (report : Float → List Segment → Charged (ParallelCongestion × Gap))
-    (is : (s : SegmentColumns) (cutoff : Float) (m words : ℕ) → answer s cutoff m words ≡ checked (firstOf (congestionConditions s cutoff words)) (settled m (report cutoff (segments s))))
+    (is : (s : SegmentColumns) (cutoff : Float) (m words : ℕ) → answer s cutoff m words ≡ checked Refused (firstOf (congestionConditions s cutoff words)) (settled m (report cutoff (segments s))))
     (one : (s t : SegmentColumns) → SameSegments s t → (cutoff : Float) (words : ℕ) → Passes s cutoff words → report cutoff (segments s) ≡ report cutoff (segments t)) where
   behind : (s : SegmentColumns) (cutoff : Float) (m words : ℕ) → Passes s cutoff words → answer s cutoff m words ≡ settled m (report cutoff (segments s))
-  behind s cutoff m words p = is s cutoff m words ∙ ap (λ (c : Check). checked c (settled m (report cutoff (segments s)))) p
+  behind s cutoff m words p = is s cutoff m words ∙ ap (λ (c : Check). checked Refused c (settled m (report cutoff (segments s)))) p
 
   settles : Demand3 answer report
   unfolding settled
   settles = record {
-    earlier = λ s cutoff m words r e. is s cutoff m words ∙ ap (λ (c : Check). checked c (settled m (report cutoff (segments s)))) e;
+    earlier = λ s cutoff m words r e. is s cutoff m words ∙ ap (λ (c : Check). checked Refused c (settled m (report cutoff (segments s)))) e;
     reached = λ s cutoff m words p h. behind s cutoff m words p ∙ settle-reached (λ p n. Report (reportOf p n)) (Refused WorkLimitExceeded) m (report cutoff (segments s)) h;
     spent = λ s cutoff m words p h. behind s cutoff m words p ∙ settle-short (λ p n. Report (reportOf p n)) (Refused WorkLimitExceeded) m (report cutoff (segments s)) h;
     equal = λ s t o cutoff m n v w p q.

@@ -1,18 +1,16 @@
 -- What a sweep that keeps its own tally leans on at each event: the state after any of them, and that no count goes below 0. Assumes nothing.
 use mathlib.Core.Path.{_≡_, ap, _∙_}
-use mathlib.Core.List.{List, [], _∷_, _++_}
+use mathlib.Core.List.{List, _∷_}
 use mathlib.Core.Bool.{Bool, true, false, _&&_}
 use Prim.Native.Nat.{ℕ, _+_, _≤_}
 use native.Mathlib.Omega.{arith}
 use lib.Dec.{T, eqb}
 use Rattle.laws.specs.Lists.{Mem, bit, count}
-use Rattle.laws.specs.Charged.{left, runs}
 use Rattle.laws.proofs.Tests.{is-true}
 use Rattle.congestion.specs.Sweep.{Item, Event, State, events, inOrder, neighbor, neighbors, wasCongested, step, begin}
 use Rattle.congestion.proofs.Sets.{neighborsIn}
 use Rattle.congestion.proofs.Tracking.{facing, Tracks, tracks-same, grows, active-before, pairs-before}
 use Rattle.congestion.proofs.Moments.{Fit, Pending, event, endKey, key, activeAt, unchanged, next, item∈, off-after, end-drops, step-tracks}
-use Rattle.congestion.proofs.Passing.{run}
 use Rattle.congestion.proofs.Beginning.{pending, tracks}
 
 -- ---- the state after any part of the events is that of a set which the keys give
@@ -31,11 +29,6 @@ module _ (c : ℕ) (l : List Item) (fit : Fit l) where
       go : (b : Bool) (s : Item) → Pending l (r .threshold) (st .previous) (event b s ∷ q) → Reached c l q (step c st (event b s) .value)
       go true s pe = record { threshold = key (event true s) + 1; left = next l fit (r .threshold) (st .previous) (event true s) q pe; state = step-tracks l fit c (r .threshold) (st .previous) true s q st pe (r .state) }
       go false s pe = record { threshold = key (event false s) + 1; left = next l fit (r .threshold) (st .previous) (event false s) q pe; state = step-tracks l fit c (r .threshold) (st .previous) false s q st pe (r .state) }
-
-  pub reached : (p q : List Event) (st : State) → Reached c l (p ++ q) st → Reached c l q (run c p st)
-  unfolding runs
-  reached [] q st r = r
-  reached (e ∷ p) q st r = reached p q (step c st e .value) (one-more e (p ++ q) st r)
 
   -- ---- at the end of s
   module _ (s : Item) (q : List Event) (st : State) (r : Reached c l (event true s ∷ q) st) where

@@ -83,19 +83,6 @@ span-units x y g k h =
     sub-units (canonicalZero y) (canonicalZero x) (subst T (sym (canonical-grid y)) k) (subst T (sym (canonical-grid x)) g) (canonical-again y) (rw (canonical-unit x, canonical-unit y) h)
     ∙ ap₂ (λ (m n : ℕ). ofUnits (m - n)) (canonical-unit y) (canonical-unit x)
 
--- ---- stretches from one coordinate on the grid to another: however the congested length is cut into them, and in whatever order they are added, the sum of their lengths is the float of how many 64ths they hold together
-pub record Stretch (p : Float × Float) : Type 0 where
-  pub from : T (onGrid (p .0))
-  pub to : T (onGrid (p .1))
-  pub rises : unit (p .0) ≤ unit (p .1)
-
-pub stretches-exact : (l : List (Float × Float)) → ((p : Float × Float) → Mem p l → Stretch p) → sum (λ p. unit (p .1) - unit (p .0)) l < 2 ^ 53
-    → (r : List Float) → Perm (map (λ p. span (p .0) (p .1)) l) r → runningSum plusZero r ≡ ofUnits (sum (λ p. unit (p .1) - unit (p .0)) l)
-stretches-exact l h b r q =
-    let e = fold-map plus (λ n. n) (λ p. unit (p .1) - unit (p .0)) l in
-    any-order (map (λ p. unit (p .1) - unit (p .0)) l) (omega arith) r (via (perm-eq (sym (map-under ofUnits (λ p. unit (p .1) - unit (p .0)) (λ p. span (p .0) (p .1)) l (λ p m. let s = h p m in span-units (p .0) (p .1) (s .from) (s .to) (s .rises))))) q)
-    ∙ ap ofUnits e
-
 -- ---- the total length
 pub small-wires : (l : List Segment) → FitList l → Small (map wireOf l)
 small-wires l f w m = let r = mem-map wireOf l w m in subst (λ (v : Wire). v .end ≤ 134217728) (sym (r .2)) (unit-bound (r .0 .end) (f .each (r .0) (r .1) .end))

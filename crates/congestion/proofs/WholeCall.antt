@@ -22,7 +22,7 @@ use Rattle.drawing.specs.declared.refusal.Check.the-variants as Checked
 use Rattle.drawing.specs.Entries.{Segment, SegmentColumns, segments}
 use Rattle.drawing.specs.Lengths.{SegmentsAgree}
 use Rattle.drawing.specs.Checks.{congestionConditions}
-use Rattle.drawing.specs.Refusals.{firstOf}
+use Rattle.drawing.specs.Refusals.{firstOf, checked}
 use Rattle.drawing.proofs.EntryLaws.{segmentAt, length-segments, segments-at}
 use Rattle.congestion.specs.declared.report.ParallelCongestion.{ParallelCongestion}
 use Rattle.congestion.specs.declared.report.CongestionAnswer.{CongestionAnswer}
@@ -32,7 +32,7 @@ use Rattle.congestion.specs.declared.run.Swept.{Swept}
 use Rattle.congestion.specs.declared.run.Swept.the-variants.{Went, Spent}
 use Rattle.congestion.specs.Profile.{allPairs}
 use Rattle.congestion.specs.Rounded.{runningSum, span, roundedTotal}
-use Rattle.congestion.specs.Answer.{reportOf, checked, settled, densityAnswer, withoutDensity, profileAnswer, congestionAnswer}
+use Rattle.congestion.specs.Answer.{reportOf, settled, densityAnswer, withoutDensity, profileAnswer, congestionAnswer}
 use Rattle.congestion.specs.Measuring.{foundOf, Remains, Answers, plainly}
 use Rattle.congestion.proofs.Fitness.{fit-list}
 use Rattle.congestion.proofs.RoundedDrawing.{report-exact}
@@ -132,7 +132,7 @@ module _ (c : SegmentColumns) (cutoff : Float) (allowance words : ℕ) where
     passed-answer r e total t a f =
         f (within allowance report) e (same-total total t)
         ∙ settle-within (λ p n. Report (reportOf p n)) (Refused WorkLimitExceeded) allowance report
-        ∙ sym (ap (λ (k : Check). checked k (settled allowance report)) passed)
+        ∙ sym (ap (λ (k : Check). checked Refused k (settled allowance report)) passed)
 
 -- ---- `measure_parallel_congestion_profile_bounded`: "the same with pair overlap and peak zero"
 pub plain-answer : (c : SegmentColumns) (cutoff : Float) (allowance words : ℕ) → plainly (densityAnswer c cutoff allowance words) ≡ profileAnswer c cutoff allowance words
@@ -140,8 +140,8 @@ unfolding densityAnswer profileAnswer settled settle
 plain-answer c cutoff allowance words = go (firstOf (congestionConditions c cutoff words)) (reaches allowance (allPairs cutoff (segments c)))
   where
     go : (k : Check) (b : Bool)
-        → plainly (checked k (cond b (Report (reportOf (allPairs cutoff (segments c) .value) (allPairs cutoff (segments c) .cost))) (Refused WorkLimitExceeded)))
-        ≡ checked k (cond b (Report (reportOf (withoutDensity (allPairs cutoff (segments c)) .value) (allPairs cutoff (segments c) .cost))) (Refused WorkLimitExceeded))
+        → plainly (checked Refused k (cond b (Report (reportOf (allPairs cutoff (segments c) .value) (allPairs cutoff (segments c) .cost))) (Refused WorkLimitExceeded)))
+        ≡ checked Refused k (cond b (Report (reportOf (withoutDensity (allPairs cutoff (segments c)) .value) (allPairs cutoff (segments c) .cost))) (Refused WorkLimitExceeded))
     go (Checked.Refused r) b = refl
     go Checked.Passed true = refl
     go Checked.Passed false = refl

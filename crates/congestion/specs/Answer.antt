@@ -4,13 +4,11 @@ use lib.Ieee.{Float}
 use Rattle.laws.specs.Charged.{Charged, settle}
 use Rattle.floats.specs.Values.{plusZero}
 use Rattle.drawing.specs.Entries.{SegmentColumns, segments}
-use Rattle.drawing.specs.Refusals.{firstOf, numberOf}
+use Rattle.drawing.specs.Refusals.{numberOf, firstOf, checked}
 use Rattle.drawing.specs.Checks.{congestionConditions}
 use Rattle.drawing.specs.declared.gap.Gap.{Gap}
 use Rattle.drawing.specs.declared.gap.Gap.the-variants.{Absent}
 use Rattle.drawing.specs.declared.refusal.Refusal.the-variants.{WorkLimitExceeded}
-use Rattle.drawing.specs.declared.refusal.Check.{Check}
-use Rattle.drawing.specs.declared.refusal.Check.the-variants as Checked
 use Rattle.congestion.specs.declared.report.ParallelCongestion.{ParallelCongestion}
 use Rattle.congestion.specs.declared.report.CongestionReport.{CongestionReport}
 use Rattle.congestion.specs.declared.report.CongestionAnswer.{CongestionAnswer}
@@ -21,18 +19,13 @@ use Rattle.congestion.specs.Profile.{allPairs}
 abbrev pub reportOf : ParallelCongestion × Gap → ℕ → CongestionReport
 reportOf p n = record { congestion = p .0; «minimum_positive» = p .1; visits = n }
 
--- the answer of a call, from what its checks say and what it would answer behind them
-abbrev pub checked : Check → CongestionAnswer → CongestionAnswer
-checked Checked.Passed a = a
-checked (Checked.Refused r) a = Refused r
-
 -- "7. `WorkLimitExceeded`: the visit count exceeds the allowance"
 unfoldable pub settled : ℕ → Charged (ParallelCongestion × Gap) → CongestionAnswer
 settled allowance c = settle (λ p n. Report (reportOf p n)) (Refused WorkLimitExceeded) allowance c
 
 -- `measure_parallel_density_profile_bounded`, "the congestion reference", with a scratch of so many words
 unfoldable pub densityAnswer : SegmentColumns → Float → ℕ → ℕ → CongestionAnswer
-densityAnswer s cutoff allowance words = checked (firstOf (congestionConditions s cutoff words)) (settled allowance (allPairs cutoff (segments s)))
+densityAnswer s cutoff allowance words = checked Refused (firstOf (congestionConditions s cutoff words)) (settled allowance (allPairs cutoff (segments s)))
 
 -- "is the same with pair overlap and peak zero"
 abbrev pub withoutDensity : Charged (ParallelCongestion × Gap) → Charged (ParallelCongestion × Gap)
@@ -42,11 +35,11 @@ withoutDensity c =
 
 -- `measure_parallel_congestion_profile_bounded`
 unfoldable pub profileAnswer : SegmentColumns → Float → ℕ → ℕ → CongestionAnswer
-profileAnswer s cutoff allowance words = checked (firstOf (congestionConditions s cutoff words)) (settled allowance (withoutDensity (allPairs cutoff (segments s))))
+profileAnswer s cutoff allowance words = checked Refused (firstOf (congestionConditions s cutoff words)) (settled allowance (withoutDensity (allPairs cutoff (segments s))))
 
 -- `measure_parallel_congestion` "counts as having an allowance that always reaches"
 unfoldable pub congestionAnswer : SegmentColumns → Float → ℕ → CongestionAnswer
-congestionAnswer s cutoff words = let c = allPairs cutoff (segments s) in checked (firstOf (congestionConditions s cutoff words)) (Report (reportOf (c .value) (c .cost)))
+congestionAnswer s cutoff words = let c = allPairs cutoff (segments s) in checked Refused (firstOf (congestionConditions s cutoff words)) (Report (reportOf (c .value) (c .cost)))
 
 -- "a report of zeros and absent gaps"
 abbrev pub zeros : CongestionReport

@@ -3,6 +3,7 @@ pub mod EntryLaws
 pub mod Scans
 pub mod FirstRefusal
 pub mod AnyOrder
+pub mod ColumnLaws
 pub mod ListOrders
 pub mod GapLaws
 pub mod Examples

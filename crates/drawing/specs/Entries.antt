@@ -1,5 +1,5 @@
 -- The entries that columns stand for: "columns of equal length (net, orientation byte 1 horizontal or 0 vertical, fixed, start, end)".
-use mathlib.Core.List.{List, [], _∷_}
+use mathlib.Core.List.{List, [], _∷_, map}
 use Prim.Native.Nat.{ℕ}
 use lib.Ieee.{Float}
 
@@ -79,3 +79,13 @@ nodes c = nodesOf (c .id) (c .x) (c .y) (c .width) (c .height)
 
 abbrev pub exemptions : ExemptionColumns → List Exemption
 exemptions c = exemptionsOf (c .net) (c .node)
+
+-- and the other way: the columns of a list of entries
+unfoldable pub columnsOf : List Segment → SegmentColumns
+columnsOf l = segmentColumns (map (λ (s : Segment). s .net) l) (map (λ (s : Segment). s .orientation) l) (map (λ (s : Segment). s .fixed) l) (map (λ (s : Segment). s .start) l) (map (λ (s : Segment). s .end) l)
+
+unfoldable pub nodeColumnsOf : List Node → NodeColumns
+nodeColumnsOf l = nodeColumns (map (λ (n : Node). n .id) l) (map (λ (n : Node). n .x) l) (map (λ (n : Node). n .y) l) (map (λ (n : Node). n .width) l) (map (λ (n : Node). n .height) l)
+
+unfoldable pub exemptionColumnsOf : List Exemption → ExemptionColumns
+exemptionColumnsOf l = exemptionColumns (map (λ (e : Exemption). e .net) l) (map (λ (e : Exemption). e .node) l)

@@ -1,4 +1,4 @@
--- The refusals' numbers, the first refusal that applies, and what becomes of the scratch.
+-- The refusals' numbers, the first refusal that applies, what is answered and what becomes of the scratch.
 use mathlib.Core.Bool.{Bool, cond}
 use mathlib.Core.List.{List, [], _∷_}
 use Prim.Native.Nat.{ℕ}
@@ -22,6 +22,11 @@ numberOf WorkLimitExceeded = 7
 unfoldable pub firstOf : List (Bool × Refusal) → Check
 firstOf [] = Passed
 firstOf (c ∷ l) = let r = firstOf l in cond (c .0) (Refused (c .1)) r
+
+-- the answer of a call: the first refusal that applies, else what follows
+abbrev pub checked : {A : Type 0} → (Refusal → A) → Check → A → A
+checked refused Passed a = a
+checked refused (Refused r) a = refused r
 
 -- the scratch at exit: "After an accepted call or a spent allowance the whole scratch is zero"; an earlier refusal leaves it as it was
 unfoldable pub scratchAfter : Check → List ℕ → List ℕ

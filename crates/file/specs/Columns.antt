@@ -1,6 +1,5 @@
 -- What reading a drawing file answers, and what the lent columns hold then.
 use mathlib.Core.List.{List, _++_, map}
-use Prim.Native.Nat.{ℕ}
 use lib.ListN.{length, drop}
 use Rattle.file.specs.declared.reading.Header.{Header}
 use Rattle.file.specs.declared.reading.Reading.{Reading}

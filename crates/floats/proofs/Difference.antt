@@ -7,7 +7,7 @@ use Prim.Native.Nat.{ℕ, _+_, _-_, _*_, _^_, _≤_, _<_}
 use native.Mathlib.Nat.{le-refl, le-trans, le-of-eq, le-of-lt, eq-or-lt-of-le, add-mul, mul-comm, mul-pos, mul-sub, sub-self, add-zero}
 use native.Mathlib.Omega.{arith}
 use lib.IntN.{pos}
-use lib.Dec.{T, ltb, ltb→lt, lt→ltb, nltb→le, T-not}
+use lib.Dec.{T, ltb, ltb→lt, lt→ltb, nltb→le}
 use lib.Pow.{pow-pos}
 use lib.Ieee.{Float, nan, inf, fin, Format, low, up, down, round, sum, neg, add, sub, lt, eq, le, fits}
 use lib.Ieee.Fits.{down-pos}
@@ -159,10 +159,6 @@ module _ (f : Format) (x y : Float) (p : Fin f x) (q : Fin f y) where
             let z : rnd f (distance (rank f x) (rank f y)) ≡ 0 = ap (rnd f) d ∙ rnd-zero f in
             ap (at (overflow f) (sgn (sub f x y))) z ∙ at-zero (overflow f) (sgn (sub f x y)) ∙ sym (ap (at (overflow f) (ltb (rank f x) (rank f y))) z ∙ at-zero (overflow f) (ltb (rank f x) (rank f y)))
       ]
-
--- a float less itself is a zero with the sign plus
-pub self-plus : (f : Format) (x : Float) → Fin f x → sgn (sub f x x) ≡ false
-self-plus f x p = sub-sgn f x x p p ∙ plus-sign (overflow f) (sgn x) (sgn x) (mag f x) (mag f x) (mag-le f x (p .0)) (mag-le f x (p .0)) (λ u v. absurd (T-not (sgn x) v u)) (le-refl (at (overflow f) (sgn x) (mag f x)))
 
 -- ---- the difference is monotone: x ≤ x' and y' ≤ y give x - y ≤ x' - y'
 pub sub-mono : (f : Format) (x y x' y' : Float) → Fin f x → Fin f y → Fin f x' → Fin f y' → T (le x x') → T (le y' y) → T (le (sub f x y) (sub f x' y'))

@@ -12,7 +12,7 @@ use Rattle.laws.proofs.Tests.{ltb-same, same-or-not}
 use Rattle.floats.specs.Values.{plusZero, absOf, gapOf}
 use Rattle.floats.proofs.Rank.{mag, sgn, at, rank, rank-is, Num, Fin, fits-turned, mag-zero, lt-rank, lt→, eq→, →eq, distance, fin-num, zero-num}
 use Rattle.floats.proofs.Rounding.{round-shape, round-num, rnd, rnd-mono, rnd-zero, rnd-pos}
-use Rattle.floats.proofs.Difference.{sign-of, sub-round, sub-plus, self-plus, sub-num}
+use Rattle.floats.proofs.Difference.{sign-of, sub-round, sub-plus, sub-num}
 use Rattle.floats.proofs.Bits.{number-one}
 
 -- ---- a number of binary64 whose sign is plus: so it is neither negative nor -0
@@ -56,9 +56,6 @@ abs-mag nan = refl
 abs-mag (inf s) = refl
 abs-mag (fin s m e) = refl
 
-pub abs-of-good : (x : Float) → Good x → absOf x ≡ x
-abs-of-good x p = good-one (absOf x) x (abs-good x (p .num)) p (abs-mag x)
-
 -- ---- a rounded number with its sign dropped
 round-good : (a c : ℕ) → Good (round binary64 false a c)
 round-good a c = record { num = round-num binary64 false a c; plus = round-shape binary64 false a c .0 }
@@ -82,10 +79,6 @@ module _ (x y : Float) (p : Fin binary64 x) (q : Fin binary64 y) where
   -- a float less one that is below it is their gap
   pub sub-good : T (lt y x) → Good (sub binary64 x y)
   sub-good h = record { num = sub-num binary64 x y p q; plus = sub-plus binary64 x y p q (lt→ binary64 y x (fin-num binary64 y q) (fin-num binary64 x p) h) }
-
-  pub sub-is-gap : T (lt y x) → sub binary64 x y ≡ gapOf x y
-  unfolding gapOf
-  sub-is-gap h = sym (abs-of-good (sub binary64 x y) (sub-good h))
 
 -- it is one float either way round
 pub gap-swap : (x y : Float) → Fin binary64 x → Fin binary64 y → gapOf x y ≡ gapOf y x
@@ -115,10 +108,3 @@ equal-of-gap x y p q h =
   where
     none : (m n r : ℕ) → (0 < distance m n → 0 < r) → r ≡ 0 → m ≡ n
     none m n r h e = elim (same-or-not m n) [ inl k ↦ k | inr k ↦ absurd (omega (arith, h (omega (arith, k)))) ]
-
--- ---- a float less itself is +0
-pub sub-self : (x : Float) → Fin binary64 x → sub binary64 x x ≡ plusZero
-unfolding gapOf
-sub-self x p =
-    sym (abs-of-good (sub binary64 x x) (record { num = sub-num binary64 x x p p; plus = self-plus binary64 x p }))
-    ∙ gap-of-equal x x p p (→eq binary64 x x (fin-num binary64 x p) (fin-num binary64 x p) refl)

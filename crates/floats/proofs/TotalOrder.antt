@@ -1,4 +1,4 @@
--- The order of the keys is totalOrder: so totalOrder is a total order, and the comparison by keys is the comparison by totalOrder. Assumes nothing.
+-- The order of the keys is totalOrder, and the comparison by keys is the comparison by totalOrder. Assumes nothing.
 use mathlib.Core.Path.{_≡_, refl, sym, ap, _∙_, subst}
 use mathlib.Core.Logic.{_⊎_, inl, inr}
 use mathlib.Core.Bool.{Bool, true, false, not, _&&_, cond}
@@ -7,15 +7,15 @@ use native.Mathlib.Nat.{le-of-eq, eq-or-lt-of-le}
 use native.Mathlib.Omega.{arith}
 use lib.IntN.{pos}
 use lib.Dec.{T, leb, eqb, ltb→lt, leb→le, le→leb, nleb→lt, nltb→le, eqb→eq, not-T}
-use lib.Ieee.{Float, fin, binary64, size, lt, fits, isNan, nanBits, ofBits, toBits}
+use lib.Ieee.{Float, fin, binary64, size, lt, isNan, nanBits, ofBits, toBits}
 use lib.Ieee.Fits.{and-l, and-r}
-use lib.Ieee.Bits.{toBits-lt, ofBits-fits, toBits-ofBits, nanBits-is}
-use Rattle.laws.proofs.Tests.{clash, same-test, is-true, is-false, of-true, cond-true, cond-false, le-or-lt}
+use lib.Ieee.Bits.{ofBits-fits, toBits-ofBits, nanBits-is}
+use Rattle.laws.proofs.Tests.{same-test, is-true, is-false, cond-true, cond-false, le-or-lt}
 use Rattle.floats.specs.TotalOrder.{signSet, quiet, payload, numbersInOrder, positiveNansInOrder, nansInOrder, totalOrder, totalCmp, key, keyOf}
 use Rattle.floats.specs.declared.total_order.Ordering.the-variants.{Less, Equal, Greater}
 use Rattle.floats.proofs.Rank.{sgn, rank, Num, lt→, →lt}
 use Rattle.floats.proofs.Bits.{rank-one, Zero, nan-bits}
-use Rattle.floats.proofs.Keys.{key-low, key-high, key-one}
+use Rattle.floats.proofs.Keys.{key-low, key-high}
 use Rattle.floats.proofs.NumberKeys.{key-lt}
 
 -- ---- two numbers
@@ -171,29 +171,13 @@ key-order a b p q = go (nanBits binary64 a) (nanBits binary64 b) (nan-above a) (
     go false true u v w z n = nan-last a b (key-by-sign a p) (key-by-sign b q) (v tt) (w tt)
     go false false u v w z n = n tt tt
 
-pub key-of-order : (x y : Float) → T (fits binary64 x) → T (fits binary64 y) → leb (keyOf x) (keyOf y) ≡ totalOrder (toBits binary64 x) (toBits binary64 y)
-unfolding keyOf
-key-of-order x y p q = key-order (toBits binary64 x) (toBits binary64 y) (toBits-lt binary64 x p) (toBits-lt binary64 y q)
-
--- ---- so it is a total order of the patterns
+-- ---- so keys in order are patterns in order
 module _ (a b : ℕ) (p : a < 2 ^ 64) (q : b < 2 ^ 64) where
   pub order-of-keys : key a ≤ key b → totalOrder a b ≡ true
   order-of-keys h = sym (key-order a b p q) ∙ in-order a b h
 
   pub disorder-of-keys : key b < key a → totalOrder a b ≡ false
   disorder-of-keys h = sym (key-order a b p q) ∙ out-of-order a b h
-
-  pub keys-of-order : totalOrder a b ≡ true → key a ≤ key b
-  keys-of-order h = leb→le (key a) (key b) (of-true (leb (key a) (key b)) (key-order a b p q ∙ h))
-
-pub order-total : (a b : ℕ) → a < 2 ^ 64 → b < 2 ^ 64 → totalOrder a b ≡ false → totalOrder b a ≡ true
-order-total a b p q h = order-of-keys b a q p (elim (le-or-lt (key b) (key a)) [ inl k ↦ k | inr k ↦ clash (totalOrder a b) (order-of-keys a b p q (omega arith)) h ])
-
-pub order-trans : (a b c : ℕ) → a < 2 ^ 64 → b < 2 ^ 64 → c < 2 ^ 64 → totalOrder a b ≡ true → totalOrder b c ≡ true → totalOrder a c ≡ true
-order-trans a b c p q r h k = order-of-keys a c p r (omega (arith, keys-of-order a b p q h, keys-of-order b c q r k))
-
-pub order-antisym : (a b : ℕ) → a < 2 ^ 64 → b < 2 ^ 64 → totalOrder a b ≡ true → totalOrder b a ≡ true → a ≡ b
-order-antisym a b p q h k = key-one a b p q (omega (arith, keys-of-order a b p q h, keys-of-order b a q p k))
 
 -- ---- and a comparison of keys is one by totalOrder
 module _ (a b : ℕ) (p : a < 2 ^ 64) (q : b < 2 ^ 64) where

@@ -3,23 +3,21 @@
 use mathlib.Core.Path.{_≡_, refl, sym, ap, _∙_, subst}
 use mathlib.Core.Bool.{Bool, true, false}
 use Prim.Native.Nat.{ℕ, zero, suc, _+_, _-_, _*_, _/_, _%_, _^_, _≤_, _<_, zero-le}
-use native.Mathlib.Nat.{le-trans, le-of-eq, lt-of-lt-of-le, mul-comm, mul-assoc, mul-one, mul-right-comm, mul-mul-mul-comm, mul-mod-left, mul-le-mul-right, eq-of-mul-eq-mul-right, lt-of-le-of-lt, mul-lt-mul-of-pos-right, le-of-mul-le-mul-right, mul-pos, mul-div-cancel, div-add-mod', zero-mul, zero-div, zero-mod, zero-lt-suc}
+use native.Mathlib.Nat.{le-trans, le-of-eq, lt-of-lt-of-le, mul-comm, mul-assoc, mul-one, mul-right-comm, mul-mul-mul-comm, mul-le-mul-right, mul-lt-mul-of-pos-right, le-of-mul-le-mul-right, mul-pos, mul-div-cancel, div-add-mod', zero-mul, zero-div, zero-mod, zero-lt-suc}
 use native.Mathlib.Omega.{arith}
 use lib.IntN.{ℤ, pos}
 use lib.Dec.{T, leb, ltb, eqb, eqb→eq, leb→le, le→leb, lit<, lit≤}
 use lib.Pow.{pow-pos}
 use lib.Ieee.{Float, nan, inf, fin, binary64, up, down, unlike, below, round, sum, neg, add, sub, mul, lt, eq, ofInt, fits, isNan}
-use lib.Ieee.Fits.{and-l, and-r, and-i, eq→eqb, down-pos, up-pos, round-fits}
+use lib.Ieee.Fits.{and-l, and-r, and-i, eq→eqb, down-pos, up-pos}
 use lib.Ieee.Exact.{HasValue, round-exact}
 use lib.Ieee.Back.{round-whole}
 use lib.Ieee.Scale.{round-same}
 use Rattle.laws.proofs.Tests.{clash, is-true}
 use Rattle.floats.specs.Values.{canonicalZero, absOf, gapOf}
 use Rattle.floats.specs.Grid.{onGrid, steps, unit, ofUnits}
-use Rattle.floats.proofs.Rank.{mag, sgn, at, Num, at-zero, ltb-scaled, compare-at, eq→, distance}
-use Rattle.floats.proofs.Rounding.{round-shape, round-num, val→mag}
+use Rattle.floats.proofs.Rank.{sgn, at, Num, at-zero, ltb-scaled, compare-at, eq→, distance}
 use Rattle.floats.proofs.Difference.{sign-of, sum-round, plus-sign, minus-sign, sum-same}
-use Rattle.floats.proofs.Bits.{number-one}
 use Rattle.floats.proofs.Zeros.{canonical-one}
 use Rattle.floats.proofs.Gaps.{abs-round}
 
@@ -174,19 +172,6 @@ pub gap-units : (x y : Float) → T (onGrid x) → T (onGrid y) → gapOf x y �
 unfolding gapOf ofUnits
 gap-units x y g k = ap absOf (sub-value x y g k) ∙ abs-round (sign-of (sgn x) (sgn y) (steps x) (steps y)) (distance (unit x) (unit y)) 64
 
--- the negation of a difference that is negative
-neg-is-abs : (x : Float) → sgn x ≡ true → neg x ≡ absOf x
-unfolding neg absOf sgn
-neg-is-abs nan h = refl
-neg-is-abs (inf true) h = refl
-neg-is-abs (inf false) h = clash false h refl
-neg-is-abs (fin true m e) h = refl
-neg-is-abs (fin false m e) h = clash false h refl
-
-pub neg-below : (x y : Float) → T (onGrid x) → T (onGrid y) → unit x < unit y → neg (sub binary64 x y) ≡ ofUnits (unit y - unit x)
-unfolding ofUnits
-neg-below x y g k h = ap neg (sub-below x y g k h) ∙ neg-is-abs (round binary64 true (unit y - unit x) 64) (round-shape binary64 true (unit y - unit x) 64 .0) ∙ abs-round true (unit y - unit x) 64
-
 -- ---- two lengths: their sum and their comparison; and a count times a length
 lengths : (x y : Float) (a b : ℕ) → HasValue x false a 64 → HasValue y false b 64 → (add binary64 x y ≡ round binary64 false (a + b) 64) × (lt x y ≡ ltb a b)
 unfolding add sum lt
@@ -225,15 +210,12 @@ mul-units n d p q = mul-of (round binary64 false n 1) (round binary64 false d 64
 pub lt-lengths : (x y : Float) (a b : ℕ) → HasValue x false a 64 → HasValue y false b 64 → lt x y ≡ ltb a b
 lt-lengths x y a b v w = lengths x y a b v w .1
 
--- ---- one step of a sum of lengths: sum += x - y, and sum += count * (x - y)
+-- ---- one step of a sum of lengths: sum += count * (x - y)
 small : (x y : Float) → T (onGrid x) → unit x - unit y < 2 ^ 53
 small x y g = go (unit x) (unit y) (unit-bound x g)
   where
     go : (u v : ℕ) → u ≤ 134217728 → u - v < 2 ^ 53
     go u v h = omega arith
-
-pub accumulate-length : (z : ℕ) (x y : Float) → T (onGrid x) → T (onGrid y) → canonicalZero x ≡ x → unit y ≤ unit x → z < 2 ^ 53 → add binary64 (ofUnits z) (sub binary64 x y) ≡ ofUnits (z + (unit x - unit y))
-accumulate-length z x y g k c h a = ap (add binary64 (ofUnits z)) (sub-units x y g k c h) ∙ add-units z (unit x - unit y) a (small x y g)
 
 pub accumulate : (z n : ℕ) (x y : Float) → T (onGrid x) → T (onGrid y) → canonicalZero x ≡ x → unit y ≤ unit x → z < 2 ^ 53 → n ≤ 2 ^ 53 → n * (unit x - unit y) < 2 ^ 53
     → add binary64 (ofUnits z) (mul binary64 (ofInt binary64 (pos n)) (sub binary64 x y)) ≡ ofUnits (z + n * (unit x - unit y))
@@ -242,7 +224,7 @@ accumulate z n x y g k c h a b d =
     ∙ ap (add binary64 (ofUnits z)) (mul-units n (unit x - unit y) b (small x y g))
     ∙ add-units z (n * (unit x - unit y)) a d
 
--- ---- from a number of units to a float and back
+-- ---- from a number of units to a float and back, and from a float to its number
 value-steps : (x : Float) (n : ℕ) → HasValue x false n 64 → unit x ≡ 67108864 + n
 unfolding unit steps
 value-steps nan n v = absurd v
@@ -250,42 +232,16 @@ value-steps (inf s) n v = absurd v
 value-steps (fin true m e) n v = clash true refl (v .0)
 value-steps (fin false m e) n v = ap (λ (z : ℕ). 67108864 + z / down e) (v .1) ∙ ap (λ (z : ℕ). 67108864 + z) (mul-div-cancel n (down-pos e))
 
-value-grid : (x : Float) (n : ℕ) → HasValue x false n 64 → n ≤ 67108864 → T (onGrid x)
-unfolding onGrid
-value-grid nan n v h = absurd v
-value-grid (inf s) n v h = absurd v
-value-grid (fin s m e) n v h =
-    and-i (eqb (m * up e * 64 % down e) 0) (leb (m * up e) (1048576 * down e)) (eq→eqb (ap (λ (z : ℕ). z % down e) (v .1) ∙ mul-mod-left n (down e)))
-    (le→leb (m * up e) (1048576 * down e) (le-of-mul-le-mul-right (le-trans (le-of-eq (v .1)) (le-trans (mul-le-mul-right (down e) h) (le-of-eq (mul-right-comm 1048576 64 (down e))))) (lit< tt)))
-
 pub unit-of-units : (n : ℕ) → n < 2 ^ 53 → unit (ofUnits n) ≡ 67108864 + n
 unfolding ofUnits
 unit-of-units n h = value-steps (round binary64 false n 64) n (of-units-value false n h)
 
-pub grid-of-units : (n : ℕ) → n ≤ 67108864 → T (onGrid (ofUnits n))
-unfolding ofUnits
-grid-of-units n h = value-grid (round binary64 false n 64) n (of-units-value false n (omega arith)) h
-
--- a float on the grid is the one of its sign and its steps
+-- a float on the grid is a number
 pub grid-num : (x : Float) → T (fits binary64 x) → T (onGrid x) → Num binary64 x
 unfolding isNan
 grid-num nan p g = absurd (grid-value nan g)
 grid-num (inf s) p g = absurd (grid-value (inf s) g)
 grid-num (fin s m e) p g = (p, tt)
-
-grid-one : (x : Float) → T (fits binary64 x) → T (onGrid x) → x ≡ round binary64 (sgn x) (steps x) 64
-grid-one x p g =
-    let r = round binary64 (sgn x) (steps x) 64 in
-    number-one binary64 x r (grid-num x p g) (round-num binary64 (sgn x) (steps x) 64) (sym (round-shape binary64 (sgn x) (steps x) 64 .0))
-    (eq-of-mul-eq-mul-right 64 (lit< tt) (mag binary64 x) (mag binary64 r) (val→mag binary64 x (sgn x) (steps x) 64 p (grid-value x g) ∙ sym (val→mag binary64 r (sgn x) (steps x) 64 (round-fits binary64 (sgn x) (steps x) 64) (of-units-value (sgn x) (steps x) (lt-of-le-of-lt (steps-bound x g) (lit< tt))))))
-
-pub float-of-unit : (x : Float) → T (fits binary64 x) → T (onGrid x) → canonicalZero x ≡ x → 67108864 ≤ unit x → ofUnits (unit x - 67108864) ≡ x
-unfolding ofUnits
-float-of-unit x p g z h = sym (grid-one x p g ∙ go (sgn x) (steps x) (below-zero x g z) (subst (λ (n : ℕ). 67108864 ≤ n) (unit-at x g) h) ∙ ap (λ (n : ℕ). round binary64 false (n - 67108864) 64) (sym (unit-at x g)))
-  where
-    go : (s : Bool) (n : ℕ) → (T s → 0 < n) → 67108864 ≤ at 67108864 s n → round binary64 s n 64 ≡ round binary64 false (at 67108864 s n - 67108864) 64
-    go true n z h = absurd (omega (arith, z tt))
-    go false n z h = let e : n ≡ 67108864 + n - 67108864 = omega arith in ap (λ (k : ℕ). round binary64 false k 64) e
 
 -- floats of one unit are equal, and one float where neither is -0
 pub unit-one : (x y : Float) → T (fits binary64 x) → T (fits binary64 y) → T (onGrid x) → T (onGrid y) → unit x ≡ unit y → canonicalZero x ≡ canonicalZero y

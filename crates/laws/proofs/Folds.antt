@@ -7,7 +7,7 @@ use Prim.Native.Nat.{ℕ, suc, _+_, _*_, _≤_, max, zero-le}
 use native.Mathlib.Nat.{le-refl, suc-mul}
 use native.Mathlib.Omega.{arith}
 use lib.ListN.{length}
-use Rattle.laws.specs.Lists.{Mem, fold, bit, sum, count, chosen, put, beside, cross, pairs}
+use Rattle.laws.specs.Lists.{Mem, fold, bit, sum, count, chosen, put, beside, pairs}
 use Rattle.laws.specs.Perm.{Perm, none, first, swap, via}
 
 pub record Monoid {M : Type 0} (_⊕_ : M → M → M) (u : M) : Type 0 where
@@ -63,16 +63,11 @@ module _ {M : Type 0} {_⊕_ : M → M → M} {u : M} (L : Monoid _⊕_ u) where
   fold-map f g [] = refl
   fold-map f g (x ∷ l) = ap (λ (z : M). f (g x) ⊕ z) (fold-map f g l)
 
-  -- ---- over all pairs of two lists: entry by entry of the one, or of the other
+  -- ---- over one entry beside a list, and over two lists: entry by entry of the one, or of the other
   fold-beside : {A B : Type 0} (f : A × B → M) (x : A) (m : List B) → fold _⊕_ u f (beside x m) ≡ fold _⊕_ u (λ y. f (x, y)) m
   unfolding fold
   fold-beside f x [] = refl
   fold-beside f x (y ∷ m) = ap (λ (z : M). f (x, y) ⊕ z) (fold-beside f x m)
-
-  pub fold-cross : {A B : Type 0} (f : A × B → M) (l : List A) (m : List B) → fold _⊕_ u f (cross l m) ≡ fold _⊕_ u (λ x. fold _⊕_ u (λ y. f (x, y)) m) l
-  unfolding fold cross
-  fold-cross f [] m = refl
-  fold-cross f (x ∷ l) m = fold-append f (beside x m) (cross l m) ∙ ap₂ _⊕_ (fold-beside f x m) (fold-cross f l m)
 
   pub fold-fold : {A B : Type 0} (h : A → B → M) (l : List A) (m : List B) → fold _⊕_ u (λ x. fold _⊕_ u (h x) m) l ≡ fold _⊕_ u (λ y. fold _⊕_ u (λ x. h x y) l) m
   unfolding fold

@@ -158,11 +158,6 @@ module _ {A B : Type 0} where
     | inr b ↦ let r = mem-cross z l m b in (inr (r .0), r .1)
   ]
 
-  pub cross-mem : (x : A) (y : B) (l : List A) (m : List B) → Mem x l → Mem y m → Mem {A = A × B} (x, y) (cross l m)
-  unfolding cross
-  cross-mem x y (z ∷ l) m (inl e) k = append-left (x, y) (beside z m) (cross l m) (beside-mem x z y m e k)
-  cross-mem x y (z ∷ l) m (inr h) k = append-right (x, y) (beside z m) (cross l m) (cross-mem x y l m h k)
-
   length-beside : (x : A) (m : List B) → length (beside x m) ≡ length m
   length-beside x [] = refl
   length-beside x (y ∷ m) = ap suc (length-beside x m)

@@ -3,15 +3,16 @@ use mathlib.Core.Path.{_≡_, refl, ap, _∙_}
 use mathlib.Core.List.{List, [], _∷_, _++_}
 use Prim.Native.Nat.{ℕ}
 use lib.Ieee.{binary64, ofBits, toBits}
+use Rattle.drawing.specs.Entries.{columnsOf, nodeColumnsOf, exemptionColumnsOf}
 use Rattle.clearance.specs.Answer.{accepted, answer as clearance}
 use Rattle.clearance.proofs.Examples as OfClearance
 use Rattle.separation.specs.Answer.{separation}
 use Rattle.separation.proofs.Examples as OfSeparation
 use Rattle.congestion.specs.Answer.{densityAnswer}
 use Rattle.congestion.proofs.Examples as OfCongestion
-use Rattle.file.specs.Reading.{Read, got, Drawing, then, bigEndian, number, float as readFloat, version, orientation, segment, node, exemption, entries, counted, settings, parts, ended, read}
+use Rattle.file.specs.Reading.{got, Drawing, then, bigEndian, number, float as readFloat, version, orientation, segment, node, exemption, entries, counted, settings, parts, ended, read}
 use Rattle.printing.specs.Text.{glyph, hexadecimal, leading, decimal, float, gap, fields}
-use Rattle.printing.specs.Sheet.{clearanceWord, separationWord, congestionWord, clearanceLine, separationLine, congestionLine, segmentsApart, nodesApart, exemptionsApart, scratchWords, measured, lines, printed, sheet}
+use Rattle.printing.specs.Sheet.{clearanceWord, separationWord, congestionWord, clearanceLine, separationLine, congestionLine, scratchWords, measured, lines, printed, sheet}
 use Rattle.printing.proofs.Printing.{three}
 
 -- version; two segments; one node; one exemption; threshold 2, cutoff 6; allowances 1,000: a line for each count and for each entry
@@ -53,16 +54,16 @@ pub file-of-d : read bytes ≡ got drawing []
 unfolding then bigEndian number readFloat version orientation segment node exemption entries counted settings parts ended read
 file-of-d = refl
 
-pub clearance-of-d : clearanceLine (clearance (segmentsApart (drawing .segments)) (nodesApart (drawing .nodes)) (exemptionsApart (drawing .exemptions)) (drawing .settings .threshold) 1000 7744) ≡ clearanceText
-unfolding segmentsApart nodesApart exemptionsApart clearanceLine clearanceWord fields gap float decimal leading hexadecimal glyph accepted ofBits toBits
+pub clearance-of-d : clearanceLine (clearance (columnsOf (drawing .segments)) (nodeColumnsOf (drawing .nodes)) (exemptionColumnsOf (drawing .exemptions)) (drawing .settings .threshold) 1000 7744) ≡ clearanceText
+unfolding columnsOf nodeColumnsOf exemptionColumnsOf clearanceLine clearanceWord fields gap float decimal leading hexadecimal glyph accepted ofBits toBits
 clearance-of-d = ap clearanceLine (OfClearance.marked .d-sheet)
 
-pub separation-of-d : separationLine (separation (segmentsApart (drawing .segments)) 1000 7744) ≡ separationText
-unfolding segmentsApart separationLine separationWord fields gap float decimal leading hexadecimal glyph ofBits toBits
+pub separation-of-d : separationLine (separation (columnsOf (drawing .segments)) 1000 7744) ≡ separationText
+unfolding columnsOf separationLine separationWord fields gap float decimal leading hexadecimal glyph ofBits toBits
 separation-of-d = ap separationLine (OfSeparation.marked .d-sheet)
 
-pub congestion-of-d : congestionLine (densityAnswer (segmentsApart (drawing .segments)) (drawing .settings .cutoff) 1000 7744) ≡ congestionText
-unfolding segmentsApart congestionLine congestionWord fields gap float decimal leading hexadecimal glyph ofBits toBits
+pub congestion-of-d : congestionLine (densityAnswer (columnsOf (drawing .segments)) (drawing .settings .cutoff) 1000 7744) ≡ congestionText
+unfolding columnsOf congestionLine congestionWord fields gap float decimal leading hexadecimal glyph ofBits toBits
 congestion-of-d = ap congestionLine OfCongestion.D-sheet
 
 -- document 01's "Output", byte by byte

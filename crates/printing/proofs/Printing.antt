@@ -1,17 +1,17 @@
 -- From a file's reading to its sheet: what the columns hold where the file is read, and which text each answer of the reader leads to. Assumes nothing.
 use mathlib.Core.Path.{_≡_, refl, sym, ap, subst, _∙_}
-use mathlib.Core.List.{List, [], _∷_, _++_, map}
+use mathlib.Core.List.{List, _++_, map}
 use Prim.Native.Nat.{ℕ, _+_, _≤_}
 use native.Mathlib.Omega.{arith}
 use lib.ListN.{length, take, drop, length-append, length-map}
 use lib.Ieee.{Float}
 use lib.Seq.{take-append-seam, length-take-le}
 use Rattle.drawing.specs.declared.refusal.Refusal.{Refusal}
-use Rattle.drawing.specs.Entries.{Segment, Node, Exemption, SegmentColumns, NodeColumns, ExemptionColumns, segmentColumns, nodeColumns, exemptionColumns}
+use Rattle.drawing.specs.Entries.{Segment, Node, Exemption, SegmentColumns, NodeColumns, ExemptionColumns, segmentColumns, nodeColumns, exemptionColumns, columnsOf, nodeColumnsOf, exemptionColumnsOf}
 use Rattle.file.specs.declared.reading.Header.{Header}
 use Rattle.file.specs.declared.reading.Reading.{Reading}
 use Rattle.file.specs.declared.reading.Reading.the-variants as answers
-use Rattle.file.specs.Reading.{Read, got, refused, Settings, Drawing}
+use Rattle.file.specs.Reading.{Read, got, refused, Drawing}
 use Rattle.file.specs.Columns.{settingsOf, headerOf, readingOf, columnAfter}
 use Rattle.clearance.specs.declared.report.ClearanceAnswer.{ClearanceAnswer}
 use Rattle.clearance.specs.Answer.{answer}
@@ -19,7 +19,7 @@ use Rattle.separation.specs.declared.report.SeparationAnswer.{SeparationAnswer}
 use Rattle.separation.specs.Answer.{separation}
 use Rattle.congestion.specs.declared.report.CongestionAnswer.{CongestionAnswer}
 use Rattle.congestion.specs.Answer.{densityAnswer}
-use Rattle.printing.specs.Sheet.{fileWord, refusal, clearanceLine, separationLine, congestionLine, scratchWords, segmentsApart, nodesApart, exemptionsApart, measured, lines, printed}
+use Rattle.printing.specs.Sheet.{fileWord, refusal, clearanceLine, separationLine, congestionLine, scratchWords, measured, lines, printed}
 use Rattle.printing.specs.TextPut.{Put}
 use Rattle.printing.proofs.TextPuts.{put-same}
 
@@ -110,31 +110,31 @@ module _ {r : Read Drawing} {h : Header} (q : Said r h) where
 
   pub segments-lent : (n o : List ℕ) (f s e : List Float) (n′ o′ : List ℕ) (f′ s′ e′ : List Float)
       → n ≡ columnAfter (λ d. d .segments) (λ x. x .net) r n′ → o ≡ columnAfter (λ d. d .segments) (λ x. x .orientation) r o′ → f ≡ columnAfter (λ d. d .segments) (λ x. x .fixed) r f′ → s ≡ columnAfter (λ d. d .segments) (λ x. x .start) r s′ → e ≡ columnAfter (λ d. d .segments) (λ x. x .end) r e′
-      → segmentColumns (take (h .segments) n) (take (h .segments) o) (take (h .segments) f) (take (h .segments) s) (take (h .segments) e) ≡ segmentsApart (q .drawing .segments)
-  unfolding segmentsApart
+      → segmentColumns (take (h .segments) n) (take (h .segments) o) (take (h .segments) f) (take (h .segments) s) (take (h .segments) e) ≡ columnsOf (q .drawing .segments)
+  unfolding columnsOf
   segments-lent n o f s e n′ o′ f′ s′ e′ a b c d g =
       let l : Drawing → List Segment = λ z. z .segments in
       five segmentColumns (lent-column l (λ x. x .net) _ segment-count n n′ a) (lent-column l (λ x. x .orientation) _ segment-count o o′ b) (lent-column l (λ x. x .fixed) _ segment-count f f′ c) (lent-column l (λ x. x .start) _ segment-count s s′ d) (lent-column l (λ x. x .end) _ segment-count e e′ g)
 
   pub nodes-lent : (i : List ℕ) (x y w t : List Float) (i′ : List ℕ) (x′ y′ w′ t′ : List Float)
       → i ≡ columnAfter (λ d. d .nodes) (λ z. z .id) r i′ → x ≡ columnAfter (λ d. d .nodes) (λ z. z .x) r x′ → y ≡ columnAfter (λ d. d .nodes) (λ z. z .y) r y′ → w ≡ columnAfter (λ d. d .nodes) (λ z. z .width) r w′ → t ≡ columnAfter (λ d. d .nodes) (λ z. z .height) r t′
-      → nodeColumns (take (h .nodes) i) (take (h .nodes) x) (take (h .nodes) y) (take (h .nodes) w) (take (h .nodes) t) ≡ nodesApart (q .drawing .nodes)
-  unfolding nodesApart
+      → nodeColumns (take (h .nodes) i) (take (h .nodes) x) (take (h .nodes) y) (take (h .nodes) w) (take (h .nodes) t) ≡ nodeColumnsOf (q .drawing .nodes)
+  unfolding nodeColumnsOf
   nodes-lent i x y w t i′ x′ y′ w′ t′ a b c d g =
       let l : Drawing → List Node = λ z. z .nodes in
       five nodeColumns (lent-column l (λ z. z .id) _ node-count i i′ a) (lent-column l (λ z. z .x) _ node-count x x′ b) (lent-column l (λ z. z .y) _ node-count y y′ c) (lent-column l (λ z. z .width) _ node-count w w′ d) (lent-column l (λ z. z .height) _ node-count t t′ g)
 
   pub exemptions-lent : (n m n′ m′ : List ℕ)
       → n ≡ columnAfter (λ d. d .exemptions) (λ z. z .net) r n′ → m ≡ columnAfter (λ d. d .exemptions) (λ z. z .node) r m′
-      → exemptionColumns (take (h .exemptions) n) (take (h .exemptions) m) ≡ exemptionsApart (q .drawing .exemptions)
-  unfolding exemptionsApart
+      → exemptionColumns (take (h .exemptions) n) (take (h .exemptions) m) ≡ exemptionColumnsOf (q .drawing .exemptions)
+  unfolding exemptionColumnsOf
   exemptions-lent n m n′ m′ a b =
       let l : Drawing → List Exemption = λ z. z .exemptions in
       ap (λ z. exemptionColumns z (take (h .exemptions) m)) (lent-column l (λ z. z .net) _ exemption-count n n′ a)
       ∙ ap (exemptionColumns (map (λ z. z .net) (q .drawing .exemptions))) (lent-column l (λ z. z .node) _ exemption-count m m′ b)
 
   -- the lines of what is lent are the file's sheet
-  pub lines-lent : {s : SegmentColumns} {n : NodeColumns} {e : ExemptionColumns} → s ≡ segmentsApart (q .drawing .segments) → n ≡ nodesApart (q .drawing .nodes) → e ≡ exemptionsApart (q .drawing .exemptions) → measured s n e (settingsOf h) ≡ printed r
+  pub lines-lent : {s : SegmentColumns} {n : NodeColumns} {e : ExemptionColumns} → s ≡ columnsOf (q .drawing .segments) → n ≡ nodeColumnsOf (q .drawing .nodes) → e ≡ exemptionColumnsOf (q .drawing .exemptions) → measured s n e (settingsOf h) ≡ printed r
   unfolding printed lines settingsOf headerOf
   lines-lent a b c = four measured a b c (ap settingsOf (q .header)) ∙ sym (ap printed (q .is))
 

@@ -1,8 +1,8 @@
 -- The text of a sheet: "three lines", or "a refused file only `file refused` and the number".
-use mathlib.Core.List.{List, [], _∷_, _++_, map}
+use mathlib.Core.List.{List, [], _∷_, _++_}
 use Prim.Native.Nat.{ℕ}
 use Rattle.drawing.specs.declared.refusal.Refusal.{Refusal}
-use Rattle.drawing.specs.Entries.{Segment, Node, Exemption, SegmentColumns, NodeColumns, ExemptionColumns}
+use Rattle.drawing.specs.Entries.{SegmentColumns, NodeColumns, ExemptionColumns, columnsOf, nodeColumnsOf, exemptionColumnsOf}
 use Rattle.drawing.specs.Refusals.{numberOf}
 use Rattle.clearance.specs.declared.report.ClearanceAnswer.{ClearanceAnswer}
 use Rattle.clearance.specs.declared.report.ClearanceAnswer.the-variants as ofClearance
@@ -53,16 +53,6 @@ congestionLine (ofCongestion.Report r) =
     congestionWord ++ fields (float (c .«total_length») ∷ float (c .«congested_length») ∷ float (c .«pair_overlap_length») ∷ decimal (c .«peak_close_neighbors») ∷ gap (r .«minimum_positive») ∷ decimal (r .visits) ∷ [])
 congestionLine (ofCongestion.Refused r) = refusal congestionWord r
 
--- a drawing's lists as columns
-unfoldable pub segmentsApart : List Segment → SegmentColumns
-segmentsApart l = record { net = map (λ s. s .net) l; orientation = map (λ s. s .orientation) l; fixed = map (λ s. s .fixed) l; start = map (λ s. s .start) l; end = map (λ s. s .end) l }
-
-unfoldable pub nodesApart : List Node → NodeColumns
-nodesApart l = record { id = map (λ n. n .id) l; x = map (λ n. n .x) l; y = map (λ n. n .y) l; width = map (λ n. n .width) l; height = map (λ n. n .height) l }
-
-unfoldable pub exemptionsApart : List Exemption → ExemptionColumns
-exemptionsApart l = record { net = map (λ e. e .net) l; node = map (λ e. e .node) l }
-
 -- the words of scratch that the program lends to each call: "32 times (segments + nodes) plus 64 words" for 120 segments and 120 nodes
 unfoldable pub scratchWords : ℕ
 scratchWords = 7744
@@ -75,7 +65,7 @@ measured s n e set =
     ++ congestionLine (densityAnswer s (set .cutoff) (set .congestion) scratchWords))
 
 unfoldable pub lines : Drawing → List ℕ
-lines d = measured (segmentsApart (d .segments)) (nodesApart (d .nodes)) (exemptionsApart (d .exemptions)) (d .settings)
+lines d = measured (columnsOf (d .segments)) (nodeColumnsOf (d .nodes)) (exemptionColumnsOf (d .exemptions)) (d .settings)
 
 unfoldable pub printed : Read Drawing → List ℕ
 printed (got d rest) = lines d

@@ -1,4 +1,5 @@
 -- The calls' own contracts say what specs/Contracts states. Assumes nothing.
+use Rattle.drawing.proofs.ColumnLaws.{columns-entries, columns-same}
 use Rattle.clearance.proofs.measure.measure_edge_node_clearance_bounded.Met as clearance
 use Rattle.clearance.proofs.tight_pair.tight_pair.Met as tight-pair
 use Rattle.separation.proofs.measure.measure_parallel_separation_bounded.Met as separation
@@ -10,7 +11,6 @@ use Rattle.records.proofs.measure_parallel_separation_bounded_by_records.Met as
 use Rattle.records.proofs.measure_parallel_density_profile_bounded_by_records.Met as density-entry
 use Rattle.records.proofs.measure_parallel_congestion_profile_bounded_by_records.Met as profile-entry
 use Rattle.records.proofs.measure_parallel_congestion_by_records.Met as congestion-entry
-use Rattle.records.proofs.ColumnLaws.{columns-entries, columns-same}
 use Rattle.readability.specs.Contracts.{Contracts}
 
 pub contracts : Contracts

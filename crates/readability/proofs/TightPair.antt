@@ -10,12 +10,12 @@ use Rattle.drawing.specs.declared.refusal.Check.{Check}
 use Rattle.drawing.specs.declared.refusal.Check.the-variants.{Passed, Refused as Stopped}
 use Rattle.drawing.specs.Entries.{SegmentColumns, NodeColumns, ExemptionColumns, segments, nodes, exemptions}
 use Rattle.drawing.specs.Gaps.{leastGap}
-use Rattle.drawing.specs.Refusals.{numberOf, firstOf}
+use Rattle.drawing.specs.Refusals.{numberOf, firstOf, checked}
 use Rattle.drawing.specs.Checks.{listConditions, entryConditions, tightPairConditions}
 use Rattle.clearance.specs.declared.tight_pair.TightPair.{TightPair}
 use Rattle.clearance.specs.declared.tight_pair.TightPair.the-variants as tightPair
 use Rattle.clearance.specs.Figures.{distances, figures}
-use Rattle.clearance.specs.TightPair.{unless, found, answer, Answered, result}
+use Rattle.clearance.specs.TightPair.{found, answer, Answered, result}
 use Rattle.readability.specs.Applies.{First, NoneApplies}
 use Rattle.readability.specs.TightPair.{Pair, TightPairs}
 use Rattle.readability.proofs.FirstMet.{Rising, first-refused, none-passed}
@@ -26,22 +26,22 @@ rises s n e = (omega arith, omega arith, (omega arith, omega arith, (omega arith
 
 module _ (s : SegmentColumns) (n : NodeColumns) (e : ExemptionColumns) (r : TightPair) (a : Answered s n e r) where
   -- from what the checks say, and from the least clearance
-  answered : (c : Check) → firstOf (tightPairConditions s n e) ≡ c → (g : Gap) → leastGap (distances (exemptions e) (segments s) (nodes n)) ≡ g → r ≡ unless c (found g (a .choice))
+  answered : (c : Check) → firstOf (tightPairConditions s n e) ≡ c → (g : Gap) → leastGap (distances (exemptions e) (segments s) (nodes n)) ≡ g → r ≡ checked tightPair.Refused c (found g (a .choice))
   unfolding answer
-  answered c p g q = a .is ∙ (λ i. unless (p i) (found (q i) (a .choice)))
+  answered c p g q = a .is ∙ (λ i. checked tightPair.Refused (p i) (found (q i) (a .choice)))
 
   unfit : (k : ℕ) → First (tightPairConditions s n e) k → result r ≡ record { refused = some k; pair = none }
-  unfolding unless result
+  unfolding result
   unfit k f =
       let w = first-refused 0 (tightPairConditions s n e) (rises s n e) k f in
       ap result (answered (Stopped (w .refusal)) (w .first) _ refl) ∙ ap (λ (j : ℕ). record { refused = some j; pair = none }) (w .number)
 
   no-pair : NoneApplies (tightPairConditions s n e) → (threshold : Float) → figures (exemptions e) threshold (segments s) (nodes n) .least ≡ Absent → result r ≡ record { refused = none; pair = none }
-  unfolding unless found result figures
+  unfolding found result figures
   no-pair h threshold g = ap result (answered Passed (none-passed (tightPairConditions s n e) h) Absent g)
 
   some-pair : NoneApplies (tightPairConditions s n e) → (threshold d : Float) → figures (exemptions e) threshold (segments s) (nodes n) .least ≡ Present d → Pair s n e r
-  unfolding unless found result figures
+  unfolding found result figures
   some-pair h threshold d g =
       let is : r ≡ tightPair.Pair (a .choice .0) (a .choice .1) = answered Passed (none-passed (tightPairConditions s n e) h) (Present d) g in
       record { segment = a .choice .0; node = a .choice .1; told = ap result is; tight = a .tight (a .choice .0) (a .choice .1) is }

@@ -8,7 +8,7 @@ use denote.Triple.Clauses.{AtExit}
 use denote.Ref.{now}
 use mathlib.Core.Path.{_≡_}
 use mathlib.Core.Bool.{false}
-use Rattle.drawing.specs.Entries.{Segment, segments, segmentColumns, nodeColumns, exemptionColumns}
+use Rattle.drawing.specs.Entries.{Segment, segments, columnsOf, segmentColumns, nodeColumns, exemptionColumns}
 use Rattle.drawing.specs.Checks.{segmentsDiffer}
 use Rattle.clearance.specs.TightPair.{Answered}
 use Rattle.clearance.proofs.measure.measure_edge_node_clearance_bounded.Kinds as clearanceKinds
@@ -44,7 +44,7 @@ use Rattle.records.proofs.measure_parallel_congestion_profile_bounded_by_record
 use Rattle.records.proofs.Claims.measure_parallel_congestion_by_records.Kinds as congestionEntryKinds
 use Rattle.records.proofs.Claims.measure_parallel_congestion_by_records.Reads as congestionEntryReads
 use Rattle.records.proofs.measure_parallel_congestion_by_records.Statement as congestionEntryTheorem
-use Rattle.records.specs.Records.{parallelColumns, edgeNodeColumns, columnsOf}
+use Rattle.records.specs.Records.{parallelColumns, edgeNodeColumns}
 use Rattle.readability.specs.Measures.{Says, clearance, separation, density, profile, congestion}
 
 -- a function of n lifetimes with these parameters and this result; `Asked` is what it asks of a caller, `Learnt` what a caller knows after the call, and `theorem` what is proved of its code

@@ -1,33 +1,30 @@
 -- The first 4,097 entries of a list decide as the whole list does: with more than 4,096 entries a call is refused, whatever they are. Assumes nothing.
-use mathlib.Core.Path.{_≡_, refl, sym, ap, _∙_}
-use mathlib.Core.Logic.{_⊎_, inl, inr}
-use mathlib.Core.Bool.{Bool, true, false, cond, _||_}
-use mathlib.Core.List.{List, [], _∷_, _++_}
-use Prim.Native.Nat.{ℕ, _≤_, _<_}
+use mathlib.Core.Path.{_≡_, refl, sym, _∙_}
+use mathlib.Core.Logic.{inl, inr}
+use mathlib.Core.Bool.{true, cond}
+use mathlib.Core.List.{List}
+use Prim.Native.Nat.{ℕ, _<_}
 use native.Mathlib.Omega.{arith}
 use borrow.Author.Tests.{lt-ltb}
 use lib.Ieee.{Float}
 use lib.ListN.{length, take}
 use lib.Seq.{take-all, length-take-le}
-use Rattle.laws.specs.Charged.{settle}
 use Rattle.laws.proofs.Tests.{le-or-lt, decide}
-use Rattle.drawing.specs.declared.refusal.Check.{Check}
 use Rattle.drawing.specs.declared.refusal.Check.the-variants as check
 use Rattle.drawing.specs.declared.refusal.Refusal.{Refusal}
 use Rattle.drawing.specs.declared.refusal.Refusal.the-variants.{ColumnsDiffer, TooManyEntries}
-use Rattle.drawing.specs.Entries.{Segment, SegmentColumns, NodeColumns, ExemptionColumns}
+use Rattle.drawing.specs.Entries.{Segment, SegmentColumns, NodeColumns, ExemptionColumns, columnsOf}
 use Rattle.drawing.specs.Conditions.{tooMany}
 use Rattle.drawing.specs.Refusals.{firstOf}
 use Rattle.drawing.specs.Checks.{nodesDiffer, exemptionsDiffer, separationConditions, congestionConditions, listConditions, clearanceConditions}
 use Rattle.drawing.proofs.FirstRefusal.{first-yes, first-no, first-stop}
+use Rattle.drawing.proofs.ColumnLaws.{columns-same, columns-count}
 use Rattle.separation.specs.declared.report.SeparationAnswer.the-variants as ofSeparation
 use Rattle.separation.specs.Answer.{separation}
 use Rattle.congestion.specs.declared.report.CongestionAnswer.the-variants as ofCongestion
 use Rattle.congestion.specs.Answer.{densityAnswer, profileAnswer, congestionAnswer}
 use Rattle.clearance.specs.declared.report.ClearanceAnswer.the-variants as ofClearance
-use Rattle.clearance.specs.Answer.{answer, unless}
-use Rattle.records.specs.Records.{columnsOf}
-use Rattle.records.proofs.ColumnLaws.{columns-same, columns-count}
+use Rattle.clearance.specs.Answer.{answer}
 
 -- a list has at most 4,096 entries, or it is refused for their number alone
 few-or-many : {A : Type 0} (P : List A → List A → Type 0) (l : List A) → ((k : List A) → P k k) → ((j k : List A) → 4096 < length j → 4096 < length k → P j k) → P (take 4097 l) l
@@ -95,7 +92,7 @@ unfolding congestionAnswer
 congestion-refused s cutoff words r e = rw e
 
 clearance-refused : (s : SegmentColumns) (n : NodeColumns) (e : ExemptionColumns) (threshold : Float) (allowance words : ℕ) (r : Refusal) → firstOf (clearanceConditions s n e threshold words) ≡ check.Refused r → answer s n e threshold allowance words ≡ ofClearance.Refused r
-unfolding answer unless
+unfolding answer
 clearance-refused s n e threshold allowance words r p = rw p
 
 module _ (l : List Segment) where

@@ -1,7 +1,7 @@
 -- What the proofs of the functions lean on.
 mod Copying
 mod Enough
-pub mod ColumnLaws
+mod LineColumns
 mod Deciding
 mod Unpacking
 -- what callers cite of the functions that take a slice of records

@@ -1,16 +1,15 @@
 -- The loop of `unpack`: the first i lines stand in the columns. Assumes nothing.
-use mathlib.Core.Path.{_≡_, refl, sym, ap, _∙_}
+use mathlib.Core.Path.{_≡_, refl, sym, _∙_}
 use mathlib.Core.List.{List, map, map-id}
 use Prim.Native.Nat.{ℕ, _+_, _≤_, _<_}
 use native.Mathlib.Nat.{le-antisymm}
 use lib.Ieee.{Float, nan}
 use lib.ListN.{length, getD, set, take}
-use Rattle.drawing.specs.Entries.{segmentColumns}
+use Rattle.drawing.specs.Entries.{segmentColumns, columnsOf}
 use Rattle.records.specs.declared.line.Line.{Line}
-use Rattle.records.specs.Records.{columnsOf}
 use Rattle.records.specs.Lines.{entryOf}
 use Rattle.records.proofs.Copying.{Copied, copied-none, copied-next}
-use Rattle.records.proofs.ColumnLaws.{columns-of-lines}
+use Rattle.records.proofs.LineColumns.{columns-of-lines}
 
 abbrev as-it-is : {A : Type 0} → A → A
 as-it-is x = x

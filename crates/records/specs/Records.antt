@@ -2,7 +2,7 @@
 use mathlib.Core.Bool.{Bool, true, false}
 use mathlib.Core.List.{List, map}
 use Prim.Native.Nat.{ℕ}
-use Rattle.drawing.specs.Entries.{Segment, SegmentColumns, segmentColumns}
+use Rattle.drawing.specs.Entries.{Segment, SegmentColumns, columnsOf}
 use Rattle.records.specs.declared.parallel.ParallelSegment.{ParallelSegment}
 use Rattle.records.specs.declared.edge_node.EdgeNodeSegment.{EdgeNodeSegment}
 
@@ -17,10 +17,6 @@ ofParallel p = record { net = p .net; orientation = orientationByte (p .horizont
 
 unfoldable pub ofEdgeNode : EdgeNodeSegment → Segment
 ofEdgeNode p = record { net = p .net; orientation = orientationByte (p .horizontal); fixed = p .fixed; start = p .start; end = p .end }
-
--- the columns of a list of entries
-unfoldable pub columnsOf : List Segment → SegmentColumns
-columnsOf l = segmentColumns (map (λ (s : Segment). s .net) l) (map (λ (s : Segment). s .orientation) l) (map (λ (s : Segment). s .fixed) l) (map (λ (s : Segment). s .start) l) (map (λ (s : Segment). s .end) l)
 
 abbrev pub parallelColumns : List ParallelSegment → SegmentColumns
 parallelColumns l = columnsOf (map ofParallel l)

@@ -3,8 +3,8 @@ ghost use mathlib.Core.Path.{_≡_};
 ghost use mathlib.Core.List.{map};
 ghost use Prim.Native.Nat.{_≤_};
 ghost use lib.ListN.{length, take};
-ghost use Rattle.drawing.specs.Entries.{segmentColumns};
-ghost use Rattle.records.specs.Records.{columnsOf, orientationByte};
+ghost use Rattle.drawing.specs.Entries.{segmentColumns, columnsOf};
+ghost use Rattle.records.specs.Records.{orientationByte};
 ghost use Rattle.records.specs.Lines.{entryOf, enough};
 
 // A segment as the columns have it.

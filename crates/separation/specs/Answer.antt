@@ -3,11 +3,9 @@ use mathlib.Core.List.{List}
 use Prim.Native.Nat.{ℕ}
 use Rattle.laws.specs.Charged.{Charged, settle}
 use Rattle.drawing.specs.declared.refusal.Refusal.the-variants.{WorkLimitExceeded}
-use Rattle.drawing.specs.declared.refusal.Check.{Check}
-use Rattle.drawing.specs.declared.refusal.Check.the-variants as check
 use Rattle.drawing.specs.declared.gap.Gap.the-variants.{Absent}
 use Rattle.drawing.specs.Entries.{Segment, SegmentColumns, segments}
-use Rattle.drawing.specs.Refusals.{numberOf, firstOf}
+use Rattle.drawing.specs.Refusals.{numberOf, firstOf, checked}
 use Rattle.drawing.specs.Checks.{separationConditions}
 use Rattle.separation.specs.declared.report.ParallelSeparation.{ParallelSeparation}
 use Rattle.separation.specs.declared.report.SeparationAnswer.{SeparationAnswer}
@@ -26,16 +24,11 @@ accepted f n = Report (reportOf f n)
 unfoldable pub allPairs : List Segment → Charged Figures
 allPairs l = record { value = figures l; cost = visitCount l }
 
--- what the checks refuse, else what the measure settles
-abbrev pub checked : Check → SeparationAnswer → SeparationAnswer
-checked check.Passed a = a
-checked (check.Refused r) a = Refused r
-
 -- the call's columns, its allowance and the length of its scratch
 unfoldable pub separation : SegmentColumns → ℕ → ℕ → SeparationAnswer
 separation s allowance words =
     let settled = settle accepted (Refused WorkLimitExceeded) allowance (allPairs (segments s)) in
-    checked (firstOf (separationConditions s words)) settled
+    checked Refused (firstOf (separationConditions s words)) settled
 
 -- "A refusal returns its number and a report of zeros and absent gaps": each case by its number, 0 for a report, and its values
 unfoldable pub resultOf : SeparationAnswer → ℕ × ParallelSeparation

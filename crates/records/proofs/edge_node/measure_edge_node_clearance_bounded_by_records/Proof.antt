@@ -7,10 +7,10 @@ use borrow.Author.Needs.{needs}
 use denote.Ref.{now}
 use lib.ListN.{length}
 use Rattle.drawing.specs.Refusals.{firstOf, scratchAfter}
-use Rattle.drawing.specs.Entries.{nodeColumns, exemptionColumns}
+use Rattle.drawing.specs.Entries.{nodeColumns, exemptionColumns, columnsOf}
 use Rattle.drawing.specs.Checks.{clearanceConditions}
 use Rattle.clearance.specs.Answer.{answer}
-use Rattle.records.specs.Records.{columnsOf, ofEdgeNode}
+use Rattle.records.specs.Records.{ofEdgeNode}
 use Rattle.records.proofs.Deciding.{clearance-checked, clearance-decided}
 use Rattle.records.proofs.edge_node.measure_edge_node_clearance_bounded_by_records.Statement.{statement}
 use Rattle.records.proofs.edge_node.measure_edge_node_clearance_bounded_by_records.Proof.Tie as tie

@@ -1,7 +1,6 @@
 -- `records::line::unpack` meets its contract. Assumes nothing.
 use Prim.Native.Nat.{_-_, _≤_}
 use Rattle.records.proofs.Unpacking.{Unpacking, unpacking-none, unpacking-next, unpacking-all}
-use native.Mathlib.Omega.{arith}
 use borrow.Author.Needs.{needs}
 use Rattle.records.proofs.line.unpack.Statement.{statement}
 use Rattle.records.proofs.line.unpack.Tie as tie

@@ -8,7 +8,7 @@ use Rattle.drawing.specs.Refusals.{firstOf, scratchAfter}
 use Rattle.drawing.specs.Checks.{clearanceConditions}
 use Rattle.drawing.specs.Entries.{nodeColumns, exemptionColumns}
 use Rattle.clearance.specs.Answer.{answer}
-use Rattle.records.proofs.ColumnLaws.{laid-out}
+use Rattle.records.proofs.LineColumns.{laid-out}
 use Rattle.records.proofs.of_lines.clearance_of_lines.Statement.{statement}
 use Rattle.records.proofs.of_lines.clearance_of_lines.Tie as tie
 

@@ -7,7 +7,7 @@ use lib.Seq.{length-take-le}
 use Rattle.drawing.specs.Refusals.{firstOf, scratchAfter}
 use Rattle.drawing.specs.Checks.{congestionConditions}
 use Rattle.congestion.specs.Answer.{congestionAnswer}
-use Rattle.records.proofs.ColumnLaws.{laid-out}
+use Rattle.records.proofs.LineColumns.{laid-out}
 use Rattle.records.proofs.of_lines.congestion_of_lines.Statement.{statement}
 use Rattle.records.proofs.of_lines.congestion_of_lines.Tie as tie
 

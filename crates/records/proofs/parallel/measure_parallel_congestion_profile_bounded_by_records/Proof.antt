@@ -6,10 +6,11 @@ use mathlib.Core.List.{map}
 use borrow.Author.Needs.{needs}
 use denote.Ref.{now}
 use lib.ListN.{length}
+use Rattle.drawing.specs.Entries.{columnsOf}
 use Rattle.drawing.specs.Refusals.{firstOf, scratchAfter}
 use Rattle.drawing.specs.Checks.{congestionConditions}
 use Rattle.congestion.specs.Answer.{profileAnswer}
-use Rattle.records.specs.Records.{columnsOf, ofParallel}
+use Rattle.records.specs.Records.{ofParallel}
 use Rattle.records.proofs.Deciding.{congestion-checked, profile-decided}
 use Rattle.records.proofs.parallel.measure_parallel_congestion_profile_bounded_by_records.Statement.{statement}
 use Rattle.records.proofs.parallel.measure_parallel_congestion_profile_bounded_by_records.Proof.Tie as tie

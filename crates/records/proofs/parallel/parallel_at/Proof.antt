@@ -1,8 +1,7 @@
 -- `records::parallel::parallel_at` meets its contract: a walk of its MIR, by hand. The place of `records[i]` is i * 32 past the slice's pointer; the slice is looked into, element i is taken out of the row, copied, and put back.
 -- Assumes nothing.
-use mathlib.Core.Path.{_≡_, refl, sym}
+use mathlib.Core.Path.{refl, sym}
 use Prim.Native.Nat.{ℕ, _*_, _<_, _^_}
-use native.Mathlib.Nat.{lt-of-le-of-lt, mul-le-mul-right, le-of-lt, lt-trans}
 use native.Mathlib.Omega.{arith}
 use mathlib.Core.List.{List, [], _∷_}
 use lib.ListN.{length, getD}
