@@ -26,7 +26,7 @@ use Rattle.clearance.specs.declared.report.ClearanceAnswer.the-variants.
 use Rattle.clearance.specs.Figures.{Figures, figures}
 use Rattle.clearance.specs.Walk.{visitCount}
 use Rattle.clearance.specs.Answer.{accepted, allPairs, answer, Result, acceptedResult, refusedResult, result}
-use Rattle.clearance.proofs.Fit.{FitSegment, FitNode, FitThreshold}
+use Rattle.boxes.proofs.Fit.{FitSegment, FitNode, FitThreshold}
 use Rattle.clearance.proofs.AnyOrder.{all-pairs-any-order}
 
 -- what every call knows of its floats: binary64 holds them

@@ -14,12 +14,12 @@ use Rattle.floats.specs.TotalOrder.{keyOf}
 use Rattle.drawing.specs.Entries.{Segment, Node, Exemption}
 use Rattle.drawing.proofs.GapLaws.{least-gap-perm}
 use Rattle.drawing.proofs.ListOrders.{SegmentHeld, NodeHeld, segments-one-order, nodes-one-order}
-use Rattle.clearance.specs.Boxes.{segmentBox, distance}
+use Rattle.boxes.specs.Boxes.{segmentBox, distance}
 use Rattle.clearance.specs.Figures.{Figures, exempt, figures}
 use Rattle.clearance.specs.Tree.{Tree, bare, leaf, branch, boundsOf, indexed, build, treeOf}
 use Rattle.clearance.specs.Walk.{contributes, withPair, walk, noFigures, walkAll, visitCount}
 use Rattle.clearance.specs.Answer.{allPairs}
-use Rattle.clearance.proofs.Fit.{FitSegment, FitNode}
+use Rattle.boxes.proofs.Fit.{FitSegment, FitNode}
 use Rattle.clearance.proofs.Distances.{exempt-perm, distances-good, distances-perm}
 
 -- the walk looks at exemptions only through `exempt`

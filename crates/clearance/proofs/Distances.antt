@@ -11,11 +11,11 @@ use Rattle.laws.proofs.ListLaws.{all-mem, mem-all, all-append, mem-chosen, chos
 use Rattle.laws.proofs.Perms.{perm-both, perm-some, perm-chosen, perm-cross}
 use Rattle.floats.proofs.Gaps.{Good}
 use Rattle.drawing.specs.Entries.{Segment, Node, Exemption}
-use Rattle.clearance.specs.Boxes.{nodeBox, segmentBox, distance}
+use Rattle.boxes.specs.Boxes.{nodeBox, segmentBox, distance}
 use Rattle.clearance.specs.Figures.{exempt, distances}
 use Rattle.clearance.specs.Tree.{IndexedNode, indexed}
-use Rattle.clearance.proofs.Fit.{FitSegment, FitNode}
-use Rattle.clearance.proofs.BoxLaws.{fit-segment, distance-good}
+use Rattle.boxes.proofs.Fit.{FitSegment, FitNode}
+use Rattle.boxes.proofs.BoxLaws.{fit-segment, distance-good}
 use Rattle.clearance.proofs.TreeLaws.{FitIndexed, indexed-fit}
 
 -- what holds of h of each entry holds of the chosen ones

@@ -18,7 +18,7 @@ use Rattle.drawing.specs.Orders.{segmentRow, nodeRow, segmentsInOrder, nodesInO
 use Rattle.drawing.specs.Refusals.{numberOf, firstOf}
 use Rattle.drawing.specs.Conditions.{differ, tooMany, shortScratch, unfitLine, unfitSegment, unfitExtent, unfitNode, unfitThreshold}
 use Rattle.drawing.specs.Checks.{segmentsDiffer, nodesDiffer, exemptionsDiffer, listConditions, entryConditions, clearanceConditions}
-use Rattle.clearance.specs.Boxes.{fromNode, fromSegment, nodeBox, segmentBox, union, axisGap, distance}
+use Rattle.boxes.specs.Boxes.{fromNode, fromSegment, nodeBox, segmentBox, union, axisGap, distance}
 use Rattle.clearance.specs.Figures.{exempt, distances, figures}
 use Rattle.clearance.specs.Tree.{indexed, indexedRow, indexedInOrder, horizontalWider, hull, boundsOf, build, treeOf}
 use Rattle.clearance.specs.Walk.{contributes, withPair, walk, walkAll, visitCount}

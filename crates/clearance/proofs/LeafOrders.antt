@@ -23,8 +23,8 @@ use Rattle.laws.proofs.Parts.{tail-lent, tail-back, drop-past}
 use Rattle.sorting.specs.Sorted.{before, within, sortable, sorted}
 use Rattle.sorting.proofs.Entries.{sorted-is}
 use Rattle.drawing.specs.Entries.{NodeColumns}
-use Rattle.clearance.specs.declared.aabb.Aabb.{Aabb}
-use Rattle.clearance.specs.Boxes.{union}
+use Rattle.boxes.specs.declared.aabb.Aabb.{Aabb}
+use Rattle.boxes.specs.Boxes.{union}
 use Rattle.clearance.specs.Tree.{hull, horizontalWider}
 use Rattle.clearance.specs.LeafOrder.{indexedAt, boxFrom, horizontalPart, along, leafOrder, Places, Buildable}
 

@@ -1,8 +1,4 @@
 -- The laws of the definitions, a file for each notion.
-pub mod Growth
-pub mod Fit
-pub mod BoxLaws
-pub mod Spans
 pub mod TreeLaws
 pub mod Distances
 pub mod WalkSteps
@@ -22,7 +18,6 @@ pub mod TableLaws
 pub mod Prepared
 pub mod ExemptLaws
 pub mod ExemptIds
-pub mod AnyBoxes
 pub mod StoredWalk
 pub mod WalkRuns
 pub mod PairInput

@@ -25,11 +25,11 @@ use Rattle.floats.proofs.NumberKeys.{key-of-one}
 use Rattle.drawing.specs.Entries.{Node}
 use Rattle.drawing.specs.Orders.{nodesInOrder}
 use Rattle.drawing.proofs.ListOrders.{nodes-in-order-perm}
-use Rattle.clearance.specs.declared.aabb.Aabb.{Aabb}
+use Rattle.boxes.specs.declared.aabb.Aabb.{Aabb}
 use Rattle.clearance.specs.Tree.{IndexedNode, indexed, indexedRow, indexedInOrder, horizontalWider, hull, build, treeOf}
-use Rattle.clearance.proofs.Fit.{FitNode}
-use Rattle.clearance.proofs.BoxLaws.{at, Span, Alike}
-use Rattle.clearance.proofs.Spans.{Whole, whole-node, whole-union, width-good, height-good}
+use Rattle.boxes.proofs.Fit.{FitNode}
+use Rattle.boxes.proofs.BoxLaws.{at, Span, Alike}
+use Rattle.boxes.proofs.Spans.{Whole, whole-node, whole-union, width-good, height-good}
 use Rattle.clearance.proofs.TreeLaws.{FitIndexed, around-alike, around-perm, hull-around}
 use Rattle.clearance.proofs.UnionTrees.{joined, rejoined}
 

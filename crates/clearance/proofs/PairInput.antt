@@ -21,7 +21,7 @@ use Rattle.drawing.proofs.EntryLaws.{segmentAt, nodeAt, length-segments, segmen
 use Rattle.drawing.proofs.FirstRefusal.{ListsPass, lists-pass, passed-head, first-no}
 use Rattle.drawing.proofs.ListOrders.{SegmentHeld, NodeHeld}
 use Rattle.clearance.specs.Exempting.{Rising, Gathered}
-use Rattle.clearance.proofs.Fit.{FitSegment, FitNode}
+use Rattle.boxes.proofs.Fit.{FitSegment, FitNode}
 use Rattle.clearance.proofs.ExemptLaws.{all-places}
 
 -- conditions that all pass do so in two parts

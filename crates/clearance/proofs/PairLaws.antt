@@ -24,19 +24,19 @@ use Rattle.drawing.specs.Lengths.{SegmentsAgree, NodesAgree}
 use Rattle.drawing.specs.Gaps.{leastGap, lesserGap}
 use Rattle.drawing.proofs.GapLaws.{least-none, least-one, least-join}
 use Rattle.drawing.proofs.EntryLaws.{segmentAt, nodeAt, length-segments, segments-at, length-nodes, nodes-at}
-use Rattle.clearance.specs.declared.aabb.Aabb.{Aabb}
+use Rattle.boxes.specs.declared.aabb.Aabb.{Aabb}
 use Rattle.clearance.specs.declared.exempt.Range.{Range}
 use Rattle.clearance.specs.declared.tight_pair.Best.{Best}
 use Rattle.clearance.specs.declared.tight_pair.TightPair.{TightPair}
 use Rattle.clearance.specs.declared.tight_pair.TightPair.the-variants.{Pair, Refused}
-use Rattle.clearance.specs.Boxes.{nodeBox, segmentBox, distance}
+use Rattle.boxes.specs.Boxes.{nodeBox, segmentBox, distance}
 use Rattle.clearance.specs.Figures.{exempt, distances}
 use Rattle.clearance.specs.Tree.{indexed}
 use Rattle.clearance.specs.Exempting.{Holds, Gathered, Own, Listed}
 use Rattle.clearance.specs.Looking.{nearer, noPair, withPair, inTurn, lookNodes, lookSegments}
 use Rattle.clearance.specs.TightPair.{Tight, found, answer, Answered}
-use Rattle.clearance.proofs.Fit.{FitSegment, FitNode}
-use Rattle.clearance.proofs.BoxLaws.{fit-node, fit-segment, distance-good}
+use Rattle.boxes.proofs.Fit.{FitSegment, FitNode}
+use Rattle.boxes.proofs.BoxLaws.{fit-node, fit-segment, distance-good}
 use Rattle.clearance.proofs.TreeLaws.{indexed-fit}
 use Rattle.clearance.proofs.Distances.{distancesOf, good-distances, distancesAll, distances-all}
 use Rattle.clearance.proofs.PairInput.{FloatsLent, pair-segments, pair-nodes}

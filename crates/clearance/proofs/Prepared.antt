@@ -14,7 +14,7 @@ use Rattle.sorting.specs.Sorted.{upTo}
 use Rattle.sorting.proofs.Entries.{length-upTo}
 use Rattle.drawing.specs.Entries.{NodeColumns}
 use Rattle.drawing.specs.Lengths.{NodesAgree}
-use Rattle.clearance.specs.declared.aabb.Aabb.{Aabb}
+use Rattle.boxes.specs.declared.aabb.Aabb.{Aabb}
 use Rattle.clearance.specs.Tree.{IndexedNode}
 use Rattle.clearance.specs.LeafOrder.{indexedAt, leafOrder, treeOver, Places, Buildable}
 use Rattle.clearance.specs.Tables.{NodesFilled}

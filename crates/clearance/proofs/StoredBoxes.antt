@@ -11,8 +11,8 @@ use lib.Ieee.Bits.{ofBits-toBits}
 use lib.ListN.{length, getD, set, take, drop, length-set}
 use lib.Seq.{getD-set-same, getD-set-other}
 use Rattle.laws.proofs.Tests.{le-or-lt, same-or-not}
-use Rattle.clearance.specs.declared.aabb.Aabb.{Aabb}
-use Rattle.clearance.specs.Boxes.{union}
+use Rattle.boxes.specs.declared.aabb.Aabb.{Aabb}
+use Rattle.boxes.specs.Boxes.{union}
 use Rattle.clearance.specs.Tree.{IndexedNode, bare, leaf, branch, boundsOf}
 use Rattle.clearance.specs.LeafOrder.{treeOver}
 use Rattle.clearance.proofs.UnionTrees.{joined}

@@ -8,7 +8,7 @@ use lib.ListN.{length, getD, set, length-set}
 use lib.Seq.{getD-set-same, getD-set-other}
 use Rattle.laws.proofs.Tests.{le-or-lt}
 use Rattle.drawing.specs.Entries.{NodeColumns}
-use Rattle.clearance.specs.declared.aabb.Aabb.{Aabb}
+use Rattle.boxes.specs.declared.aabb.Aabb.{Aabb}
 use Rattle.clearance.specs.LeafOrder.{indexedAt, Places}
 use Rattle.clearance.specs.Stored.{boxAt, leafFrom, BoxPut, LeafPut, LeavesPut}
 use Rattle.clearance.proofs.LeafOrders.{place-small}

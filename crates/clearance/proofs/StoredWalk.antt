@@ -18,17 +18,17 @@ use Rattle.drawing.specs.declared.gap.Gap.{Gap}
 use Rattle.drawing.specs.declared.gap.Gap.the-variants.{Present}
 use Rattle.drawing.specs.Gaps.{lesserGap}
 use Rattle.drawing.specs.Entries.{Segment, Exemption}
-use Rattle.clearance.specs.declared.aabb.Aabb.{Aabb}
+use Rattle.boxes.specs.declared.aabb.Aabb.{Aabb}
 use Rattle.clearance.specs.declared.walk.Walking.{Walking}
 use Rattle.clearance.specs.declared.walk.Walked.{Walked}
 use Rattle.clearance.specs.declared.walk.Walked.the-variants.{Spent, Went}
-use Rattle.clearance.specs.Boxes.{segmentBox, distance}
+use Rattle.boxes.specs.Boxes.{segmentBox, distance}
 use Rattle.clearance.specs.Figures.{Figures, exempt}
 use Rattle.clearance.specs.Tree.{Tree, leaf, branch, boundsOf}
 use Rattle.clearance.specs.Stored.{boxAt, leafAt, splitAt, storedTree}
 use Rattle.clearance.specs.Walk.{contributes, withPair, walk}
 use Rattle.clearance.specs.Walking.{soFar, walkedOf, Near, Walkable, Walks}
-use Rattle.clearance.proofs.AnyBoxes.{any-distance-good, nearer-key, no-nearer-key}
+use Rattle.boxes.proofs.AnyBoxes.{any-distance-good, nearer-key, no-nearer-key}
 use Rattle.clearance.proofs.Visits.{walk-violations}
 use Rattle.clearance.proofs.WalkSteps.{lower, walk-pruned, walk-leaf, walk-left-first, walk-right-first}
 

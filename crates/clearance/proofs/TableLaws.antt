@@ -23,8 +23,8 @@ use Rattle.drawing.specs.Lengths.{SegmentsAgree}
 use Rattle.drawing.specs.Orders.{segmentRow, segmentsInOrder}
 use Rattle.drawing.proofs.EntryLaws.{segmentAt, nodeAt, length-segments, segments-at}
 use Rattle.drawing.proofs.ListOrders.{SegmentHeld, segment-row-one}
-use Rattle.clearance.specs.declared.aabb.Aabb.{Aabb}
-use Rattle.clearance.specs.Boxes.{fromNode, nodeBox}
+use Rattle.boxes.specs.declared.aabb.Aabb.{Aabb}
+use Rattle.boxes.specs.Boxes.{fromNode, nodeBox}
 use Rattle.clearance.specs.Tree.{IndexedNode, indexed, indexedRow}
 use Rattle.clearance.specs.Tables.{nodeRowAt, segmentRowAt, Filled, NodesFilled, SegmentsOrdered}
 

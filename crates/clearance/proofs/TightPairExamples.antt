@@ -16,7 +16,7 @@ use Rattle.drawing.specs.Conditions.{differ, tooMany, unfitLine, unfitSegment, 
 use Rattle.drawing.specs.Checks.{segmentsDiffer, nodesDiffer, exemptionsDiffer, listConditions, entryConditions, tightPairConditions}
 use Rattle.clearance.specs.declared.tight_pair.TightPair.{TightPair}
 use Rattle.clearance.specs.declared.tight_pair.TightPair.the-variants.{Pair, Absent}
-use Rattle.clearance.specs.Boxes.{fromNode, fromSegment, nodeBox, segmentBox, axisGap, distance}
+use Rattle.boxes.specs.Boxes.{fromNode, fromSegment, nodeBox, segmentBox, axisGap, distance}
 use Rattle.clearance.specs.Figures.{exempt, distances}
 use Rattle.clearance.specs.TightPair.{Tight, found, answer, Answered, Result, result}
 

@@ -17,11 +17,11 @@ use Rattle.floats.proofs.Rank.{Fin, zero-num}
 use Rattle.drawing.specs.Entries.{Node}
 use Rattle.drawing.specs.Orders.{nodesInOrder}
 use Rattle.drawing.proofs.ListOrders.{nodes-in-order-perm}
-use Rattle.clearance.specs.declared.aabb.Aabb.{Aabb}
-use Rattle.clearance.specs.Boxes.{union}
+use Rattle.boxes.specs.declared.aabb.Aabb.{Aabb}
+use Rattle.boxes.specs.Boxes.{union}
 use Rattle.clearance.specs.Tree.{IndexedNode, indexed, indexedRow, indexedInOrder, horizontalWider, hull, Tree, bare, leaf, branch, boundsOf, build, treeOf}
-use Rattle.clearance.proofs.Fit.{FitNode}
-use Rattle.clearance.proofs.BoxLaws.{at, Span, FitBox, Within, within-self, within-trans, fit-node, fit-union, union-first, union-second, union-least, Alike}
+use Rattle.boxes.proofs.Fit.{FitNode}
+use Rattle.boxes.proofs.BoxLaws.{at, Span, FitBox, Within, within-self, within-trans, fit-node, fit-union, union-first, union-second, union-least, Alike}
 
 abbrev pub FitIndexed : IndexedNode → Type 0
 FitIndexed n = FitBox (n .bounds)

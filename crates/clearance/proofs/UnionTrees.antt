@@ -14,12 +14,12 @@ use Rattle.floats.specs.TotalOrder.{keyOf}
 use Rattle.drawing.specs.Entries.{Segment, Node, Exemption}
 use Rattle.drawing.specs.Orders.{segmentsInOrder, nodesInOrder}
 use Rattle.drawing.proofs.ListOrders.{segments-in-order-perm}
-use Rattle.clearance.specs.Boxes.{segmentBox, union}
+use Rattle.boxes.specs.Boxes.{segmentBox, union}
 use Rattle.clearance.specs.Figures.{Figures}
 use Rattle.clearance.specs.Tree.{IndexedNode, indexed, Tree, bare, leaf, branch, boundsOf, build, treeOf}
 use Rattle.clearance.specs.Walk.{contributes, walk, noFigures, walkAll}
-use Rattle.clearance.proofs.Fit.{FitSegment, FitNode}
-use Rattle.clearance.proofs.BoxLaws.{fit-segment, distance-alike}
+use Rattle.boxes.proofs.Fit.{FitSegment, FitNode}
+use Rattle.boxes.proofs.BoxLaws.{fit-segment, distance-alike}
 use Rattle.clearance.proofs.TreeLaws.{FitIndexed, Around, around-alike, around-perm, around-node, around-union, ordered, halves-perm, halves-all, first-some, second-some, first-small, second-small, build-around, enough, in-order-fit}
 use Rattle.clearance.proofs.WalkSteps.{lower}
 

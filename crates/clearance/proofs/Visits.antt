@@ -13,7 +13,7 @@ use Rattle.laws.proofs.Perms.{perm-length}
 use Rattle.drawing.specs.Entries.{Segment, Node, Exemption}
 use Rattle.drawing.specs.Orders.{segmentsInOrder}
 use Rattle.drawing.proofs.ListOrders.{segments-in-order-perm}
-use Rattle.clearance.specs.Boxes.{segmentBox, distance}
+use Rattle.boxes.specs.Boxes.{segmentBox, distance}
 use Rattle.clearance.specs.Figures.{Figures, exempt}
 use Rattle.clearance.specs.Tree.{Tree, indexed, treeOf}
 use Rattle.clearance.specs.Walk.{withPair, walk, noFigures, walkAll, visitCount}

@@ -26,12 +26,12 @@ use Rattle.drawing.specs.declared.gap.Gap.the-variants.{Present}
 use Rattle.drawing.specs.Entries.{Segment, Exemption}
 use Rattle.drawing.specs.Gaps.{gapFrom, leastGap, lesserGap}
 use Rattle.drawing.proofs.GapLaws.{gaps-ranked, least-one, least-join, least-gap-perm}
-use Rattle.clearance.specs.Boxes.{segmentBox, distance}
+use Rattle.boxes.specs.Boxes.{segmentBox, distance}
 use Rattle.clearance.specs.Figures.{Figures, exempt}
 use Rattle.clearance.specs.Tree.{Tree, bare, leaf, branch, boundsOf}
 use Rattle.clearance.specs.Walk.{contributes, withPair, walk}
-use Rattle.clearance.proofs.Fit.{FitSegment}
-use Rattle.clearance.proofs.BoxLaws.{not-below, fit-segment, distance-good, distance-within}
+use Rattle.boxes.proofs.Fit.{FitSegment}
+use Rattle.boxes.proofs.BoxLaws.{not-below, fit-segment, distance-good, distance-within}
 use Rattle.clearance.proofs.TreeLaws.{leaves, In, Sound, sound-box, sound-in, sound-fit}
 use Rattle.clearance.proofs.Distances.{all-distances, distancesOf, good-distances}
 use Rattle.clearance.proofs.WalkSteps.{lower, walk-bare, walk-pruned, walk-leaf, walk-left-first, walk-right-first}

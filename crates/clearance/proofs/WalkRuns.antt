@@ -12,12 +12,12 @@ use Rattle.laws.proofs.Runs.{within-none, within-next}
 use Rattle.laws.proofs.Places.{first-at}
 use Rattle.drawing.specs.Entries.{Segment, Exemption, SegmentColumns}
 use Rattle.drawing.proofs.EntryLaws.{segmentAt}
-use Rattle.clearance.specs.declared.aabb.Aabb.{Aabb}
+use Rattle.boxes.specs.declared.aabb.Aabb.{Aabb}
 use Rattle.clearance.specs.declared.exempt.Range.{Range}
 use Rattle.clearance.specs.declared.walk.Walking.{Walking}
 use Rattle.clearance.specs.declared.walk.Walked.{Walked}
 use Rattle.clearance.specs.declared.walk.Walked.the-variants.{Spent, Went}
-use Rattle.clearance.specs.Boxes.{segmentBox, distance}
+use Rattle.boxes.specs.Boxes.{segmentBox, distance}
 use Rattle.clearance.specs.Figures.{Figures}
 use Rattle.clearance.specs.Tree.{boundsOf}
 use Rattle.clearance.specs.Stored.{storedTree}

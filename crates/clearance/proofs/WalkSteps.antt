@@ -9,8 +9,8 @@ use Rattle.laws.specs.Charged.{Charged, free, visit, after}
 use Rattle.laws.proofs.Tests.{decide}
 use Rattle.floats.specs.TotalOrder.{keyOf}
 use Rattle.drawing.specs.Entries.{Segment, Exemption}
-use Rattle.clearance.specs.declared.aabb.Aabb.{Aabb}
-use Rattle.clearance.specs.Boxes.{segmentBox, distance}
+use Rattle.boxes.specs.declared.aabb.Aabb.{Aabb}
+use Rattle.boxes.specs.Boxes.{segmentBox, distance}
 use Rattle.clearance.specs.Figures.{Figures, exempt}
 use Rattle.clearance.specs.Tree.{IndexedNode, Tree, bare, leaf, branch, boundsOf}
 use Rattle.clearance.specs.Walk.{contributes, withPair, walk}

@@ -47,7 +47,7 @@ use Rattle.clearance.specs.Stored.{storedTree, Grown}
 use Rattle.clearance.specs.Exempting.{Holds, Gathered}
 use Rattle.clearance.specs.Walking.{walkedOf, Part, Held, InTurns, allWalks, Remains, Answers}
 use Rattle.clearance.specs.Answer.{accepted, answer}
-use Rattle.clearance.proofs.Fit.{FitSegment, FitNode}
+use Rattle.boxes.proofs.Fit.{FitSegment, FitNode}
 use Rattle.clearance.proofs.Answers.{Lent, passes, fit-call}
 use Rattle.clearance.proofs.WithinAllowance.{reply-within}
 use Rattle.clearance.proofs.TreeLaws.{FitIndexed, indexed-fit}

@@ -8,7 +8,7 @@ use Rattle.laws.specs.Lists.{some-of, chosen, count, cross}
 use Rattle.drawing.specs.declared.gap.Gap.{Gap}
 use Rattle.drawing.specs.Entries.{Segment, Node, Exemption}
 use Rattle.drawing.specs.Gaps.{leastGap}
-use Rattle.clearance.specs.Boxes.{nodeBox, segmentBox, distance}
+use Rattle.boxes.specs.Boxes.{nodeBox, segmentBox, distance}
 
 -- a segment of the net and a node of the id are exempt: "An exemption covers every node of that id."
 unfoldable pub exempt : List Exemption → ℕ → ℕ → Bool

@@ -10,8 +10,8 @@ use Rattle.sorting.specs.Sorted.{before}
 use Rattle.drawing.specs.Entries.{NodeColumns}
 use Rattle.drawing.specs.Lengths.{NodesAgree}
 use Rattle.drawing.proofs.EntryLaws.{nodeAt}
-use Rattle.clearance.specs.declared.aabb.Aabb.{Aabb}
-use Rattle.clearance.specs.Boxes.{union}
+use Rattle.boxes.specs.declared.aabb.Aabb.{Aabb}
+use Rattle.boxes.specs.Boxes.{union}
 use Rattle.clearance.specs.Tree.{IndexedNode, indexed, hull, horizontalWider, Tree, bare, leaf, branch, boundsOf}
 
 -- the node at a place of the columns

@@ -1,5 +1,4 @@
 -- The definitions, a file for each notion. LeafOrder and what follows it speak of the scratch: only private contracts cite them.
-pub mod Boxes
 pub mod Figures
 pub mod Tree
 pub mod Walk

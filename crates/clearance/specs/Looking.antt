@@ -6,9 +6,9 @@ use lib.Ieee.{Float, lt}
 use Rattle.drawing.specs.declared.gap.Gap.{Gap}
 use Rattle.drawing.specs.declared.gap.Gap.the-variants.{Absent, Present}
 use Rattle.drawing.specs.Entries.{Segment, Node, Exemption}
-use Rattle.clearance.specs.declared.aabb.Aabb.{Aabb}
+use Rattle.boxes.specs.declared.aabb.Aabb.{Aabb}
 use Rattle.clearance.specs.declared.tight_pair.Best.{Best}
-use Rattle.clearance.specs.Boxes.{nodeBox, segmentBox, distance}
+use Rattle.boxes.specs.Boxes.{nodeBox, segmentBox, distance}
 use Rattle.clearance.specs.Figures.{exempt}
 
 -- the distance is strictly below the least so far

@@ -9,7 +9,7 @@ use lib.Ieee.{binary64, ofBits}
 use lib.ListN.{length, getD, take, drop}
 use Rattle.sorting.specs.Sorted.{upTo}
 use Rattle.drawing.specs.Entries.{NodeColumns}
-use Rattle.clearance.specs.declared.aabb.Aabb.{Aabb}
+use Rattle.boxes.specs.declared.aabb.Aabb.{Aabb}
 use Rattle.clearance.specs.Tree.{IndexedNode, Tree, bare, leaf, branch, boundsOf}
 use Rattle.clearance.specs.LeafOrder.{indexedAt, leafOrder, treeOver}
 use Rattle.clearance.specs.Tables.{nodeRowAt}

@@ -13,7 +13,7 @@ use Rattle.drawing.specs.Refusals.{numberOf, firstOf, checked}
 use Rattle.drawing.specs.Checks.{tightPairConditions}
 use Rattle.clearance.specs.declared.tight_pair.TightPair.{TightPair}
 use Rattle.clearance.specs.declared.tight_pair.TightPair.the-variants.{Pair, Absent, Refused}
-use Rattle.clearance.specs.Boxes.{nodeBox, segmentBox, distance}
+use Rattle.boxes.specs.Boxes.{nodeBox, segmentBox, distance}
 use Rattle.clearance.specs.Figures.{exempt, distances}
 
 -- segment i and node j are a "pair, by segment and node position, that is not exempt and whose distance is the least clearance"

@@ -11,8 +11,8 @@ use Rattle.floats.specs.TotalOrder.{keyOf}
 use Rattle.floats.specs.Values.{plusZero}
 use Rattle.drawing.specs.Entries.{Node}
 use Rattle.drawing.specs.Orders.{nodesInOrder}
-use Rattle.clearance.specs.declared.aabb.Aabb.{Aabb}
-use Rattle.clearance.specs.Boxes.{nodeBox, union}
+use Rattle.boxes.specs.declared.aabb.Aabb.{Aabb}
+use Rattle.boxes.specs.Boxes.{nodeBox, union}
 
 -- what the tree knows of a node
 pub record IndexedNode : Type 0 where

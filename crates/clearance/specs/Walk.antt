@@ -12,7 +12,7 @@ use Rattle.drawing.specs.declared.gap.Gap.the-variants.{Absent, Present}
 use Rattle.drawing.specs.Entries.{Segment, Node, Exemption}
 use Rattle.drawing.specs.Gaps.{lesserGap}
 use Rattle.drawing.specs.Orders.{segmentsInOrder}
-use Rattle.clearance.specs.Boxes.{segmentBox, distance}
+use Rattle.boxes.specs.Boxes.{segmentBox, distance}
 use Rattle.clearance.specs.Figures.{Figures, exempt}
 use Rattle.clearance.specs.Tree.{Tree, bare, leaf, branch, boundsOf, treeOf}
 

@@ -9,7 +9,7 @@ use Rattle.laws.specs.Charged.{Charged, Outcome, spent, left, within, runs, rep
 use Rattle.drawing.specs.Entries.{Segment, Exemption, SegmentColumns}
 use Rattle.drawing.specs.Lengths.{SegmentsAgree}
 use Rattle.drawing.proofs.EntryLaws.{segmentAt}
-use Rattle.clearance.specs.declared.aabb.Aabb.{Aabb}
+use Rattle.boxes.specs.declared.aabb.Aabb.{Aabb}
 use Rattle.drawing.specs.declared.refusal.Refusal.the-variants.{WorkLimitExceeded}
 use Rattle.clearance.specs.declared.report.ClearanceAnswer.{ClearanceAnswer}
 use Rattle.clearance.specs.declared.report.ClearanceAnswer.the-variants.{Refused}
@@ -17,7 +17,7 @@ use Rattle.clearance.specs.declared.exempt.Range.{Range}
 use Rattle.clearance.specs.declared.walk.Walking.{Walking}
 use Rattle.clearance.specs.declared.walk.Walked.{Walked}
 use Rattle.clearance.specs.declared.walk.Walked.the-variants.{Spent, Went}
-use Rattle.clearance.specs.Boxes.{segmentBox, distance}
+use Rattle.boxes.specs.Boxes.{segmentBox, distance}
 use Rattle.clearance.specs.Figures.{Figures}
 use Rattle.clearance.specs.Tree.{boundsOf}
 use Rattle.clearance.specs.Stored.{storedTree}

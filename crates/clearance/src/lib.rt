@@ -1,5 +1,4 @@
-// The clearance measure: boxes, the tree over the nodes, the walk of one segment over it, and the report.
-pub mod aabb;
+// The clearance measure: the tree over the nodes, the walk of one segment over it, and the report.
 mod exempt;
 pub mod measure;
 mod order;
@@ -11,7 +10,6 @@ pub mod tight_pair;
 mod walk;
 mod walk_all;
 
-pub use aabb::Aabb;
 pub use measure::measure_edge_node_clearance_bounded;
 pub use report::ClearanceAnswer;
 pub use report::EdgeNodeClearance;

@@ -8,7 +8,7 @@ ghost use Rattle.drawing.specs.Entries.{nodeColumns};
 ghost use Rattle.drawing.specs.Lengths.{NodesAgree};
 ghost use Rattle.clearance.specs.Tree as Tree;
 ghost use Rattle.clearance.specs.LeafOrder.{indexedAt, boxFrom, leafOrder, Places, Buildable};
-use crate::aabb::Aabb;
+use boxes::Aabb;
 use floats::key_of;
 use sorting::sort_indices;
 

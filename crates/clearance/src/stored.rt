@@ -5,8 +5,8 @@ ghost use lib.ListN.{length};
 ghost use Rattle.drawing.specs.Entries.{nodeColumns};
 ghost use Rattle.clearance.specs.LeafOrder.{Places};
 ghost use Rattle.clearance.specs.Stored.{boxAt, BoxPut, LeafPut, LeavesPut, SplitsPut};
-use crate::aabb::Aabb;
 use crate::order::box_at;
+use boxes::Aabb;
 use floats::bits_of;
 use floats::float_of_bits;
 

@@ -9,7 +9,7 @@ ghost use Rattle.drawing.specs.Entries.{nodeColumns, segmentColumns};
 ghost use Rattle.drawing.specs.Lengths.{NodesAgree, SegmentsAgree};
 ghost use Rattle.clearance.specs.Tree.{indexedRow};
 ghost use Rattle.clearance.specs.Tables.{nodeRowAt, segmentRowAt, Filled, NodesFilled, SegmentsOrdered};
-use crate::aabb::Aabb;
+use boxes::Aabb;
 use floats::key_of;
 use sorting::fill_places;
 use sorting::sort_indices;

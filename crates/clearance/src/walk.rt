@@ -10,10 +10,10 @@ ghost use Rattle.clearance.specs.Stored.{leafAt, storedTree};
 ghost use Rattle.clearance.specs.Walk.{contributes, withPair};
 ghost use Rattle.clearance.specs.Walking.{soFar, walkedOf, Part, Walkable, Exempting, Walks};
 ghost use Rattle.clearance.specs.Exempting.{InReach, Listed};
-use crate::aabb::Aabb;
 use crate::exempt::Range;
 use crate::exempt::is_exempt;
 use crate::stored::box_from;
+use boxes::Aabb;
 use drawing::Gap;
 use drawing::minimum_option;
 

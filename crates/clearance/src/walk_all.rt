@@ -9,12 +9,12 @@ ghost use Rattle.clearance.specs.Stored.{storedTree};
 ghost use Rattle.clearance.specs.Walk.{walk};
 ghost use Rattle.clearance.specs.Exempting.{Holds};
 ghost use Rattle.clearance.specs.Walking.{soFar, walkedOf, Part, Held, InTurns, allWalks};
-use crate::aabb::Aabb;
 use crate::exempt::range_of;
 use crate::walk::Walked;
 use crate::walk::Walking;
 use crate::walk::bounds_of;
 use crate::walk::visit_segment_candidates;
+use boxes::Aabb;
 use drawing::Gap;
 
 // The walk of one segment over the m leaves of the tree; the first k words of `packed` are the exemptions.

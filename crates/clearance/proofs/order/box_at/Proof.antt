@@ -1,4 +1,4 @@
-use Rattle.clearance.specs.Boxes.{nodeBox}
+use Rattle.boxes.specs.Boxes.{nodeBox}
 use Rattle.clearance.specs.Tree.{indexed}
 use borrow.Author.Needs.{needs}
 use Rattle.clearance.proofs.order.box_at.Statement.{statement}

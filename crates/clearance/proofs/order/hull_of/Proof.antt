@@ -2,7 +2,7 @@ use mathlib.Core.Path.{ap, _∙_}
 use Prim.Native.Nat.{_-_, _≤_}
 use native.Mathlib.Omega.{arith}
 use Rattle.drawing.specs.Entries.{nodeColumns}
-use Rattle.clearance.specs.Boxes.{union}
+use Rattle.boxes.specs.Boxes.{union}
 use Rattle.clearance.proofs.LeafOrders.{Hulled, place-small, hulled-first, hulled-next, hulled-all}
 use borrow.Author.Needs.{needs}
 use Rattle.clearance.proofs.order.hull_of.Statement.{statement}

@@ -8,7 +8,7 @@ use Rattle.clearance.proofs.StoredBoxes.{splits-one, splits-join}
 use Rattle.clearance.proofs.stored.put_splits.Reads as put-splits
 use Rattle.clearance.proofs.stored.put_splits.Kinds as put-splits-kinds
 use Rattle.clearance.proofs.stored.+put_splits.Lts-put_splits as put-splits-lts
-use Rattle.clearance.proofs.aabb.Aabb.union.Reads as union-reads
+use Rattle.boxes.proofs.aabb.Aabb.union.Reads as union-reads
 use Rattle.clearance.proofs.stored.box_from.Reads as box-from-reads
 use Rattle.clearance.proofs.stored.put_box.Reads as put-box-reads
 use Rattle.clearance.proofs.stored.+put_splits.{statement}

@@ -5,7 +5,7 @@ use native.Mathlib.Omega.{arith}
 use borrow.Author.Needs.{needs}
 use lib.ListN.{length}
 use Rattle.drawing.specs.Entries.{nodeColumns}
-use Rattle.clearance.specs.Boxes.{nodeBox, distance}
+use Rattle.boxes.specs.Boxes.{nodeBox, distance}
 use Rattle.clearance.proofs.PairLaws.{NodesLooked, nodes-start, nodes-next, nodes-end}
 use Rattle.clearance.proofs.tight_pair.look_at_nodes.Statement.{statement}
 use Rattle.clearance.proofs.tight_pair.look_at_nodes.Tie as tie

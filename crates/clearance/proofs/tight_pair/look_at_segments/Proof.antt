@@ -4,7 +4,7 @@ use native.Mathlib.Omega.{arith}
 use borrow.Author.Needs.{needs}
 use lib.ListN.{length}
 use Rattle.drawing.specs.Entries.{segmentColumns, nodeColumns, nodes}
-use Rattle.clearance.specs.Boxes.{segmentBox}
+use Rattle.boxes.specs.Boxes.{segmentBox}
 use Rattle.clearance.proofs.ExemptLaws.{in-reach}
 use Rattle.clearance.proofs.PairLaws.{SegmentsLooked, segments-start, segments-next, segments-end}
 use Rattle.clearance.proofs.tight_pair.look_at_segments.Statement.{statement}

@@ -15,7 +15,7 @@ use Rattle.clearance.proofs.StoredWalk.{Halved, near-box, next-room, wa
 use Rattle.clearance.proofs.walk.visit_segment_candidates.Reads as visit
 use Rattle.clearance.proofs.walk.visit_segment_candidates.Kinds as visit-kinds
 use Rattle.clearance.proofs.walk.+visit_segment_candidates.Lts-visit_segment_candidates as visit-lts
-use Rattle.clearance.proofs.aabb.Aabb.distance.Reads as distance-reads
+use Rattle.boxes.proofs.aabb.Aabb.distance.Reads as distance-reads
 use Rattle.clearance.proofs.walk.bounds_of.Reads as bounds-of-reads
 use Rattle.clearance.proofs.walk.clearance_subtree_can_contribute.Reads as contribute-reads
 use Rattle.clearance.proofs.walk.visit_leaf.Reads as visit-leaf-reads

@@ -1,6 +1,6 @@
 use mathlib.Core.Path.{refl, sym}
 use native.Mathlib.Omega.{arith}
-use Rattle.clearance.specs.Boxes.{segmentBox}
+use Rattle.boxes.specs.Boxes.{segmentBox}
 use Rattle.clearance.proofs.WalkRuns.{listed-of, rising-of, walkable-whole}
 use borrow.Author.Needs.{needs}
 use Rattle.clearance.proofs.walk_all.walk_segment.Statement.{statement}

@@ -1,8 +1,8 @@
--- `clearance::aabb::axis_gap` meets its contract: the arm that returns is the one that the definition's tests pick. Assumes nothing.
+-- `boxes::aabb::axis_gap` meets its contract: the arm that returns is the one that the definition's tests pick. Assumes nothing.
 use lib.Ieee.{ofBits}
-use Rattle.clearance.specs.Boxes.{axisGap}
-use Rattle.clearance.proofs.aabb.axis_gap.Statement.{statement}
-use Rattle.clearance.proofs.aabb.axis_gap.Tie as tie
+use Rattle.boxes.specs.Boxes.{axisGap}
+use Rattle.boxes.proofs.aabb.axis_gap.Statement.{statement}
+use Rattle.boxes.proofs.aabb.axis_gap.Tie as tie
 
 returns : tie.Need-returns
 unfolding axisGap

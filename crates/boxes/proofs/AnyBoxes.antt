@@ -14,8 +14,8 @@ use Rattle.floats.proofs.Rank.{mag, sgn}
 use Rattle.floats.proofs.Rounding.{round-num, round-shape}
 use Rattle.floats.proofs.Gaps.{Good, zero-good, good-one, good-lt}
 use Rattle.floats.proofs.NumberKeys.{key-lt}
-use Rattle.clearance.specs.declared.aabb.Aabb.{Aabb}
-use Rattle.clearance.specs.Boxes.{axisGap, distance}
+use Rattle.boxes.specs.declared.aabb.Aabb.{Aabb}
+use Rattle.boxes.specs.Boxes.{axisGap, distance}
 
 -- ---- a float less one that is below it
 round-good : (a c : ℕ) → Good (round binary64 false a c)

@@ -1,10 +1,10 @@
--- `clearance::aabb::Aabb::distance` meets its contract: the greater of the two axis gaps. Assumes nothing.
+-- `boxes::aabb::Aabb::distance` meets its contract: the greater of the two axis gaps. Assumes nothing.
 use mathlib.Core.Path.{_∙_}
 use borrow.Author.Needs.{needs}
 use Rattle.floats.specs.Values.{greaterOf}
-use Rattle.clearance.specs.Boxes.{distance}
-use Rattle.clearance.proofs.aabb.Aabb.distance.Statement.{statement}
-use Rattle.clearance.proofs.aabb.Aabb.distance.Tie as tie
+use Rattle.boxes.specs.Boxes.{distance}
+use Rattle.boxes.proofs.aabb.Aabb.distance.Statement.{statement}
+use Rattle.boxes.proofs.aabb.Aabb.distance.Tie as tie
 
 axis-gap-requires : tie.Need-axis-gap-requires
 axis-gap-requires c κs = search needs

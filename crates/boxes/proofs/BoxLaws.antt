@@ -16,10 +16,10 @@ use Rattle.floats.proofs.Difference.{sub-mag}
 use Rattle.floats.proofs.Gaps.{Good, zero-good, zero-mag, sub-good, good-one}
 use Rattle.floats.proofs.Extremes.{greater}
 use Rattle.drawing.specs.Entries.{Segment, Node}
-use Rattle.clearance.specs.declared.aabb.Aabb.{Aabb}
-use Rattle.clearance.specs.Boxes.{fromNode, fromSegment, nodeBox, segmentBox, union, axisGap, distance}
-use Rattle.clearance.proofs.Fit.{FitSegment, FitNode, Line, line-of, across-of, down-of}
-use Rattle.clearance.proofs.Growth.{grows}
+use Rattle.boxes.specs.declared.aabb.Aabb.{Aabb}
+use Rattle.boxes.specs.Boxes.{fromNode, fromSegment, nodeBox, segmentBox, union, axisGap, distance}
+use Rattle.boxes.proofs.Fit.{FitSegment, FitNode, Line, line-of, across-of, down-of}
+use Rattle.boxes.proofs.Growth.{grows}
 
 -- the place of a float in the order of the values
 abbrev pub at : Float → ℕ

@@ -1,6 +1,6 @@
 // Axis-aligned boxes: those of nodes and segments, the union of two, and how far two lie apart.
 ghost use mathlib.Core.Path.{_≡_};
-ghost use Rattle.clearance.specs.Boxes as Boxes;
+ghost use Rattle.boxes.specs.Boxes as Boxes;
 use floats::greater;
 use floats::lesser;
 

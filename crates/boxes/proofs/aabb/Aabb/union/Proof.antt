@@ -1,8 +1,8 @@
--- `clearance::aabb::Aabb::union` meets its contract, side by side. Assumes nothing.
+-- `boxes::aabb::Aabb::union` meets its contract, side by side. Assumes nothing.
 use borrow.Author.Needs.{needs}
-use Rattle.clearance.specs.Boxes.{union}
-use Rattle.clearance.proofs.aabb.Aabb.union.Statement.{statement}
-use Rattle.clearance.proofs.aabb.Aabb.union.Tie as tie
+use Rattle.boxes.specs.Boxes.{union}
+use Rattle.boxes.proofs.aabb.Aabb.union.Statement.{statement}
+use Rattle.boxes.proofs.aabb.Aabb.union.Tie as tie
 
 lesser-requires : tie.Need-lesser-requires
 lesser-requires c κs = search needs

@@ -4,7 +4,7 @@ use lib.Dec.{eqb}
 use lib.Ieee.{Float, binary64, add, sub, lt}
 use Rattle.floats.specs.Values.{plusZero, lesserOf, greaterOf}
 use Rattle.drawing.specs.Entries.{Segment, Node}
-use Rattle.clearance.specs.declared.aabb.Aabb.{Aabb}
+use Rattle.boxes.specs.declared.aabb.Aabb.{Aabb}
 
 -- "A node's right edge is x + width rounded once, bottom likewise."
 unfoldable pub fromNode : Float → Float → Float → Float → Aabb

@@ -1,0 +1,4 @@
+// Axis-aligned boxes of nodes and segments.
+pub mod aabb;
+
+pub use aabb::Aabb;
