@@ -1,7 +1,7 @@
 -- The Rust's range of lines, by two rounded steps and the order of keys, is the range in 64ths. Assumes nothing.
 use mathlib.Core.Path.{_≡_, refl, sym, ap, ap₂, subst, _∙_}
 use mathlib.Core.Bool.{_&&_}
-use Prim.Native.Nat.{ℕ, _<_}
+use Prim.Native.Nat.{_<_}
 use lib.Dec.{T, ltb}
 use lib.Ieee.{Float, binary64, add, sub, fits}
 use Rattle.floats.specs.Values.{canonicalZero}

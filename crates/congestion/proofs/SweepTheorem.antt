@@ -46,9 +46,6 @@ module _ (cutoff : Float) where
       ∙ sym (all-pairs-found (segmentsInOrder l) g)
       ∙ all-pairs-order p g
 
-  pub sweep-order : {l m : List Segment} → Perm l m → FitList l → sweep cutoff l ≡ sweep cutoff m
-  sweep-order {l} {m} p f = sweep-is-all-pairs l f ∙ all-pairs-order p f ∙ sym (sweep-is-all-pairs m (fit-perm p f))
-
   -- "Cutoff 0 or less gives total length, zeros and an absent gap": the cutoff is not above 0
   pub no-cutoff : T (onGrid cutoff) → lt plusZero cutoff ≡ false → (l : List Segment) → FitList l → allPairs cutoff l ≡ record { value = (lengths (total (map wireOf l)) 0 0 0, Absent); cost = 0 }
   unfolding cutoffOf

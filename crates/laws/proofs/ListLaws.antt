@@ -163,7 +163,7 @@ module _ {A B : Type 0} where
   cross-mem x y (z ∷ l) m (inl e) k = append-left (x, y) (beside z m) (cross l m) (beside-mem x z y m e k)
   cross-mem x y (z ∷ l) m (inr h) k = append-right (x, y) (beside z m) (cross l m) (cross-mem x y l m h k)
 
-  length-beside : (x : A) (m : List B) → length (beside x m) ≡ length m
+  pub length-beside : (x : A) (m : List B) → length (beside x m) ≡ length m
   length-beside x [] = refl
   length-beside x (y ∷ m) = ap suc (length-beside x m)
 
