@@ -67,7 +67,7 @@ figures st m = record {
 spent-is : (o : Outcome State) → Spent ≡ sweptOf o → o ≡ spent
 unfolding sweptOf
 spent-is spent e = refl
-spent-is (left st m) e = absurd (let z : _≡_ {A = ℕ} 0 1 = cc in omega arith)
+spent-is (left st m) e = cc
 
 -- the allowance was enough, and these are the figures of the state that the sweep reached
 record Reached (m : ℕ) (c : Charged State) (f : Found) : Type 0 where

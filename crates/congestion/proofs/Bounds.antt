@@ -1,5 +1,5 @@
 -- Within the limits every sum is below 2 ^ 53 and n segments cost at most n * n visits. Assumes nothing.
-use mathlib.Core.Path.{_≡_, refl, ap}
+use mathlib.Core.Path.{_≡_, refl}
 use mathlib.Core.List.{List, [], _∷_}
 use mathlib.Core.Bool.{Bool, true, false, _&&_, Bool·beq, cond}
 use Prim.Native.Nat.{ℕ, suc, _+_, _*_, _^_, _≤_, _<_, zero-le}
@@ -8,7 +8,7 @@ use native.Mathlib.Nat.{le-refl, le-trans, le-of-eq, lt-of-le-of-lt, mul-le-mul,
 use lib.Dec.{ltb, eqb, lit<}
 use lib.ListN.{length, length-append}
 use Rattle.laws.specs.Lists.{Mem, some-of, fold, bit, sum, count, beside, pairs}
-use Rattle.laws.proofs.ListLaws.{mem-pairs}
+use Rattle.laws.proofs.ListLaws.{mem-pairs, length-beside}
 use Rattle.laws.proofs.Folds.{count-at-most, sum-at-most}
 use Rattle.congestion.specs.Wires.{Wire}
 use Rattle.congestion.specs.Cells.{extent, cells, covers}
@@ -22,10 +22,6 @@ abbrev pub Small : List Wire → Type 0
 Small l = (s : Wire) → Mem s l → s .end ≤ 134217728
 
 -- n entries have n * (n - 1) / 2 pairs
-length-beside : {A : Type 0} (x : A) (l : List A) → length (beside x l) ≡ length l
-length-beside x [] = refl
-length-beside x (y ∷ l) = ap suc (length-beside x l)
-
 pub pairs-length : {A : Type 0} (l : List A) → 2 * length (pairs l) + length l ≡ length l * length l
 unfolding pairs
 pairs-length [] = refl

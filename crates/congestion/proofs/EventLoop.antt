@@ -7,7 +7,7 @@ use mathlib.Core.Option.{none}
 use Prim.Native.Nat.{ℕ, zero, suc, _+_, _-_, _*_, _/_, _%_, _^_, _≤_, _<_}
 use native.Mathlib.Numerals.{add-one}
 use native.Mathlib.Omega.{arith}
-use native.Mathlib.Nat.{le-of-eq, lt-of-le-of-lt, le-of-suc-le-suc, not-suc-le-zero}
+use native.Mathlib.Nat.{le-of-eq, add-sub-of-le, lt-of-le-of-lt, le-of-suc-le-suc, not-suc-le-zero}
 use lib.Ieee.{Float, binary64, inf, ofBits}
 use lib.ListN.{length, getD, take, drop, length-map, length-drop, drop-of-length-le, List·getD-map}
 use lib.Seq.{drop-cons, getD-take, getD-drop, length-take-le}
@@ -95,14 +95,11 @@ event-key c L s tabled e h = elim (le-or-lt (length L) e) [
 ]
 
 -- ---- an event from n on is a start
-whole : (n e : ℕ) → n ≤ e → n + (e - n) ≡ e
-whole n e h = omega arith
-
 pub event-starts : (s : List ℕ) (n e : ℕ) (state : Sweeping) → n ≤ e → AtEvent s n e state → AtEvent s n (n + (e - n)) state
-event-starts s n e state h a = subst (λ (k : ℕ). AtEvent s n k state) (sym (whole n e h)) a
+event-starts s n e state h a = subst (λ (k : ℕ). AtEvent s n k state) (sym (add-sub-of-le h)) a
 
 pub handled-start : (s t : List ℕ) (n e : ℕ) (state : Sweeping) (r : Handled) → n ≤ e → Handles s t n (n + (e - n)) state r → Handles s t n e state r
-handled-start s t n e state r h f = subst (λ (k : ℕ). Handles s t n k state r) (whole n e h) f
+handled-start s t n e state r h f = subst (λ (k : ℕ). Handles s t n k state r) (add-sub-of-le h) f
 
 -- ---- what the code's answer says
 never : {A : Type 0} (t : Sweeping) → Went t ≡ Spent → A

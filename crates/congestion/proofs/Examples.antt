@@ -66,87 +66,14 @@ report t c o p g n = Report (record { congestion = record { «total_length» = t
 abbrev D : SegmentColumns
 D = segmentColumns (1 ∷ 2 ∷ []) (1 ∷ 1 ∷ []) (f0 ∷ f4 ∷ []) (f0 ∷ f5 ∷ []) (f10 ∷ f15 ∷ [])
 
--- "congestion 4034000000000000 4024000000000000 4014000000000000 1 4010000000000000 4", and marked case (c): "D's congestion at 4 and 3"
-pub D-at-4 : densityAnswer D f6 4 128 ≡ report f20 f10 f5 1 (Present f4) 4
-unfolding densityAnswer settled settle allPairs leastNonzero lengths total stretches congested closeOtherPairs pairOverlap peak closePairs visits cutoffOf cellsFrom some-of chosen fold pairs lesser least gapOf absOf onGrid steps unit ofUnits segmentsOf firstOf differ tooMany shortScratch unfitLine unfitSegment unfitCutoff offGridLine offGridSegment offGridCutoff segmentsDiffer separationConditions congestionConditions gapFrom leastGap ofBits round sub lt
-D-at-4 = refl
-
--- D as the program `sheet` measures it
-pub D-sheet : densityAnswer D f6 1000 7744 ≡ report f20 f10 f5 1 (Present f4) 4
-unfolding densityAnswer settled settle allPairs leastNonzero lengths total stretches congested closeOtherPairs pairOverlap peak closePairs visits cutoffOf cellsFrom some-of chosen fold pairs lesser least gapOf absOf onGrid steps unit ofUnits segmentsOf firstOf differ tooMany shortScratch unfitLine unfitSegment unfitCutoff offGridLine offGridSegment offGridCutoff segmentsDiffer separationConditions congestionConditions gapFrom leastGap ofBits round sub lt
-D-sheet = refl
-
-pub D-at-3 : densityAnswer D f6 3 128 ≡ Refused WorkLimitExceeded
-unfolding densityAnswer settled settle allPairs leastNonzero lengths total stretches congested closeOtherPairs pairOverlap peak closePairs visits cutoffOf cellsFrom some-of chosen fold pairs lesser least gapOf absOf onGrid steps unit ofUnits segmentsOf firstOf differ tooMany shortScratch unfitLine unfitSegment unfitCutoff offGridLine offGridSegment offGridCutoff segmentsDiffer separationConditions congestionConditions gapFrom leastGap ofBits round sub lt
-D-at-3 = refl
-
--- as a result: "A refusal returns its number and a report of zeros and absent gaps"
-pub D-spent : resultOf (densityAnswer D f6 3 128) ≡ (7, zeros)
-unfolding resultOf numberOf densityAnswer settled settle allPairs leastNonzero lengths total stretches congested closeOtherPairs pairOverlap peak closePairs visits cutoffOf cellsFrom some-of chosen fold pairs lesser least gapOf absOf onGrid steps unit ofUnits segmentsOf firstOf differ tooMany shortScratch unfitLine unfitSegment unfitCutoff offGridLine offGridSegment offGridCutoff segmentsDiffer separationConditions congestionConditions gapFrom leastGap ofBits round sub lt
-D-spent = refl
-
-pub D-profile : profileAnswer D f6 4 128 ≡ report f20 f10 f0 0 (Present f4) 4
-unfolding profileAnswer settled settle allPairs leastNonzero lengths total stretches congested closeOtherPairs pairOverlap peak closePairs visits cutoffOf cellsFrom some-of chosen fold pairs lesser least gapOf absOf onGrid steps unit ofUnits segmentsOf firstOf differ tooMany shortScratch unfitLine unfitSegment unfitCutoff offGridLine offGridSegment offGridCutoff segmentsDiffer separationConditions congestionConditions gapFrom leastGap ofBits round sub lt
-D-profile = refl
-
-pub D-congestion : congestionAnswer D f6 128 ≡ report f20 f10 f5 1 (Present f4) 4
-unfolding congestionAnswer allPairs leastNonzero lengths total stretches congested closeOtherPairs pairOverlap peak closePairs visits cutoffOf cellsFrom some-of chosen fold pairs lesser least gapOf absOf onGrid steps unit ofUnits segmentsOf firstOf differ tooMany shortScratch unfitLine unfitSegment unfitCutoff offGridLine offGridSegment offGridCutoff segmentsDiffer separationConditions congestionConditions gapFrom leastGap ofBits round sub lt
-D-congestion = refl
-
--- the sweep of D, its visits counted event by event
-pub D-sweep : sweep f6 (segments D) ≡ allPairs f6 (segments D)
-unfolding sweep sweepWires ofOrientation oriented runs inOrder sortBy insertBy rowLe segmentsInOrder segmentRow keyOf key allPairs leastNonzero lengths total stretches congested closeOtherPairs pairOverlap peak closePairs visits cutoffOf cellsFrom some-of chosen fold pairs lesser least gapOf absOf steps unit ofUnits segmentsOf gapFrom leastGap ofBits toBits round sub lt
-D-sweep = refl
-
--- half of D's wire is congested
-pub D-ratio : ratio f10 f20 ≡ float 0x3fe0_0000_0000_0000
-unfolding ratio clamp ofBits lt div round
-D-ratio = refl
-
--- marked case (j): "gap 4, cutoff 4, two overlapping segments: congested 0, 2 visits"
-pub gap-equals-cutoff : densityAnswer D f4 2 128 ≡ report f20 f0 f0 0 Absent 2
-unfolding densityAnswer settled settle allPairs leastNonzero lengths total stretches congested closeOtherPairs pairOverlap peak closePairs visits cutoffOf cellsFrom some-of chosen fold pairs lesser least gapOf absOf onGrid steps unit ofUnits segmentsOf firstOf differ tooMany shortScratch unfitLine unfitSegment unfitCutoff offGridLine offGridSegment offGridCutoff segmentsDiffer separationConditions congestionConditions gapFrom leastGap ofBits round sub lt
-gap-equals-cutoff = refl
-
--- marked case (k): "1/64 and 1,048,576 pass, 1/128 gives 6": a segment at 1,048,576 up to 1/32
+-- marked case (k): a segment at 1,048,576 up to 1/32
 abbrev one-segment : Float → SegmentColumns
 one-segment start = segmentColumns (1 ∷ []) (1 ∷ []) (float 0x4130_0000_0000_0000 ∷ []) (start ∷ []) (float 0x3fa0_0000_0000_0000 ∷ [])
 
 abbrev f64th : Float
 f64th = float 0x3f90_0000_0000_0000
 
-pub on-the-grid : densityAnswer (one-segment f64th) f64th 0 96 ≡ report f64th f0 f0 0 Absent 0
-unfolding densityAnswer settled settle allPairs leastNonzero lengths total stretches congested closeOtherPairs pairOverlap peak closePairs visits cutoffOf cellsFrom some-of chosen fold pairs lesser least gapOf absOf onGrid steps unit ofUnits segmentsOf firstOf differ tooMany shortScratch unfitLine unfitSegment unfitCutoff offGridLine offGridSegment offGridCutoff segmentsDiffer separationConditions congestionConditions gapFrom leastGap ofBits round sub lt
-on-the-grid = refl
-
-pub off-the-grid : densityAnswer (one-segment (float 0x3f80_0000_0000_0000)) f64th 0 96 ≡ Refused OffGrid
-unfolding densityAnswer settled settle allPairs leastNonzero lengths total stretches congested closeOtherPairs pairOverlap peak closePairs visits cutoffOf cellsFrom some-of chosen fold pairs lesser least gapOf absOf onGrid steps unit ofUnits segmentsOf firstOf differ tooMany shortScratch unfitLine unfitSegment unfitCutoff offGridLine offGridSegment offGridCutoff segmentsDiffer separationConditions congestionConditions gapFrom leastGap ofBits round sub lt
-off-the-grid = refl
-
--- marked case (l): "fixed -1 and -0, cutoff 1: not close"
-pub minus-zero : densityAnswer (segmentColumns (1 ∷ 2 ∷ []) (1 ∷ 1 ∷ []) (float 0xbff0_0000_0000_0000 ∷ float 0x8000_0000_0000_0000 ∷ []) (f0 ∷ f0 ∷ []) (f10 ∷ f10 ∷ [])) (float 0x3ff0_0000_0000_0000) 2 128 ≡ report f20 f0 f0 0 Absent 2
-unfolding densityAnswer settled settle allPairs leastNonzero lengths total stretches congested closeOtherPairs pairOverlap peak closePairs visits cutoffOf cellsFrom some-of chosen fold pairs lesser least gapOf absOf onGrid steps unit ofUnits segmentsOf firstOf differ tooMany shortScratch unfitLine unfitSegment unfitCutoff offGridLine offGridSegment offGridCutoff segmentsDiffer separationConditions congestionConditions gapFrom leastGap ofBits round sub lt
-minus-zero = refl
-
--- "Cutoff 0 or less gives total length, zeros and an absent gap", and no visit: at 0, -0 and -4
-pub cutoff-zero : densityAnswer D f0 0 128 ≡ report f20 f0 f0 0 Absent 0
-unfolding densityAnswer settled settle allPairs leastNonzero lengths total stretches congested closeOtherPairs pairOverlap peak closePairs visits cutoffOf cellsFrom some-of chosen fold pairs lesser least gapOf absOf onGrid steps unit ofUnits segmentsOf firstOf differ tooMany shortScratch unfitLine unfitSegment unfitCutoff offGridLine offGridSegment offGridCutoff segmentsDiffer separationConditions congestionConditions gapFrom leastGap ofBits round sub lt
-cutoff-zero = refl
-
-pub cutoff-minus-zero : densityAnswer D (float 0x8000_0000_0000_0000) 0 128 ≡ report f20 f0 f0 0 Absent 0
-unfolding densityAnswer settled settle allPairs leastNonzero lengths total stretches congested closeOtherPairs pairOverlap peak closePairs visits cutoffOf cellsFrom some-of chosen fold pairs lesser least gapOf absOf onGrid steps unit ofUnits segmentsOf firstOf differ tooMany shortScratch unfitLine unfitSegment unfitCutoff offGridLine offGridSegment offGridCutoff segmentsDiffer separationConditions congestionConditions gapFrom leastGap ofBits round sub lt
-cutoff-minus-zero = refl
-
-pub cutoff-below-zero : densityAnswer D (float 0xc010_0000_0000_0000) 0 128 ≡ report f20 f0 f0 0 Absent 0
-unfolding densityAnswer settled settle allPairs leastNonzero lengths total stretches congested closeOtherPairs pairOverlap peak closePairs visits cutoffOf cellsFrom some-of chosen fold pairs lesser least gapOf absOf onGrid steps unit ofUnits segmentsOf firstOf differ tooMany shortScratch unfitLine unfitSegment unfitCutoff offGridLine offGridSegment offGridCutoff segmentsDiffer separationConditions congestionConditions gapFrom leastGap ofBits round sub lt
-cutoff-below-zero = refl
-
--- "Congestion of an empty list has total +0"
-pub empty-list : densityAnswer (segmentColumns [] [] [] [] []) f6 0 64 ≡ report f0 f0 f0 0 Absent 0
-unfolding densityAnswer settled settle allPairs leastNonzero lengths total stretches congested closeOtherPairs pairOverlap peak closePairs visits cutoffOf cellsFrom some-of chosen fold pairs lesser least gapOf absOf onGrid steps unit ofUnits segmentsOf firstOf differ tooMany shortScratch unfitLine unfitSegment unfitCutoff offGridLine offGridSegment offGridCutoff segmentsDiffer separationConditions congestionConditions gapFrom leastGap ofBits round sub lt
-empty-list = refl
-
--- ---- drawings in 64ths, by the definition and by the sweep
+-- ---- drawings in 64ths
 abbrev flat : ℕ → ℕ → ℕ → ℕ → Wire
 flat n f a b = record { net = n; horizontal = true; fixed = f; start = a; end = b }
 
@@ -154,27 +81,46 @@ flat n f a b = record { net = n; horizontal = true; fixed = f; start = a; end = 
 abbrev fork : List Wire
 fork = flat 1 64 0 640 ∷ flat 2 0 64 320 ∷ flat 3 128 192 512 ∷ []
 
-pub fork-figures : found 96 fork ≡ gathered 1216 1024 576 2 (some 64) 7
-unfolding lengths total stretches congested closeOtherPairs pairOverlap peak closePairs visits cellsFrom some-of chosen fold pairs lesser
-fork-figures = refl
-
-pub fork-sweep : sweepWires 96 fork ≡ gathered 1216 1024 576 2 (some 64) 7
-unfolding sweepWires ofOrientation oriented runs inOrder sortBy insertBy rowLe lengths total chosen fold lesser
-fork-sweep = refl
-
 -- two nets on one line and a third beside them, where one ends as another starts: the gap 0 is passed over, and the lone vertical wire costs nothing
 abbrev stack : List Wire
 stack = flat 1 0 0 256 ∷ flat 2 0 64 192 ∷ flat 3 64 128 384 ∷ flat 1 64 256 320 ∷ record { net = 9; horizontal = false; fixed = 0; start = 0; end = 64 } ∷ []
 
-pub stack-figures : found 128 stack ≡ gathered 768 576 384 2 (some 64) 12
-unfolding lengths total stretches congested closeOtherPairs pairOverlap peak closePairs visits cellsFrom some-of chosen fold pairs lesser
-stack-figures = refl
+-- columns, cutoff, allowance and words of scratch
+pub record Marked : Type 0 where
+  -- "congestion 4034000000000000 4024000000000000 4014000000000000 1 4010000000000000 4", and marked case (c): "D's congestion at 4 and 3"
+  pub D-at-4 : densityAnswer D f6 4 128 ≡ report f20 f10 f5 1 (Present f4) 4
+  pub D-at-3 : densityAnswer D f6 3 128 ≡ Refused WorkLimitExceeded
+  -- D as the program `sheet` measures it
+  pub D-sheet : densityAnswer D f6 1000 7744 ≡ report f20 f10 f5 1 (Present f4) 4
+  -- as a result: "A refusal returns its number and a report of zeros and absent gaps"
+  pub D-spent : resultOf (densityAnswer D f6 3 128) ≡ (7, zeros)
+  pub D-profile : profileAnswer D f6 4 128 ≡ report f20 f10 f0 0 (Present f4) 4
+  pub D-congestion : congestionAnswer D f6 128 ≡ report f20 f10 f5 1 (Present f4) 4
+  -- the sweep of D, its visits counted event by event
+  pub D-sweep : sweep f6 (segments D) ≡ allPairs f6 (segments D)
+  -- half of D's wire is congested
+  pub D-ratio : ratio f10 f20 ≡ float 0x3fe0_0000_0000_0000
+  -- marked case (j): "gap 4, cutoff 4, two overlapping segments: congested 0, 2 visits"
+  pub gap-equals-cutoff : densityAnswer D f4 2 128 ≡ report f20 f0 f0 0 Absent 2
+  -- marked case (k): "1/64 and 1,048,576 pass, 1/128 gives 6"
+  pub on-the-grid : densityAnswer (one-segment f64th) f64th 0 96 ≡ report f64th f0 f0 0 Absent 0
+  pub off-the-grid : densityAnswer (one-segment (float 0x3f80_0000_0000_0000)) f64th 0 96 ≡ Refused OffGrid
+  -- marked case (l): "fixed -1 and -0, cutoff 1: not close"
+  pub minus-zero : densityAnswer (segmentColumns (1 ∷ 2 ∷ []) (1 ∷ 1 ∷ []) (float 0xbff0_0000_0000_0000 ∷ float 0x8000_0000_0000_0000 ∷ []) (f0 ∷ f0 ∷ []) (f10 ∷ f10 ∷ [])) (float 0x3ff0_0000_0000_0000) 2 128 ≡ report f20 f0 f0 0 Absent 2
+  -- "Cutoff 0 or less gives total length, zeros and an absent gap", and no visit: at 0, -0 and -4
+  pub cutoff-zero : densityAnswer D f0 0 128 ≡ report f20 f0 f0 0 Absent 0
+  pub cutoff-minus-zero : densityAnswer D (float 0x8000_0000_0000_0000) 0 128 ≡ report f20 f0 f0 0 Absent 0
+  pub cutoff-below-zero : densityAnswer D (float 0xc010_0000_0000_0000) 0 128 ≡ report f20 f0 f0 0 Absent 0
+  -- "Congestion of an empty list has total +0"
+  pub empty-list : densityAnswer (segmentColumns [] [] [] [] []) f6 0 64 ≡ report f0 f0 f0 0 Absent 0
+  -- drawings in 64ths, by the definition and by the sweep
+  pub fork-figures : found 96 fork ≡ gathered 1216 1024 576 2 (some 64) 7
+  pub fork-sweep : sweepWires 96 fork ≡ gathered 1216 1024 576 2 (some 64) 7
+  pub stack-figures : found 128 stack ≡ gathered 768 576 384 2 (some 64) 12
+  pub stack-sweep : sweepWires 128 stack ≡ gathered 768 576 384 2 (some 64) 12
+  -- one net: its close pairs cost visits, and none of it is congested
+  pub one-net : found 384 (flat 1 0 0 320 ∷ flat 1 64 0 320 ∷ []) ≡ gathered 640 0 0 0 none 4
 
-pub stack-sweep : sweepWires 128 stack ≡ gathered 768 576 384 2 (some 64) 12
-unfolding sweepWires ofOrientation oriented runs inOrder sortBy insertBy rowLe lengths total chosen fold lesser
-stack-sweep = refl
-
--- one net: its close pairs cost visits, and none of it is congested
-pub one-net : found 384 (flat 1 0 0 320 ∷ flat 1 64 0 320 ∷ []) ≡ gathered 640 0 0 0 none 4
-unfolding lengths total stretches congested closeOtherPairs pairOverlap peak closePairs visits cellsFrom some-of chosen fold pairs lesser
-one-net = refl
+pub marked : Marked
+unfolding ofBits toBits round sub div lt some-of chosen fold pairs rowLe insertBy sortBy lesser least runs settle key keyOf gapOf absOf onGrid steps unit ofUnits segmentsOf segmentRow segmentsInOrder numberOf firstOf differ tooMany shortScratch unfitLine unfitSegment unfitCutoff offGridLine offGridSegment offGridCutoff segmentsDiffer separationConditions congestionConditions gapFrom leastGap cutoffOf cellsFrom total stretches congested closeOtherPairs pairOverlap peak closePairs visits lengths leastNonzero allPairs inOrder oriented ofOrientation sweepWires sweep settled densityAnswer profileAnswer congestionAnswer resultOf clamp ratio
+marked = record { D-at-4 = refl; D-at-3 = refl; D-sheet = refl; D-spent = refl; D-profile = refl; D-congestion = refl; D-sweep = refl; D-ratio = refl; gap-equals-cutoff = refl; on-the-grid = refl; off-the-grid = refl; minus-zero = refl; cutoff-zero = refl; cutoff-minus-zero = refl; cutoff-below-zero = refl; empty-list = refl; fork-figures = refl; fork-sweep = refl; stack-figures = refl; stack-sweep = refl; one-net = refl }

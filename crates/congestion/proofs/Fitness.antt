@@ -60,17 +60,22 @@ sound-wires l f = record {
 fit-segment : (s : Segment) → unfitSegment s ≡ false → offGridSegment s ≡ false → FitSegment s
 unfolding unfitSegment unfitLine offGridSegment offGridLine
 fit-segment s e g =
-    let a = not-false (onGrid (s .fixed)) (neither-left (not (onGrid (s .fixed))) (not (onGrid (s .start))) (neither-left (not (onGrid (s .fixed)) || not (onGrid (s .start))) (not (onGrid (s .end))) g)) in
-    let b = not-false (onGrid (s .start)) (neither-right (not (onGrid (s .fixed))) (not (onGrid (s .start))) (neither-left (not (onGrid (s .fixed)) || not (onGrid (s .start))) (not (onGrid (s .end))) g)) in
-    let d = not-false (onGrid (s .end)) (neither-right (not (onGrid (s .fixed)) || not (onGrid (s .start))) (not (onGrid (s .end))) g) in
-    let o = ltb-false 1 (s .orientation) (neither-left (ltb 1 (s .orientation)) (not (finite (s .fixed))) (neither-left (ltb 1 (s .orientation) || not (finite (s .fixed))) (not (finite (s .start))) (neither-left (ltb 1 (s .orientation) || not (finite (s .fixed)) || not (finite (s .start))) (not (finite (s .end))) (neither-left (ltb 1 (s .orientation) || not (finite (s .fixed)) || not (finite (s .start)) || not (finite (s .end))) (not (lt (s .start) (s .end))) e)))) in
-    let h = not-false (lt (s .start) (s .end)) (neither-right (ltb 1 (s .orientation) || not (finite (s .fixed)) || not (finite (s .start)) || not (finite (s .end))) (not (lt (s .start) (s .end))) e) in
+    let p = not (onGrid (s .fixed)) in
+    let q = not (onGrid (s .start)) in
+    let g0 = neither-left (p || q) (not (onGrid (s .end))) g in
+    let b = of-true (onGrid (s .start)) (not-false (onGrid (s .start)) (neither-right p q g0)) in
+    let d = of-true (onGrid (s .end)) (not-false (onGrid (s .end)) (neither-right (p || q) (not (onGrid (s .end))) g)) in
+    let o = ltb 1 (s .orientation) in
+    let x = o || not (finite (s .fixed)) in
+    let y = x || not (finite (s .start)) in
+    let z = y || not (finite (s .end)) in
+    let e0 = neither-left x (not (finite (s .start))) (neither-left y (not (finite (s .end))) (neither-left z (not (lt (s .start) (s .end))) e)) in
     record {
-      byte = o;
-      fixed = of-true (onGrid (s .fixed)) a;
-      start = of-true (onGrid (s .start)) b;
-      end = of-true (onGrid (s .end)) d;
-      rises = ltb→lt (unit (s .start)) (unit (s .end)) (subst T (lt-units (s .start) (s .end) (of-true (onGrid (s .start)) b) (of-true (onGrid (s .end)) d)) (of-true (lt (s .start) (s .end)) h));
+      byte = ltb-false 1 (s .orientation) (neither-left o (not (finite (s .fixed))) e0);
+      fixed = of-true (onGrid (s .fixed)) (not-false (onGrid (s .fixed)) (neither-left p q g0));
+      start = b;
+      end = d;
+      rises = ltb→lt (unit (s .start)) (unit (s .end)) (subst T (lt-units (s .start) (s .end) b d) (of-true (lt (s .start) (s .end)) (not-false (lt (s .start) (s .end)) (neither-right z (not (lt (s .start) (s .end))) e))));
     }
 
 both-passed : (a b : Check) → then a b ≡ Passed → (a ≡ Passed) × (b ≡ Passed)

@@ -1,17 +1,16 @@
 -- The loop over the wires that an event's wire meets, for whatever wires the tables are of. Assumes nothing.
 use mathlib.Core.Path.{_≡_, refl, sym, ap, _∙_, subst}
-use mathlib.Core.Logic.{inl, inr}
-use mathlib.Core.List.{List, [], _∷_}
+use mathlib.Core.List.{List}
 use mathlib.Core.Bool.{Bool, true, false}
-use Prim.Native.Nat.{ℕ, zero, suc, _+_, _-_, _*_, _≤_, _<_}
+use Prim.Native.Nat.{ℕ, _+_, _-_, _*_, _≤_, _<_}
 use native.Mathlib.Omega.{arith}
 use lib.Ieee.{Float}
 use lib.ListN.{length, getD, drop}
 use lib.Seq.{getD-drop}
 use borrow.Rule.Slice.PartMut.{midOf}
 use Rattle.laws.specs.Lists.{Mem}
-use Rattle.laws.proofs.Tests.{clash, same-or-not}
-use Rattle.laws.proofs.ListLaws.{append-left, append-right, map-mem}
+use Rattle.laws.proofs.Tests.{clash}
+use Rattle.laws.proofs.ListLaws.{map-mem}
 use Rattle.laws.proofs.Parts.{tail-lent}
 use Rattle.sorting.specs.Sorted.{upTo}
 use Rattle.bitset.specs.declared.Last.{Last}
@@ -26,84 +25,82 @@ use Rattle.congestion.specs.Wires.{Wire}
 use Rattle.congestion.specs.Sweep.{Row}
 use Rattle.congestion.specs.Tables.{Tabled, rowFrom}
 use Rattle.congestion.specs.Meeting.{Meetable, MeetableEnd, CountsOnly, Meets, MeetableAt, Visitable, Visits}
+use Rattle.congestion.proofs.RowPlaces.{upTo-mem}
 use Rattle.congestion.proofs.MeetingLaws.{Going, Next, going-few, going-none, old-count, next-place, differ, visit-next, visit-stops, spent-meets, went-meets}
 
--- ---- the part of the bits, which stay as they were at the entry: what the search answers, and the rest below `to`
-module _ (n : ℕ) (s₀ s : List ℕ) (only : CountsOnly n s₀ s) (to rest : ℕ) where
-  pub answer : rest ≡ restBelow (drop (9 * n) s₀) to → (from : ℕ) (r o : Last) → r ≡ lastWith (midOf (9 * n) (length s - 9 * n) s) from to rest → r ≡ o → lastBelow (drop (9 * n) s) from to ≡ o
-  answer h from r o e k =
-      sym (last-with (drop (9 * n) s) to rest (h ∙ ap (λ (w : List ℕ). restBelow w to) (sym (only .behind))) from)
-      ∙ ap (λ (w : List ℕ). lastWith w from to rest) (sym (tail-lent (9 * n) s))
-      ∙ sym e
-      ∙ k
+-- the head of the loop, for whatever wires the tables are of: `rest` is the part of a word of bits below `to`, and the bits stay as they were at the entry
+pub record Turn (starts : Bool) (n j : ℕ) (s₀ : List ℕ) (least₀ : Float) (allowance : ℕ) (met : Meeting) (s : List ℕ) (to rest : ℕ) : Type 0 where
+  pub meetable : MeetableAt starts s₀ n j
+  pub long : length s ≡ length s₀
+  pub going : (c : ℕ) (L : List Wire) → length L ≡ n → Tabled c L s₀ → Going starts n j s₀ least₀ allowance c L met s to
+  pub rest-is : rest ≡ restBelow (drop (9 * n) s₀) to
 
-  pub rest-found : (from p : ℕ) → lastBelow (drop (9 * n) s) from p ≡ Found to rest → rest ≡ restBelow (drop (9 * n) s₀) to
-  rest-found from p e = last-found (drop (9 * n) s) from p to rest e .1 ∙ ap (λ (w : List ℕ). restBelow w to) (only .behind)
+pub first-turn : {starts : Bool} {n j : ℕ} {s₀ : List ℕ} {least₀ : Float} {allowance : ℕ} {met : Meeting} {rest : ℕ} → MeetableAt starts s₀ n j
+    → met ≡ record { neighbors = 0; changed = 0; highest = 0; least = least₀; left = allowance }
+    → rest ≡ restBelow (midOf (9 * n) (length s₀ - 9 * n) s₀) (getD s₀ (7 * n + j) 0)
+    → Turn starts n j s₀ least₀ allowance met s₀ (getD s₀ (7 * n + j) 0) rest
+first-turn {starts} {n} {j} {s₀} {least₀} {allowance} {met} a e b = record {
+  meetable = a;
+  long = refl;
+  going = λ c L size tabled. going-none starts n j s₀ least₀ allowance c L size tabled (a .meetable .inside) met e;
+  rest-is = b ∙ ap (λ (w : List ℕ). restBelow w (getD s₀ (7 * n + j) 0)) (tail-lent (9 * n) s₀);
+}
 
-pub rest-first : (n : ℕ) (s : List ℕ) (to rest : ℕ) → rest ≡ restBelow (midOf (9 * n) (length s - 9 * n) s) to → rest ≡ restBelow (drop (9 * n) s) to
-rest-first n s to rest e = e ∙ ap (λ (w : List ℕ). restBelow w to) (tail-lent (9 * n) s)
+module _ {starts : Bool} {n j : ℕ} {s₀ : List ℕ} {least₀ : Float} {allowance : ℕ} {met : Meeting} {s : List ℕ} {to rest : ℕ} (a : Turn starts n j s₀ least₀ allowance met s to rest) where
+  abbrev known : Meetable s₀ n j
+  known = a .meetable .meetable
 
-mem-upTo : (n i : ℕ) → i < n → Mem i (upTo n)
-unfolding upTo
-mem-upTo zero i h = absurd (omega arith)
-mem-upTo (suc n) i h = elim (same-or-not i n) [
-  | inl e ↦ append-right i (upTo n) (n ∷ []) (inl e)
-  | inr e ↦ append-left i (upTo n) (n ∷ []) (mem-upTo n i (omega arith))
-]
+  -- the wires that the caller knows of
+  the-going : Going starts n j s₀ least₀ allowance (known .c) (known .L) met s to
+  the-going = a .going (known .c) (known .L) (known .size) (known .tabled)
 
--- ---- the same for whatever wires the tables are of
-module _ (starts : Bool) (n j : ℕ) (s₀ : List ℕ) (least₀ : Float) (allowance : ℕ) where
-  abbrev pub Runs : Meeting → List ℕ → ℕ → Type 0
-  Runs met s p = (c : ℕ) (L : List Wire) → length L ≡ n → Tabled c L s₀ → Going starts n j s₀ least₀ allowance c L met s p
+  pub turn-only : CountsOnly n s₀ s
+  turn-only = the-going .only
 
-  pub run-none : j < n → (met : Meeting) → met ≡ record { neighbors = 0; changed = 0; highest = 0; least = least₀; left = allowance } → Runs met s₀ (getD s₀ (7 * n + j) 0)
-  run-none h met e c L size tabled = going-none starts n j s₀ least₀ allowance c L size tabled h met e
+  module _ {r : Last} (told : r ≡ lastWith (midOf (9 * n) (length s - 9 * n) s) (getD s₀ (6 * n + j) 0) to rest) where
+    last-is : lastBelow (drop (9 * n) s) (getD s₀ (6 * n + j) 0) to ≡ r
+    last-is =
+        sym (last-with (drop (9 * n) s) to rest (a .rest-is ∙ ap (λ (w : List ℕ). restBelow w to) (sym (turn-only .behind))) (getD s₀ (6 * n + j) 0))
+        ∙ ap (λ (w : List ℕ). lastWith w (getD s₀ (6 * n + j) 0) to rest) (sym (tail-lent (9 * n) s))
+        ∙ sym told
 
-  module _ (a : MeetableAt starts s₀ n j) (met : Meeting) (s : List ℕ) (p : ℕ) (g : Runs met s p) where
-    abbrev known : Meetable s₀ n j
-    known = a .meetable
+    pub turn-ends : r ≡ Empty → Meets starts s₀ s n j least₀ allowance (Went met)
+    turn-ends e c L st m size tabled stored f h = went-meets starts n j s₀ least₀ allowance c L size tabled (known .inside) st stored met s to (a .going c L size tabled) (last-empty (drop (9 * n) s) (getD s₀ (6 * n + j) 0) to (last-is ∙ e)) m f h
 
-    -- the wires that the caller knows of
-    the-going : Going starts n j s₀ least₀ allowance (known .c) (known .L) met s p
-    the-going = g (known .c) (known .L) (known .size) (known .tabled)
-
-    pub run-only : CountsOnly n s₀ s
-    run-only = the-going .only
-
-    module _ (len : length s ≡ length s₀) (i x : ℕ) (found : lastBelow (drop (9 * n) s) (getD s₀ (6 * n + j) 0) p ≡ Found i x) where
-      last : Greatest (drop (9 * n) s) (getD s₀ (6 * n + j) 0) p i
-      last = last-found (drop (9 * n) s) (getD s₀ (6 * n + j) 0) p i x found .0
+    module _ {i x : ℕ} (found : r ≡ Found i x) where
+      last : Greatest (drop (9 * n) s) (getD s₀ (6 * n + j) 0) to i × (x ≡ restBelow (drop (9 * n) s) i)
+      last = last-found (drop (9 * n) s) (getD s₀ (6 * n + j) 0) to i x (last-is ∙ found)
 
       room : 9 * n ≤ length s
-      room = omega (arith, known .room)
+      room = omega (arith, known .room, a .long)
 
-      pub run-falls : i < p
-      run-falls = last .below
+      pub turn-falls : i < to
+      turn-falls = last .0 .below
 
-      place : Next starts n j s₀ least₀ allowance (known .c) (known .L) p i
-      place = next-place starts n j s₀ least₀ allowance (known .c) (known .L) (known .size) (known .tabled) (known .inside) met s p the-going i last
+      place : Next starts n j s₀ least₀ allowance (known .c) (known .L) to i
+      place = next-place starts n j s₀ least₀ allowance (known .c) (known .L) (known .size) (known .tabled) (known .inside) met s to the-going i (last .0)
 
       abbrev the-row : Row
       the-row = rowFrom (known .L) (drop (8 * n) s₀) i
 
       count-was : getD s (8 * n + i) 0 ≡ getD s₀ (8 * n + i) 0
-      count-was = old-count starts n j s₀ least₀ allowance (known .c) (known .L) (known .size) (known .tabled) (known .inside) met s p the-going i (place .inside) (last .below) ∙ getD-drop (8 * n) s₀ i 0
+      count-was = old-count starts n j s₀ least₀ allowance (known .c) (known .L) (known .size) (known .tabled) (known .inside) met s to the-going i (place .inside) turn-falls ∙ getD-drop (8 * n) s₀ i 0
 
       few : (met .neighbors ≤ n) × (met .changed ≤ n)
-      few = going-few starts n j s₀ least₀ allowance (known .c) (known .L) met s p the-going
+      few = going-few starts n j s₀ least₀ allowance (known .c) (known .L) met s to the-going
 
-      pub run-stops : met .left ≡ 0 → Meets starts s₀ s n j least₀ allowance Spent
-      run-stops e c L st m size tabled stored f h = spent-meets starts n j s₀ least₀ allowance c L size tabled (known .inside) st stored (visit-stops starts n j s₀ least₀ allowance c L size tabled (known .inside) met s p (g c L size tabled) i last e) m s
+      pub turn-stops : met .left ≡ 0 → Meets starts s₀ s n j least₀ allowance Spent
+      turn-stops e c L st m size tabled stored f h = spent-meets starts n j s₀ least₀ allowance c L size tabled (known .inside) st stored (visit-stops starts n j s₀ least₀ allowance c L size tabled (known .inside) met s to (a .going c L size tabled) i (last .0) e) m s
 
-      module _ (left : met .left ≡ 0 → ⊥) (net : ℕ) (of : net ≡ getD s₀ (5 * n + j) 0) where
-        pub run-visitable : Visitable s n i net starts met
-        run-visitable = record {
+      module _ (left : met .left ≡ 0 → ⊥) {net : ℕ} (of : net ≡ getD s₀ (5 * n + j) 0) where
+        pub turn-visitable : Visitable s n i net starts met
+        turn-visitable = record {
           few = known .few;
           inside = place .inside;
           room = room;
           small = let e = count-was in let b = known .counts i (place .inside) in omega arith;
           some = λ b d.
-              let k : 1 ≤ the-row .neighbors = a .some b the-row (subst (Mem the-row) (sym (known .stored .rows)) (map-mem (rowFrom (known .L) (drop (8 * n) s₀)) (upTo (length (known .L))) i (mem-upTo (length (known .L)) i (omega (arith, known .size, place .inside))))) (differ starts n j s₀ least₀ allowance (known .c) (known .L) (known .size) (known .tabled) (known .inside) met s p the-going i last net of d) in
+              let k : 1 ≤ the-row .neighbors = a .meetable .some b the-row (subst (Mem the-row) (sym (known .stored .rows)) (map-mem (rowFrom (known .L) (drop (8 * n) s₀)) (upTo (length (known .L))) i (upTo-mem (length (known .L)) i (omega (arith, known .size, place .inside))))) (differ starts n j s₀ least₀ allowance (known .c) (known .L) (known .size) (known .tabled) (known .inside) met s to the-going i (last .0) net of d) in
               let e = count-was in
               let f = getD-drop (8 * n) s₀ i 0 in
               omega arith;
@@ -112,11 +109,13 @@ module _ (starts : Bool) (n j : ℕ) (s₀ : List ℕ) (least₀ : Float) (allow
           left = omega arith;
         }
 
-        pub run-next : (here : Float) → here ≡ floatAt (getD s₀ (4 * n + j) 0) → (t : List ℕ) (next : Meeting) → Visits s t n i net here starts met next → Runs next t i
-        run-next here at t next v c L size tabled = visit-next starts n j s₀ least₀ allowance c L size tabled (known .inside) met s p (g c L size tabled) i last net of here at room (omega arith) t next v
-
-    pub run-all : lastBelow (drop (9 * n) s) (getD s₀ (6 * n + j) 0) p ≡ Empty → Meets starts s₀ s n j least₀ allowance (Went met)
-    run-all e c L st m size tabled stored f h = went-meets starts n j s₀ least₀ allowance c L size tabled (known .inside) st stored met s p (g c L size tabled) (last-empty (drop (9 * n) s) (getD s₀ (6 * n + j) 0) p e) m f h
+        pub next-turn : {here : Float} → here ≡ floatAt (getD s₀ (4 * n + j) 0) → {t : List ℕ} {next : Meeting} → length t ≡ length s → Visits s t n i net here starts met next → Turn starts n j s₀ least₀ allowance next t i x
+        next-turn {here} at {t} {next} kept v = record {
+          meetable = a .meetable;
+          long = kept ∙ a .long;
+          going = λ c L size tabled. visit-next starts n j s₀ least₀ allowance c L size tabled (known .inside) met s to (a .going c L size tabled) i (last .0) net of here at room (omega (arith, known .room)) t next v;
+          rest-is = last .1 ∙ ap (λ (w : List ℕ). restBelow w i) (turn-only .behind);
+        }
 
 -- ---- a start and an end
 pub at-start : (s : List ℕ) (n j : ℕ) → Meetable s n j → MeetableAt true s n j

@@ -2,7 +2,7 @@
 use mathlib.Core.Path.{_≡_, refl, sym, ap, ap₂, _∙_, subst}
 use mathlib.Core.Logic.{_⊎_, inl, inr}
 use mathlib.Core.List.{List, [], _∷_}
-use mathlib.Core.Bool.{Bool, true, false, _&&_, _||_, cond}
+use mathlib.Core.Bool.{Bool, true, false, _&&_, _||_, cond, and-comm}
 use Prim.Native.Nat.{ℕ, _+_, _*_, _≤_, _<_}
 use native.Mathlib.Omega.{arith}
 use native.Mathlib.Nat.{le-of-eq, le-of-lt}
@@ -14,7 +14,7 @@ use Rattle.laws.proofs.Tests.{same-test, le-or-lt, or-false}
 use Rattle.congestion.specs.Cells.{covers}
 use Rattle.congestion.specs.Sweep.{Item, State, Event, at, same, step}
 use Rattle.congestion.proofs.Sets.{Pairwise, Rising, same-is}
-use Rattle.congestion.proofs.Tracking.{and-turn, Tracks, tracks-same, tracks-start, tracks-end}
+use Rattle.congestion.proofs.Tracking.{Tracks, tracks-same, tracks-start, tracks-end}
 
 -- few items with rising indices, each with a start below its end
 pub record Fit (l : List Item) : Type 0 where
@@ -173,7 +173,7 @@ module _ (l : List Item) (fit : Fit l) where
 
   -- after the last event nothing is covered
   pub uncovered : (t p : ℕ) → Pending l t p [] → (k : ℕ) → p ≤ k → (i : Item) → Mem i l → covers k (i .wire) ≡ false
-  uncovered t p pe k a i m = ap (λ (b : Bool). leb (i .wire .start) k && b) (le-ltb k (i .wire .end) (go (pe .stops i m))) ∙ and-turn (leb (i .wire .start) k) false
+  uncovered t p pe k a i m = ap (λ (b : Bool). leb (i .wire .start) k && b) (le-ltb k (i .wire .end) (go (pe .stops i m))) ∙ and-comm (leb (i .wire .start) k) false
     where
       hi : t ≤ (p + 1) * 8192
       hi = pe .high
@@ -206,7 +206,7 @@ module _ (l : List Item) (fit : Fit l) where
     on-before = ap₂ _&&_ (lt-ltb (startKey s) (endKey s) (omega (arith, sl, sx))) (le-leb (endKey s) (endKey s) (omega arith))
 
     pub off-after : activeAt (endKey s + 1) s ≡ false
-    off-after = ap (λ (b : Bool). ltb (startKey s) (endKey s + 1) && b) (lt-leb (endKey s + 1) (endKey s) (omega arith)) ∙ and-turn (ltb (startKey s) (endKey s + 1)) false
+    off-after = ap (λ (b : Bool). ltb (startKey s) (endKey s + 1) && b) (lt-leb (endKey s + 1) (endKey s) (omega arith)) ∙ and-comm (ltb (startKey s) (endKey s + 1)) false
 
     mine : (u v : ℕ) (j : Item) → Mem j l → activeAt u s ≡ true → activeAt v s ≡ false → (same s j ≡ false → activeAt v j ≡ activeAt u j) → activeAt u j ≡ (activeAt v j || same s j)
     mine u v j m a b f = go (same s j) refl

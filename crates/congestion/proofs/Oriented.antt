@@ -2,7 +2,7 @@
 use mathlib.Core.Path.{_≡_, refl, sym, ap, ap₂, _∙_, subst}
 use mathlib.Core.List.{List}
 use mathlib.Core.Option.{Option, none}
-use mathlib.Core.Bool.{Bool, true, false, not, _&&_, Bool·beq, cond}
+use mathlib.Core.Bool.{Bool, true, false, not, _&&_, Bool·beq, cond, and-comm}
 use Prim.Native.Nat.{ℕ, _+_, _-_, _*_, _≤_, _<_, min, max}
 use native.Mathlib.Omega.{arith}
 use native.Mathlib.Nat.{le-of-lt, mul-one, max-comm, min-comm}
@@ -22,7 +22,7 @@ use Rattle.congestion.specs.Sweep.{Item, numbered, events, inOrder, inRa
 use Rattle.congestion.proofs.FoldLaws.{fewest, lesser-same, fold-chosen, both, pairs-map, sum-const, some-count}
 use Rattle.congestion.proofs.CellLaws.{covers-from, covers-to, is-covered, length-cells, cells-unit, cells-within}
 use Rattle.congestion.proofs.Sets.{of-pair, neighborsIn, congestedIn, pairsIn, congested-same, pairs-same, none-congested, none-paired}
-use Rattle.congestion.proofs.Tracking.{facing, facing-sym, facing-irr, and-turn, eqb-turn}
+use Rattle.congestion.proofs.Tracking.{facing, facing-sym, facing-irr, eqb-turn}
 use Rattle.congestion.proofs.Moments.{Fit, startKey, endKey, activeAt, off-before, on-before}
 use Rattle.congestion.proofs.Passing.{on, run-sum, run-cost, run-least, run-peak}
 use Rattle.congestion.proofs.Beginning.{Sound, wires-of, of-numbered, fit-numbered, fold-events, pending, tracks, from-first, at-bound}
@@ -109,7 +109,7 @@ module _ (c : ℕ) (L : List Wire) (sound : Sound L) (alike : (s t : Wire) → M
           both-in true true = refl
           both-in true false = refl
           both-in false o = refl
-      go n v o false h = and-turn ((n && v) && o) false
+      go n v o false h = and-comm ((n && v) && o) false
 
       meet : (j : Item) → T (on k j) → overlaps (i .wire) (j .wire) ≡ true
       meet j t = let x = covers-from k (j .wire) t in let y = covers-to k (j .wire) t in lt-ltb (max (i .wire .start) (j .wire .start)) (min (i .wire .end) (j .wire .end)) (omega arith)
@@ -145,7 +145,7 @@ module _ (c : ℕ) (L : List Wire) (sound : Sound L) (alike : (s t : Wire) → M
   -- ---- pairs: n where they are in range, o where their nets differ, v where they overlap
   shared : (i j : Item) → Mem i l → (n o v : Bool) → overlaps (i .wire) (j .wire) ≡ v → sum (λ k. bit (on k i && (on k j && (n && o)))) (cellsFrom lo (hi - lo)) ≡ cond ((n && v) && o) (overlap (i .wire) (j .wire)) 0
   shared i j m false o v e = cells-unit plus (λ k. bit (on k i && (on k j && false))) lo (hi - lo) (λ k x y. zero-bit (on k i && (on k j && false)) (λ t. and-r (on k j) false (and-r (on k i) (on k j && false) t)))
-  shared i j m true false v e = cells-unit plus (λ k. bit (on k i && (on k j && false))) lo (hi - lo) (λ k x y. zero-bit (on k i && (on k j && false)) (λ t. and-r (on k j) false (and-r (on k i) (on k j && false) t))) ∙ sym (ap (λ (b : Bool). cond b (overlap (i .wire) (j .wire)) 0) (and-turn v false))
+  shared i j m true false v e = cells-unit plus (λ k. bit (on k i && (on k j && false))) lo (hi - lo) (λ k x y. zero-bit (on k i && (on k j && false)) (λ t. and-r (on k j) false (and-r (on k i) (on k j && false) t))) ∙ sym (ap (λ (b : Bool). cond b (overlap (i .wire) (j .wire)) 0) (and-comm v false))
   shared i j m true true v e = go v e
     where
       in-first : (k : ℕ) → T (on k i && (on k j && true)) → T (on k i)
@@ -216,7 +216,7 @@ module _ (c : ℕ) (L : List Wire) (sound : Sound L) (alike : (s t : Wire) → M
       (λ p n. let q = mem-pairs p l n in k (p .0) (p .1) (q .0) (q .1) (of-pair (λ x y. x .index < y .index) l (fit .rise) p n)))
 
   range-turn : (i j : Item) → inRange c (j .wire) (i .wire) ≡ inRange c (i .wire) (j .wire)
-  range-turn i j = and-turn (ltb (j .wire .fixed) (i .wire .fixed + c)) (ltb (i .wire .fixed) (j .wire .fixed + c))
+  range-turn i j = and-comm (ltb (j .wire .fixed) (i .wire .fixed + c)) (ltb (i .wire .fixed) (j .wire .fixed + c))
 
   -- ---- visits
   pub cost-is : 0 < c → oriented c L .cost ≡ length L + 2 * closePairs c L
@@ -239,8 +239,8 @@ module _ (c : ℕ) (L : List Wire) (sound : Sound L) (alike : (s t : Wire) → M
           itself a = omega arith
 
       sums : (p q r s x y o : Bool) → y ≡ x → bit p + bit r ≡ bit o → bit q + bit s ≡ bit o → (bit (p && x) + bit (q && x)) + (bit (r && y) + bit (s && y)) ≡ bit (x && o) + bit (x && o)
-      sums p q r s true y o e f g = ap (λ (z : Bool). (bit (p && true) + bit (q && true)) + (bit (r && z) + bit (s && z))) e ∙ rw (and-turn p true, and-turn q true, and-turn r true, and-turn s true) (omega arith)
-      sums p q r s false y o e f g = ap (λ (z : Bool). (bit (p && false) + bit (q && false)) + (bit (r && z) + bit (s && z))) e ∙ rw (and-turn p false, and-turn q false, and-turn r false, and-turn s false)
+      sums p q r s true y o e f g = ap (λ (z : Bool). (bit (p && true) + bit (q && true)) + (bit (r && z) + bit (s && z))) e ∙ rw (and-comm p true, and-comm q true, and-comm r true, and-comm s true) (omega arith)
+      sums p q r s false y o e f g = ap (λ (z : Bool). (bit (p && false) + bit (q && false)) + (bit (r && z) + bit (s && z))) e ∙ rw (and-comm p false, and-comm q false, and-comm r false, and-comm s false)
 
       pair : (i j : Item) → Mem i l → Mem j l → i .index < j .index
           → (bit (activeAt (endKey i) j && inRange c (i .wire) (j .wire)) + bit (activeAt (startKey i) j && inRange c (i .wire) (j .wire))) + (bit (activeAt (endKey j) i && inRange c (j .wire) (i .wire)) + bit (activeAt (startKey j) i && inRange c (j .wire) (i .wire))) ≡ bit (close c (i .wire) (j .wire)) + bit (close c (i .wire) (j .wire))
@@ -258,7 +258,7 @@ module _ (c : ℕ) (L : List Wire) (sound : Sound L) (alike : (s t : Wire) → M
       ∙ sym (pairs-numbered fewest (λ p. cond (closeOther c (p .0) (p .1)) (gap (p .0) (p .1)) none) L)
     where
       own : (i : Item) → Mem i l → lesser ltb (cond (activeAt (endKey i) i && facing c i i) (gap (i .wire) (i .wire)) none) (cond (activeAt (startKey i) i && facing c i i) (gap (i .wire) (i .wire)) none) ≡ none
-      own i m = ap (λ (b : Bool). lesser ltb (cond (activeAt (endKey i) i && b) (gap (i .wire) (i .wire)) none) (cond (activeAt (startKey i) i && b) (gap (i .wire) (i .wire)) none)) (facing-irr c i) ∙ rw (and-turn (activeAt (endKey i) i) false, and-turn (activeAt (startKey i) i) false)
+      own i m = ap (λ (b : Bool). lesser ltb (cond (activeAt (endKey i) i && b) (gap (i .wire) (i .wire)) none) (cond (activeAt (startKey i) i && b) (gap (i .wire) (i .wire)) none)) (facing-irr c i) ∙ rw (and-comm (activeAt (endKey i) i) false, and-comm (activeAt (startKey i) i) false)
 
       -- of two one counts where o holds, and none where it does not
       two : (x : Bool → Option ℕ) → x false ≡ none → (a b o : Bool) → bit a + bit b ≡ bit o → lesser ltb (x a) (x b) ≡ x o

@@ -20,12 +20,12 @@ use Rattle.congestion.specs.Sweep.{Row, State, wasCongested}
 use Rattle.congestion.specs.Tables.{itemAt, eventAt, Key, Tabled, rowFrom, rowsFrom}
 
 -- ---- places
-up-to-mem : (n i : ℕ) → i < n → Mem i (upTo n)
+pub upTo-mem : (n i : ℕ) → i < n → Mem i (upTo n)
 unfolding upTo
-up-to-mem zero i h = absurd (omega arith)
-up-to-mem (suc n) i h = elim (same-or-not i n) [
+upTo-mem zero i h = absurd (omega arith)
+upTo-mem (suc n) i h = elim (same-or-not i n) [
   | inl e ↦ append-right i (upTo n) (n ∷ []) (inl e)
-  | inr e ↦ append-left i (upTo n) (n ∷ []) (up-to-mem n i (omega arith))
+  | inr e ↦ append-left i (upTo n) (n ∷ []) (upTo-mem n i (omega arith))
 ]
 
 -- of the places only j is asked for
@@ -51,7 +51,7 @@ along f g (y ∷ l) e x (inr m) = let h : map f l ≡ map g l = cc in along f g 
 -- ---- rows
 module _ (L : List Wire) where
   pub row-there : (w : List ℕ) (i : ℕ) → i < length L → Mem (rowFrom L w i) (rowsFrom L w)
-  row-there w i h = map-mem (rowFrom L w) (upTo (length L)) i (up-to-mem (length L) i h)
+  row-there w i h = map-mem (rowFrom L w) (upTo (length L)) i (upTo-mem (length L) i h)
 
   pub row-place : (w : List ℕ) (r : Row) → Mem r (rowsFrom L w) → (i : ℕ) × (i < length L) × (r ≡ rowFrom L w i)
   row-place w r m = let k = mem-map (rowFrom L w) (upTo (length L)) r m in (k .0, upTo-below (length L) (k .0) (k .1), k .2)
@@ -65,7 +65,7 @@ module _ (L : List Wire) where
     rows-are h = map-same (rowFrom L v) (λ i. f (rowFrom L w i)) (upTo (length L)) (λ i m. h i (upTo-below (length L) i m)) ∙ sym (map-map f (rowFrom L w) (upTo (length L)))
 
     pub rows-at : rowsFrom L v ≡ map f (rowsFrom L w) → (i : ℕ) → i < length L → rowFrom L v i ≡ f (rowFrom L w i)
-    rows-at e i h = along (rowFrom L v) (λ i. f (rowFrom L w i)) (upTo (length L)) (e ∙ map-map f (rowFrom L w) (upTo (length L))) i (up-to-mem (length L) i h)
+    rows-at e i h = along (rowFrom L v) (λ i. f (rowFrom L w i)) (upTo (length L)) (e ∙ map-map f (rowFrom L w) (upTo (length L))) i (upTo-mem (length L) i h)
 
   -- a wire's own count says whether it was congested
   pub own-congested : (c j : ℕ) (st : State) (w : List ℕ) → st .rows ≡ rowsFrom L w → j < length L → wasCongested c (itemAt L j) st ≡ bit (not (eqb (getD w j 0) 0))

@@ -3,7 +3,7 @@ use mathlib.Core.Path.{_≡_, refl, sym, ap, ap₂, _∙_, subst}
 use mathlib.Core.Logic.{inl, inr}
 use mathlib.Core.List.{List, [], _∷_}
 use mathlib.Core.Option.{Option, none}
-use mathlib.Core.Bool.{Bool, true, false, not, _&&_, Bool·beq, cond}
+use mathlib.Core.Bool.{Bool, true, false, not, _&&_, Bool·beq, cond, and-comm}
 use Prim.Native.Nat.{ℕ, _+_, _*_, _<_, max}
 use native.Mathlib.Omega.{arith}
 use native.Mathlib.Nat.{le-trans, le-of-eq}
@@ -24,7 +24,6 @@ use Rattle.congestion.specs.Figures.{apart, overlaps, overlap, close, ot
 use Rattle.congestion.specs.Profile.{lengths}
 use Rattle.congestion.specs.Sweep.{State, gap, begin, only, ofOrientation, gapOfUnits, sweepWires}
 use Rattle.congestion.proofs.FoldLaws.{fewest, fold-chosen}
-use Rattle.congestion.proofs.Tracking.{and-turn}
 use Rattle.congestion.proofs.Beginning.{Sound}
 use Rattle.congestion.proofs.Oriented.{leastUnits, stretches-are, congested-is, peak-is, overlap-is, cost-is, least-is}
 use Rattle.congestion.proofs.Orientations.{of-only, length-only, alike, congested-two, peak-two, overlap-two, least-two, visits-two}
@@ -54,11 +53,11 @@ module _ (c : ℕ) (l : List Wire) (no-others : (s t : Wire) → Mem s l → Mem
 
 -- a cutoff of 0
 none-near : (c : ℕ) → c ≡ 0 → (l : List Wire) (s t : Wire) → Mem s l → Mem t l → closeOther c s t ≡ false
-none-near c e l s t m n = ap (λ (b : Bool). ((Bool·beq (s .horizontal) (t .horizontal) && b) && overlaps s t) && other s t) (le-ltb (apart (s .fixed) (t .fixed)) c (omega arith)) ∙ rw (and-turn (Bool·beq (s .horizontal) (t .horizontal)) false)
+none-near c e l s t m n = ap (λ (b : Bool). ((Bool·beq (s .horizontal) (t .horizontal) && b) && overlaps s t) && other s t) (le-ltb (apart (s .fixed) (t .fixed)) c (omega arith)) ∙ rw (and-comm (Bool·beq (s .horizontal) (t .horizontal)) false)
 
 -- a list with no two wires
 pub alone : (c : ℕ) (l : List Wire) → length l < 2 → (s t : Wire) → Mem s l → Mem t l → closeOther c s t ≡ false
-alone c (x ∷ []) h s t (inl e) (inl g) = ap (λ (b : Bool). close c s t && not b) (eq-eqb (s .net) (t .net) (ap (λ (w : Wire). w .net) (e ∙ sym g))) ∙ and-turn (close c s t) false
+alone c (x ∷ []) h s t (inl e) (inl g) = ap (λ (b : Bool). close c s t && not b) (eq-eqb (s .net) (t .net) (ap (λ (w : Wire). w .net) (e ∙ sym g))) ∙ and-comm (close c s t) false
 alone c (x ∷ y ∷ l) h s t m n = absurd (omega arith)
 
 no-pair : (c : ℕ) (l : List Wire) → length l < 2 → closePairs c l ≡ 0

@@ -1,7 +1,7 @@
 -- The sweep's state is a function of the active set: its rows, its congested items and its close pairs. Assumes nothing.
 use mathlib.Core.Path.{_≡_, refl, sym, ap, ap₂, _∙_, subst}
 use mathlib.Core.List.{List, map, map-map}
-use mathlib.Core.Bool.{Bool, true, false, not, _&&_, _||_, cond}
+use mathlib.Core.Bool.{Bool, true, false, not, _&&_, _||_, cond, and-comm}
 use Prim.Native.Nat.{ℕ, _+_, _-_, _≤_, max, zero-le}
 use native.Mathlib.Omega.{arith}
 use native.Mathlib.Nat.{le-trans, le-of-eq}
@@ -19,20 +19,14 @@ use Rattle.congestion.proofs.Sets.{Rising, is-same, neighborsIn, conges
 abbrev pub facing : ℕ → Item → Item → Bool
 facing c i j = inRange c (i .wire) (j .wire) && other (i .wire) (j .wire)
 
-pub and-turn : (a b : Bool) → (a && b) ≡ (b && a)
-and-turn true true = refl
-and-turn true false = refl
-and-turn false true = refl
-and-turn false false = refl
-
 pub eqb-turn : (m n : ℕ) → eqb m n ≡ eqb n m
 eqb-turn m n = same-test (eqb m n) (eqb n m) (λ t. eq→eqb (sym (eqb→eq m n t))) (λ t. eq→eqb (sym (eqb→eq n m t)))
 
 pub facing-sym : (c : ℕ) (i j : Item) → facing c i j ≡ facing c j i
-facing-sym c i j = ap₂ _&&_ (and-turn (ltb (i .wire .fixed) (j .wire .fixed + c)) (ltb (j .wire .fixed) (i .wire .fixed + c))) (ap not (eqb-turn (i .wire .net) (j .wire .net)))
+facing-sym c i j = ap₂ _&&_ (and-comm (ltb (i .wire .fixed) (j .wire .fixed + c)) (ltb (j .wire .fixed) (i .wire .fixed + c))) (ap not (eqb-turn (i .wire .net) (j .wire .net)))
 
 pub facing-irr : (c : ℕ) (i : Item) → facing c i i ≡ false
-facing-irr c i = ap (λ (b : Bool). inRange c (i .wire) (i .wire) && not b) (is-true (eqb (i .wire .net) (i .wire .net)) (eqb-refl (i .wire .net))) ∙ and-turn (inRange c (i .wire) (i .wire)) false
+facing-irr c i = ap (λ (b : Bool). inRange c (i .wire) (i .wire) && not b) (is-true (eqb (i .wire .net) (i .wire .net)) (eqb-refl (i .wire .net))) ∙ and-comm (inRange c (i .wire) (i .wire)) false
 
 -- ---- a state in which the items of the set w are active
 abbrev pub row : Item → Bool → ℕ → Row

@@ -158,7 +158,7 @@ module _ {A B : Type 0} where
     | inr b ↦ let r = mem-cross z l m b in (inr (r .0), r .1)
   ]
 
-  length-beside : (x : A) (m : List B) → length (beside x m) ≡ length m
+  pub length-beside : (x : A) (m : List B) → length (beside x m) ≡ length m
   length-beside x [] = refl
   length-beside x (y ∷ m) = ap suc (length-beside x m)
 

@@ -64,7 +64,7 @@ separation-of-d = ap separationLine (OfSeparation.marked .d-sheet)
 
 pub congestion-of-d : congestionLine (densityAnswer (columnsOf (drawing .segments)) (drawing .settings .cutoff) 1000 7744) ≡ congestionText
 unfolding columnsOf congestionLine congestionWord fields gap float decimal leading hexadecimal glyph ofBits toBits
-congestion-of-d = ap congestionLine OfCongestion.D-sheet
+congestion-of-d = ap congestionLine (OfCongestion.marked .D-sheet)
 
 -- document 01's "Output", byte by byte
 pub sheet-of-d : sheet bytes ≡ clearanceText ++ (separationText ++ congestionText)

@@ -1,13 +1,10 @@
 -- Searches, `set` and the steps of the sweep within an allowance, node by node: what code that pays for each visit comes to. Assumes nothing.
 use mathlib.Core.Path.{_≡_, refl, _∙_}
-use mathlib.Core.Logic.{_⊎_, inl, inr}
-use mathlib.Core.Bool.{Bool, true, false, _&&_}
+use mathlib.Core.Bool.{Bool, true, false}
 use mathlib.Core.List.{List, [], _∷_}
 use mathlib.Core.Option.{Option, none, some}
-use Prim.Native.Nat.{ℕ, zero, suc, _+_, _*_, _^_, _≤_, _<_}
+use Prim.Native.Nat.{ℕ, zero, suc, _≤_, _<_}
 use native.Mathlib.Omega.{arith}
-use borrow.Author.Tests.{lt-ltb, le-ltb}
-use lib.Dec.{ltb}
 use lib.ListN.{length}
 use Rattle.laws.specs.Charged.{Charged, spent, left, within, free, visit, after, runs, onward}
 use Rattle.laws.proofs.Runs.{within-free, within-after, visit-spent, visit-paid, onward-spent, onward-left}
@@ -15,7 +12,7 @@ use Rattle.drawing.specs.Entries.{Segment}
 use Rattle.rows.specs.Rows.{Row, oriented, events}
 use Rattle.separation.specs.declared.tree.Search.the-variants.{Found, Empty, Spent}
 use Rattle.separation.specs.Lines.{lines, levels}
-use Rattle.separation.specs.Searches.{leaf, orElse, node, rightmost, leftmost, setRun, searchOf}
+use Rattle.separation.specs.Searches.{leaf, orElse, node, setRun, searchOf}
 use Rattle.separation.specs.Walk.{nothing, lesserFigures, Sweep, remove, endsAt, step, sweep, along, walk}
 
 -- ---- "a search answers found, empty or spent"
@@ -32,22 +29,18 @@ unfolding searchOf
 answer-empty m = refl
 
 -- ---- a leaf and a node, with nothing left and with one visit at least
-leaf-spent : (t : Bool) (s : ℕ) → within 0 (leaf t s) ≡ spent
+pub leaf-spent : (t : Bool) (s : ℕ) → within 0 (leaf t s) ≡ spent
 leaf-spent true s = visit-spent (free (some s))
 leaf-spent false s = visit-spent (free none)
 
-leaf-found : (m s : ℕ) → within (suc m) (leaf true s) ≡ left (some s) m
+pub leaf-found : (m s : ℕ) → within (suc m) (leaf true s) ≡ left (some s) m
 leaf-found m s = visit-paid m (free (some s)) ∙ within-free m (some s)
 
-no-both : (a : Bool) → (a && false) ≡ false
-no-both true = refl
-no-both false = refl
-
-empty-paid : (m : ℕ) → within {A = Option ℕ} (suc m) (visit (free none)) ≡ left none m
+pub empty-paid : (m : ℕ) → within {A = Option ℕ} (suc m) (visit (free none)) ≡ left none m
 empty-paid m = visit-paid m (free none) ∙ within-free m none
 
 module _ (one two : Charged (Option ℕ)) where
-  node-spent : (t : Bool) → within 0 (node t one two) ≡ spent
+  pub node-spent : (t : Bool) → within 0 (node t one two) ≡ spent
   node-spent true = visit-spent (after one (λ r. orElse r two))
   node-spent false = visit-spent (free none)
 
@@ -63,49 +56,6 @@ module _ (one two : Charged (Option ℕ)) where
 
   pub first-empty : (m r : ℕ) → within m one ≡ left none r → within (suc m) (node true one two) ≡ within r two
   first-empty m r e = node-on m ∙ rw e (onward-left none r (λ v r. within r (orElse v two)))
-
--- ---- the two searches from node k of h levels whose first leaf is s
-module _ (has : ℕ → ℕ → ℕ → Bool) (q : ℕ) where
-  pub right-spent : (h k s : ℕ) → within 0 (rightmost has q h k s) ≡ spent
-  unfolding rightmost
-  right-spent zero k s = leaf-spent (ltb s q && has k s (s + 1)) s
-  right-spent (suc h) k s = node-spent (rightmost has q h (2 * k + 1) (s + 2 ^ h)) (rightmost has q h (2 * k) s) (ltb s q && has k s (s + 2 ^ suc h))
-
-  -- outside of the query, or without another net
-  pub right-shut : (m h k s : ℕ) → (q ≤ s) ⊎ (has k s (s + 2 ^ h) ≡ false) → within (suc m) (rightmost has q h k s) ≡ left none m
-  unfolding rightmost
-  right-shut m zero k s (inl g) = rw (le-ltb s q g) (empty-paid m)
-  right-shut m zero k s (inr e) = rw (e, no-both (ltb s q)) (empty-paid m)
-  right-shut m (suc h) k s (inl g) = rw (le-ltb s q g) (empty-paid m)
-  right-shut m (suc h) k s (inr e) = rw (e, no-both (ltb s q)) (empty-paid m)
-
-  pub right-leaf : (m k s : ℕ) → s < q → has k s (s + 1) ≡ true → within (suc m) (rightmost has q 0 k s) ≡ left (some s) m
-  unfolding rightmost
-  right-leaf m k s g e = rw (lt-ltb s q g, e) (leaf-found m s)
-
-  pub right-open : (h k s : ℕ) → s < q → has k s (s + 2 ^ suc h) ≡ true → rightmost has q (suc h) k s ≡ node true (rightmost has q h (2 * k + 1) (s + 2 ^ h)) (rightmost has q h (2 * k) s)
-  unfolding rightmost
-  right-open h k s g e = rw (lt-ltb s q g, e)
-
-  pub left-spent : (h k s : ℕ) → within 0 (leftmost has q h k s) ≡ spent
-  unfolding leftmost
-  left-spent zero k s = leaf-spent (ltb q (s + 1) && has k s (s + 1)) s
-  left-spent (suc h) k s = node-spent (leftmost has q h (2 * k) s) (leftmost has q h (2 * k + 1) (s + 2 ^ h)) (ltb q (s + 2 ^ suc h) && has k s (s + 2 ^ suc h))
-
-  pub left-shut : (m h k s : ℕ) → (s + 2 ^ h ≤ q) ⊎ (has k s (s + 2 ^ h) ≡ false) → within (suc m) (leftmost has q h k s) ≡ left none m
-  unfolding leftmost
-  left-shut m zero k s (inl g) = rw (le-ltb q (s + 1) g) (empty-paid m)
-  left-shut m zero k s (inr e) = rw (e, no-both (ltb q (s + 1))) (empty-paid m)
-  left-shut m (suc h) k s (inl g) = rw (le-ltb q (s + 2 ^ suc h) g) (empty-paid m)
-  left-shut m (suc h) k s (inr e) = rw (e, no-both (ltb q (s + 2 ^ suc h))) (empty-paid m)
-
-  pub left-leaf : (m k s : ℕ) → q < s + 1 → has k s (s + 1) ≡ true → within (suc m) (leftmost has q 0 k s) ≡ left (some s) m
-  unfolding leftmost
-  left-leaf m k s g e = rw (lt-ltb q (s + 1) g, e) (leaf-found m s)
-
-  pub left-open : (h k s : ℕ) → q < s + 2 ^ suc h → has k s (s + 2 ^ suc h) ≡ true → leftmost has q (suc h) k s ≡ node true (leftmost has q h (2 * k) s) (leftmost has q h (2 * k + 1) (s + 2 ^ h))
-  unfolding leftmost
-  left-open h k s g e = rw (lt-ltb q (s + 2 ^ suc h) g, e)
 
 -- ---- `set`: the nodes from a leaf up, h of them above it
 pub set-spent : (h : ℕ) → within 0 (setRun h) ≡ spent

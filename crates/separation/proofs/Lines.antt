@@ -110,11 +110,11 @@ unfolding lines
 line-mem r l m = mem-distinct (r .line) (map (λ (t : Row). t .line) l) (map-mem (λ (t : Row). t .line) l r m)
 
 -- ---- the index of a value among rising ones
-index-past : (q p : ℕ) (l : List ℕ) → q < p → index (q ∷ l) p ≡ suc (index l p)
+pub index-past : (q p : ℕ) (l : List ℕ) → q < p → index (q ∷ l) p ≡ suc (index l p)
 unfolding index
 index-past q p l h = rw (lt-ltb q p h)
 
-index-here : (q p : ℕ) (l : List ℕ) → p ≤ q → index (q ∷ l) p ≡ 0
+pub index-here : (q p : ℕ) (l : List ℕ) → p ≤ q → index (q ∷ l) p ≡ 0
 unfolding index
 index-here q p l h = rw (le-ltb q p h)
 

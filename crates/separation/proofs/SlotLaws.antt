@@ -7,7 +7,7 @@ use Prim.Native.Nat.{ℕ, zero, suc, _+_, _-_, _*_, _^_, _≤_, _<_, suc-le-suc}
 use native.Mathlib.Nat.{not-suc-le-zero, le-of-suc-le-suc}
 use native.Mathlib.Omega.{arith}
 use borrow.Author.Count.{below-more}
-use borrow.Author.Tests.{lt-ltb, le-ltb, leb-true, le-leb, eq-eqb, ne-eqb}
+use borrow.Author.Tests.{leb-true, le-leb, eq-eqb, ne-eqb}
 use borrow.Rule.Slice.PartMut.{midOf, putMid}
 use lib.Dec.{leb}
 use lib.ListN.{length, getD, take, drop, set, length-append, length-set, length-drop, length-map}
@@ -32,7 +32,7 @@ use Rattle.rows.proofs.ColumnParts.{getD-map, at-mem, mem-at, front-same, colum
 use Rattle.separation.specs.Lines.{lines, index}
 use Rattle.separation.specs.ActiveNets.{Slots}
 use Rattle.separation.specs.Numbered.{Slottable, slotWord, WordsFilled, placeOf, groupOf, WordsInOrder, slotOf, HandedOut, SlotsAssigned}
-use Rattle.separation.proofs.Lines.{first-word, index-lt}
+use Rattle.separation.proofs.Lines.{first-word, index-here, index-past, index-lt}
 
 -- ---- the first place of a value in a list in order
 sorted-at : (l : List ℕ) → Sorted leb l → (i j : ℕ) → i ≤ j → j < length l → getD l i 0 ≤ getD l j 0
@@ -41,14 +41,6 @@ sorted-at (x ∷ l) s zero zero a b = omega arith
 sorted-at (x ∷ l) s zero (suc j) a b = leb-true x (getD l j 0) (s .0 (getD l j 0) (at-mem l j 0 (le-of-suc-le-suc b)))
 sorted-at (x ∷ l) s (suc i) zero a b = absurd (not-suc-le-zero a)
 sorted-at (x ∷ l) s (suc i) (suc j) a b = sorted-at l (s .1) i j (le-of-suc-le-suc a) (le-of-suc-le-suc b)
-
-index-here : (q p : ℕ) (l : List ℕ) → p ≤ q → index (q ∷ l) p ≡ 0
-unfolding index
-index-here q p l h = rw (le-ltb q p h)
-
-index-past : (q p : ℕ) (l : List ℕ) → q < p → index (q ∷ l) p ≡ suc (index l p)
-unfolding index
-index-past q p l h = rw (lt-ltb q p h)
 
 index-at : (l : List ℕ) (k p : ℕ) → k < length l → ((i : ℕ) → i < k → getD l i 0 < p) → p ≤ getD l k 0 → index l p ≡ k
 index-at [] k p b f h = absurd (not-suc-le-zero b)

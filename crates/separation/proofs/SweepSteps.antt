@@ -36,52 +36,29 @@ use Rattle.separation.specs.ActiveTree.{summaryAt, chargeOf, Covers}
 use Rattle.separation.specs.Sweeping.{metBy, sweptOf, WithinLines, joined, looking, Lined, chargedTo}
 use Rattle.separation.proofs.Lines.{other→, other-widen}
 use Rattle.separation.proofs.Searches.{Best, In, Below, From, right-best, left-best}
+use Rattle.separation.proofs.StoredSearches.{was-spent, was-found, was-empty}
 use Rattle.separation.proofs.Trees.{stored-right, stored-left}
 
 -- ---- what the code's answer says of a run
 pub went-is : (o : Outcome Figures) (t : Sweeping) → Went t ≡ sweptOf o → o ≡ left (metBy t) (t .left)
 unfolding sweptOf
-went-is spent t e = absurd (no e)
-  where
-    no : Went t ≡ Spent → ⊥
-    no e = let z : _≡_ {A = ℕ} 0 1 = cc in omega arith
+went-is spent t e = cc
 went-is (left f m) t e = cc
 
 pub spent-is : (o : Outcome Figures) → Spent ≡ sweptOf o → o ≡ spent
 unfolding sweptOf
 spent-is spent e = refl
-spent-is (left f m) e = absurd (no e)
-  where
-    no : Spent ≡ Went (record { minimum = f .least; «minimum_positive» = f .leastNonzero; left = m }) → ⊥
-    no e = let z : _≡_ {A = ℕ} 0 1 = cc in omega arith
-
-found-is : (o : Outcome (Option ℕ)) (i m : ℕ) → Found i m ≡ searchOf o → o ≡ left (some i) m
-unfolding searchOf
-found-is spent i m e = absurd (let z : _≡_ {A = ℕ} 0 1 = cc in omega arith)
-found-is (left (some j) k) i m e = cc
-found-is (left none k) i m e = absurd (let z : _≡_ {A = ℕ} 0 1 = cc in omega arith)
-
-empty-is : (o : Outcome (Option ℕ)) (m : ℕ) → Empty m ≡ searchOf o → o ≡ left none m
-unfolding searchOf
-empty-is spent m e = absurd (let z : _≡_ {A = ℕ} 0 1 = cc in omega arith)
-empty-is (left (some j) k) m e = absurd (let z : _≡_ {A = ℕ} 0 1 = cc in omega arith)
-empty-is (left none k) m e = cc
-
-over-is : (o : Outcome (Option ℕ)) → Over ≡ searchOf o → o ≡ spent
-unfolding searchOf
-over-is spent e = refl
-over-is (left (some j) k) e = absurd (let z : _≡_ {A = ℕ} 0 1 = cc in omega arith)
-over-is (left none k) e = absurd (let z : _≡_ {A = ℕ} 0 1 = cc in omega arith)
+spent-is (left f m) e = cc
 
 -- ---- a search's answer joined to the figures
 module _ (ls : List ℕ) (line : ℕ) (st : Sweeping) (o : Outcome (Option ℕ)) (search : Search) (e : search ≡ searchOf o) where
   pub joined-spent : search ≡ Over → Spent ≡ sweptOf (joined ls (getD ls line 0) (metBy st) o)
   unfolding sweptOf
-  joined-spent h = sym (rw (over-is o (sym h ∙ e)) (ap sweptOf (onward-spent _)))
+  joined-spent h = sym (rw (was-spent o (sym h ∙ e)) (ap sweptOf (onward-spent _)))
 
   pub joined-empty : (m : ℕ) → search ≡ Empty m → Went (record { minimum = st .minimum; «minimum_positive» = st .«minimum_positive»; left = m }) ≡ sweptOf (joined ls (getD ls line 0) (metBy st) o)
   unfolding sweptOf
-  joined-empty m h = sym (rw (empty-is o m (sym h ∙ e)) (ap sweptOf (onward-left none m _)))
+  joined-empty m h = sym (rw (was-empty o m (sym h ∙ e)) (ap sweptOf (onward-left none m _)))
 
   pub joined-found : (fixed : List ℕ) (i m : ℕ) (there here d : Float) (a b : Gap) → search ≡ Found i m → take (length ls) fixed ≡ ls → WithinLines search line (length ls)
       → there ≡ floatAt (getD fixed i 0) → here ≡ floatAt (getD fixed line 0) → d ≡ absOf (sub binary64 there here) → a ≡ lesserGap (st .minimum) (Present d) → b ≡ lesserGap (st .«minimum_positive») (Present d)
@@ -93,12 +70,12 @@ module _ (ls : List ℕ) (line : ℕ) (st : Sweeping) (o : Outcome (Option ℕ))
       let near : here ≡ floatAt (getD ls line 0) = q ∙ ap floatAt (at line (w .own)) in
       let gap : d ≡ absOf (sub binary64 (floatAt (getD ls i 0)) (floatAt (getD ls line 0))) = g ∙ (λ j. absOf (sub binary64 (far j) (near j))) in
       (λ j. Went (record { minimum = (x ∙ ap (λ (z : Float). lesserGap (st .minimum) (Present z)) gap) j; «minimum_positive» = (y ∙ ap (λ (z : Float). lesserGap (st .«minimum_positive») (Present z)) gap) j; left = m }))
-      ∙ sym (rw (found-is o i m (sym h ∙ e)) (ap sweptOf (onward-left (some i) m _)))
+      ∙ sym (rw (was-found o i m (sym h ∙ e)) (ap sweptOf (onward-left (some i) m _)))
 
 -- ---- where a search finds something
 found-leaf : (t : Bool) (s i : ℕ) → leaf t s .value ≡ some i → i ≡ s
 found-leaf true s i e = cc
-found-leaf false s i e = absurd (let z : _≡_ {A = ℕ} 0 1 = cc in omega arith)
+found-leaf false s i e = cc
 
 found-node : (t : Bool) (one two : Charged (Option ℕ)) (P : ℕ → Type 0) (i : ℕ) → (one .value ≡ some i → P i) → (two .value ≡ some i → P i) → node t one two .value ≡ some i → P i
 found-node false one two P i f g e = absurd (let z : _≡_ {A = ℕ} 0 1 = cc in omega arith)
@@ -137,7 +114,7 @@ value-is {A} m r c v e = elim (le-or-lt (c .cost) m) [
     of (left a k) = a
 
 found-value : (m i r : ℕ) (c : Charged (Option ℕ)) (search : Search) → search ≡ searchOf (within m c) → search ≡ Found i r → c .value ≡ some i
-found-value m i r c search e h = value-is m r c (some i) (found-is (within m c) i r (sym h ∙ e))
+found-value m i r c search e h = value-is m r c (some i) (was-found (within m c) i r (sym h ∙ e))
 
 -- the line and what a search found are within the leaves
 module _ (leaves line n left : ℕ) (search : Search) (has : ℕ → ℕ → ℕ → Bool) (q H : ℕ) (count : leaves ≡ 2 ^ H) (own : line < leaves) (room : leaves ≤ n) where

@@ -38,16 +38,16 @@ same-length : tie.Need-same-length
 same-length c = search needs
 
 returns : tie.Need-returns
-returns c = few-swept (now (c .before .before .before .before .before .before .before .before .before .before .before .args .s)) (c .before .before .before .order-rows .last .0) _ _ (segmentColumns (now (c .before .before .before .before .before .before .before .before .before .before .before .args .net)) (now (c .before .before .before .before .before .before .before .before .before .before .before .args .orientation)) (now (c .before .before .before .before .before .before .before .before .before .before .before .args .fixed)) (now (c .before .before .before .before .before .before .before .before .before .before .before .args .start)) (now (c .before .before .before .before .before .before .before .before .before .before .before .args .end))) (c .before .before .before .before .before .before .before .before .before .before .before .pre .0) (c .before .before .before .order-rows .ensures) _ _ _ _ zero-literal (c .if1 .taken)
+returns c = let b = c .before .before .before .before .before .before .before .before .before .before .before in let a = b .args in few-swept (now (a .s)) (c .before .before .before .order-rows .last .0) _ _ (segmentColumns (now (a .net)) (now (a .orientation)) (now (a .fixed)) (now (a .start)) (now (a .end))) (b .pre .0) (c .before .before .before .order-rows .ensures) _ _ _ _ zero-literal (c .if1 .taken)
 
 sweep-rows-requires : tie.Need-sweep-rows-requires
-sweep-rows-requires c κs = (at-rows (now (c .before .before .before .before .before .before .before .before .before .before .before .before .args .s)) (c .before .before .before .before .order-rows .last .0) _ _ (segmentColumns (now (c .before .before .before .before .before .before .before .before .before .before .before .before .args .net)) (now (c .before .before .before .before .before .before .before .before .before .before .before .before .args .orientation)) (now (c .before .before .before .before .before .before .before .before .before .before .before .before .args .fixed)) (now (c .before .before .before .before .before .before .before .before .before .before .before .before .args .start)) (now (c .before .before .before .before .before .before .before .before .before .before .before .before .args .end))) (c .before .before .before .before .before .before .before .before .before .before .before .before .pre .0) (c .before .before .before .before .order-rows .ensures) (c .before .before .before .before .order-rows .kept .0) (c .before .if1 .left) true, c .before .before .before .before .before .before .before .before .before .before .before .before .pre .1)
+sweep-rows-requires c κs = let b = c .before .before .before .before .before .before .before .before .before .before .before .before in let a = b .args in let order-rows = c .before .before .before .before .order-rows in (at-rows (now (a .s)) (order-rows .last .0) _ _ (segmentColumns (now (a .net)) (now (a .orientation)) (now (a .fixed)) (now (a .start)) (now (a .end))) (b .pre .0) (order-rows .ensures) (order-rows .kept .0) (c .before .if1 .left) true, b .pre .1)
 
 same-length-2 : tie.Need-same-length-2
 same-length-2 c = search needs
 
 returns-2 : tie.Need-returns-2
-returns-2 c = more-swept (now (c .before .before .before .before .before .before .before .before .before .before .before .before .before .before .before .args .s)) (c .before .before .before .before .before .before .before .order-rows .last .0) _ _ (segmentColumns (now (c .before .before .before .before .before .before .before .before .before .before .before .before .before .before .before .args .net)) (now (c .before .before .before .before .before .before .before .before .before .before .before .before .before .before .before .args .orientation)) (now (c .before .before .before .before .before .before .before .before .before .before .before .before .before .before .before .args .fixed)) (now (c .before .before .before .before .before .before .before .before .before .before .before .before .before .before .before .args .start)) (now (c .before .before .before .before .before .before .before .before .before .before .before .before .before .before .before .args .end))) (c .before .before .before .before .before .before .before .before .before .before .before .before .before .before .before .pre .0) (c .before .before .before .before .before .before .before .order-rows .ensures) (c .before .before .before .before .before .before .before .order-rows .kept .0) (c .before .before .before .before .if1 .left) _ _ _ _ (c .before .before .sweep-rows .ensures)
+returns-2 c = let b = c .before .before .before .before .before .before .before .before .before .before .before .before .before .before .before in let a = b .args in let order-rows = c .before .before .before .before .before .before .before .order-rows in more-swept (now (a .s)) (order-rows .last .0) _ _ (segmentColumns (now (a .net)) (now (a .orientation)) (now (a .fixed)) (now (a .start)) (now (a .end))) (b .pre .0) (order-rows .ensures) (order-rows .kept .0) (c .before .before .before .before .if1 .left) _ _ _ _ (c .before .before .sweep-rows .ensures)
 
 pub sweep-along-spec : {M : Type 1} → statement M
 sweep-along-spec =

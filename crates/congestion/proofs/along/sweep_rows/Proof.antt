@@ -15,7 +15,7 @@ order-events-requires : tie.Need-order-events-requires
 order-events-requires c κs = search needs
 
 fill-ranges-requires : tie.Need-fill-ranges-requires
-fill-ranges-requires c κs = rows-rangeable (now (c .before .before .before .before .before .before .before .before .before .before .args .s)) _ _ (c .before .before .before .before .before .before .before .before .before .before .args .n) (c .before .before .before .before .before .before .before .before .before .before .args .from) (c .before .before .before .before .before .before .before .before .before .before .args .table) (c .before .before .before .before .before .before .before .spread-rows .ensures) (c .before .before .before .before .before .before .before .spread-rows .kept .0) (c .before .before .before .order-events .ensures) (c .before .before .before .order-events .kept .0 ∙ c .before .before .before .before .before .before .before .spread-rows .kept .0) (c .before .before .before .before .before .before .before .before .before .before .pre .0)
+fill-ranges-requires c κs = let b = c .before .before .before .before .before .before .before .before .before .before in let a = b .args in let spread-rows = c .before .before .before .before .before .before .before .spread-rows in rows-rangeable (now (a .s)) _ _ (a .n) (a .from) (a .table) (spread-rows .ensures) (spread-rows .kept .0) (c .before .before .before .order-events .ensures) (c .before .before .before .order-events .kept .0 ∙ spread-rows .kept .0) (b .pre .0)
 
 mul-end : tie.Need-mul-end
 mul-end c = search needs
@@ -42,13 +42,13 @@ clear-requires : tie.Need-clear-requires
 clear-requires c κs = search needs
 
 run-events-requires : tie.Need-run-events-requires
-run-events-requires c κs = rows-first (now (c .before .before .before .before .before .before .before .before .before .before .before .before .before .before .before .before .before .before .args .s)) _ _ (c .before .before .before .before .before .before .before .before .before .before .before .before .before .before .before .before .before .before .args .n) (c .before .before .before .before .before .before .before .before .before .before .before .before .before .before .before .before .before .before .args .from) (c .before .before .before .before .before .before .before .before .before .before .before .before .before .before .before .before .before .before .args .table) (c .before .before .before .before .before .before .before .before .before .before .before .before .before .before .before .spread-rows .ensures) (c .before .before .before .before .before .before .before .before .before .before .before .before .before .before .before .spread-rows .kept .0) (c .before .before .before .before .before .before .before .before .before .before .before .order-events .ensures) (c .before .before .before .before .before .before .before .before .before .before .before .order-events .kept .0 ∙ c .before .before .before .before .before .before .before .before .before .before .before .before .before .before .before .spread-rows .kept .0) _ (c .before .before .before .before .before .before .before .fill-ranges .kept .0) _ (c .before .before .before .before .before .before .before .before .before .before .before .before .before .before .before .before .before .before .pre .1) (c .before .before .before .before .before .before .before .fill-ranges .ensures .0) (c .before .before .before .before .before .before .before .fill-ranges .ensures .1) _ (c .before .before .before .clear .ensures) (c .before .before .before .before .before .before .before .before .before .before .before .before .before .before .before .before .before .before .pre .0) .0
+run-events-requires c κs = let b = c .before .before .before .before .before .before .before .before .before .before .before .before .before .before .before .before .before .before in let a = b .args in let fill-ranges = c .before .before .before .before .before .before .before .fill-ranges in let order-events = c .before .before .before .before .before .before .before .before .before .before .before .order-events in let spread-rows = c .before .before .before .before .before .before .before .before .before .before .before .before .before .before .before .spread-rows in rows-first (now (a .s)) _ _ (a .n) (a .from) (a .table) (spread-rows .ensures) (spread-rows .kept .0) (order-events .ensures) (order-events .kept .0 ∙ spread-rows .kept .0) _ (fill-ranges .kept .0) _ (b .pre .1) (fill-ranges .ensures .0) (fill-ranges .ensures .1) _ (c .before .before .before .clear .ensures) (b .pre .0) .0
 
 same-length : tie.Need-same-length
 same-length c = search needs
 
 returns : tie.Need-returns
-returns c = λ a. let k = rows-first (now (c .before .before .before .before .before .before .before .before .before .before .before .before .before .before .before .before .before .before .before .before .before .args .s)) _ _ (c .before .before .before .before .before .before .before .before .before .before .before .before .before .before .before .before .before .before .before .before .before .args .n) (c .before .before .before .before .before .before .before .before .before .before .before .before .before .before .before .before .before .before .before .before .before .args .from) (c .before .before .before .before .before .before .before .before .before .before .before .before .before .before .before .before .before .before .before .before .before .args .table) (c .before .before .before .before .before .before .before .before .before .before .before .before .before .before .before .before .before .before .spread-rows .ensures) (c .before .before .before .before .before .before .before .before .before .before .before .before .before .before .before .before .before .before .spread-rows .kept .0) (c .before .before .before .before .before .before .before .before .before .before .before .before .before .before .order-events .ensures) (c .before .before .before .before .before .before .before .before .before .before .before .before .before .before .order-events .kept .0 ∙ c .before .before .before .before .before .before .before .before .before .before .before .before .before .before .before .before .before .before .spread-rows .kept .0) _ (c .before .before .before .before .before .before .before .before .before .before .fill-ranges .kept .0) _ (c .before .before .before .before .before .before .before .before .before .before .before .before .before .before .before .before .before .before .before .before .before .pre .1) (c .before .before .before .before .before .before .before .before .before .before .fill-ranges .ensures .0) (c .before .before .before .before .before .before .before .before .before .before .fill-ranges .ensures .1) _ (c .before .before .before .before .before .before .clear .ensures) a in c .before .before .run-events .ensures (k .0) ∙ ap (λ z. sweptOf (within (c .before .before .before .before .before .before .before .before .before .before .before .before .before .before .before .before .before .before .before .before .before .args .allowance) z)) (k .1)
+returns c = let b = c .before .before .before .before .before .before .before .before .before .before .before .before .before .before .before .before .before .before .before .before .before in let a = b .args in let order-events = c .before .before .before .before .before .before .before .before .before .before .before .before .before .before .order-events in let fill-ranges = c .before .before .before .before .before .before .before .before .before .before .fill-ranges in let spread-rows = c .before .before .before .before .before .before .before .before .before .before .before .before .before .before .before .before .before .before .spread-rows in λ r. let k = rows-first (now (a .s)) _ _ (a .n) (a .from) (a .table) (spread-rows .ensures) (spread-rows .kept .0) (order-events .ensures) (order-events .kept .0 ∙ spread-rows .kept .0) _ (fill-ranges .kept .0) _ (b .pre .1) (fill-ranges .ensures .0) (fill-ranges .ensures .1) _ (c .before .before .before .before .before .before .clear .ensures) r in c .before .before .run-events .ensures (k .0) ∙ ap (λ z. sweptOf (within (a .allowance) z)) (k .1)
 
 pub sweep-rows-spec : {M : Type 1} → statement M
 sweep-rows-spec =

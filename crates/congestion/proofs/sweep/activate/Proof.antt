@@ -36,10 +36,10 @@ insert-requires : tie.Need-insert-requires
 insert-requires c κs = search needs
 
 same-length : tie.Need-same-length
-same-length c = activates-long (c .before .before .before .before .before .args .n) (c .before .before .before .before .before .args .j) (c .before .before .before .before .before .args .neighbors) (now (c .before .before .before .before .before .args .s)) (c .before .before .before .before .before .pre .0) (c .before .before .before .before .before .pre .1 .1) _ (c .before .before .insert .ensures)
+same-length c = let b = c .before .before .before .before .before in let a = b .args in activates-long (a .n) (a .j) (a .neighbors) (now (a .s)) (b .pre .0) (b .pre .1 .1) _ (c .before .before .insert .ensures)
 
 returns : tie.Need-returns
-returns c = activates (c .before .before .before .before .before .args .n) (c .before .before .before .before .before .args .j) (c .before .before .before .before .before .args .neighbors) (now (c .before .before .before .before .before .args .s)) (c .before .before .before .before .before .pre .0) (c .before .before .before .before .before .pre .1 .1) _ (c .before .before .insert .ensures)
+returns c = let b = c .before .before .before .before .before in let a = b .args in activates (a .n) (a .j) (a .neighbors) (now (a .s)) (b .pre .0) (b .pre .1 .1) _ (c .before .before .insert .ensures)
 
 pub activate-spec : {M : Type 1} → statement M
 activate-spec =

@@ -36,10 +36,10 @@ remove-requires : tie.Need-remove-requires
 remove-requires c κs = search needs
 
 same-length : tie.Need-same-length
-same-length c = deactivates-long (c .before .before .before .before .before .args .n) (c .before .before .before .before .before .args .j) (now (c .before .before .before .before .before .args .s)) (c .before .before .before .before .before .pre .0) (c .before .before .before .before .before .pre .1 .1) _ (c .before .before .remove .ensures)
+same-length c = let b = c .before .before .before .before .before in let a = b .args in deactivates-long (a .n) (a .j) (now (a .s)) (b .pre .0) (b .pre .1 .1) _ (c .before .before .remove .ensures)
 
 returns : tie.Need-returns
-returns c = deactivates (c .before .before .before .before .before .args .n) (c .before .before .before .before .before .args .j) (now (c .before .before .before .before .before .args .s)) (c .before .before .before .before .before .pre .0) (c .before .before .before .before .before .pre .1 .1) _ (c .before .before .remove .ensures)
+returns c = let b = c .before .before .before .before .before in let a = b .args in deactivates (a .n) (a .j) (now (a .s)) (b .pre .0) (b .pre .1 .1) _ (c .before .before .remove .ensures)
 
 pub deactivate-spec : {M : Type 1} → statement M
 deactivate-spec =

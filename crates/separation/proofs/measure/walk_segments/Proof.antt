@@ -12,7 +12,7 @@ use Rattle.separation.proofs.measure.walk_segments.Statement.{statement
 use Rattle.separation.proofs.measure.walk_segments.Tie as tie
 
 sweep-along-requires : tie.Need-sweep-along-requires
-sweep-along-requires c κs = let s = (segmentColumns (now (c .before .before .before .before .before .before .before .args .net)) (now (c .before .before .before .before .before .before .before .args .orientation)) (now (c .before .before .before .before .before .before .before .args .fixed)) (now (c .before .before .before .before .before .before .before .args .start)) (now (c .before .before .before .before .before .before .before .args .end))) in let agree = separation-agree s _ (c .before .before .before .before .before .before .before .pre) in at-columns s _ (c .before .before .before .before .before .before .before .pre) (segments-held s agree (c .before .before .before .before .shared-slice-known3 .given) (c .before .before .before .shared-slice-known4 .given) (c .before .before .shared-slice-known5 .given)) (segments-all (λ (x : Segment). x .net < 2 ^ 32) s agree (λ i. c .before .before .before .before .before .before .shared-slice-known .given i .fits)) 1
+sweep-along-requires c κs = let b = c .before .before .before .before .before .before .before in let a = b .args in let s = (segmentColumns (now (a .net)) (now (a .orientation)) (now (a .fixed)) (now (a .start)) (now (a .end))) in let agree = separation-agree s _ (b .pre) in at-columns s _ (b .pre) (segments-held s agree (c .before .before .before .before .shared-slice-known3 .given) (c .before .before .before .shared-slice-known4 .given) (c .before .before .shared-slice-known5 .given)) (segments-all (λ (x : Segment). x .net < 2 ^ 32) s agree (λ i. c .before .before .before .before .before .before .shared-slice-known .given i .fits)) 1
 
 enum-known-first : tie.Need-enum-known-first
 enum-known-first c = search needs
@@ -27,7 +27,7 @@ returns : tie.Need-returns
 returns c = walk-stops _ _ _ (c .before .before .before .before .sweep-along .ensures) (c .enum-told .given .1)
 
 sweep-along-requires-2 : tie.Need-sweep-along-requires-2
-sweep-along-requires-2 c κs = let s = (segmentColumns (now (c .before .before .before .before .before .before .before .before .before .before .before .before .before .before .args .net)) (now (c .before .before .before .before .before .before .before .before .before .before .before .before .before .before .args .orientation)) (now (c .before .before .before .before .before .before .before .before .before .before .before .before .before .before .args .fixed)) (now (c .before .before .before .before .before .before .before .before .before .before .before .before .before .before .args .start)) (now (c .before .before .before .before .before .before .before .before .before .before .before .before .before .before .args .end))) in let agree = separation-agree s _ (c .before .before .before .before .before .before .before .before .before .before .before .before .before .before .pre) in subst (λ (words : ℕ). AtColumns words 0 s) (sym (c .before .before .before .before .before .before .sweep-along .kept .0)) (at-columns s _ (c .before .before .before .before .before .before .before .before .before .before .before .before .before .before .pre) (segments-held s agree (c .before .before .before .before .before .before .before .before .before .before .before .shared-slice-known3 .given) (c .before .before .before .before .before .before .before .before .before .before .shared-slice-known4 .given) (c .before .before .before .before .before .before .before .before .before .shared-slice-known5 .given)) (segments-all (λ (x : Segment). x .net < 2 ^ 32) s agree (λ i. c .before .before .before .before .before .before .before .before .before .before .before .before .before .shared-slice-known .given i .fits)) 0)
+sweep-along-requires-2 c κs = let b = c .before .before .before .before .before .before .before .before .before .before .before .before .before .before in let a = b .args in let s = (segmentColumns (now (a .net)) (now (a .orientation)) (now (a .fixed)) (now (a .start)) (now (a .end))) in let agree = separation-agree s _ (b .pre) in subst (λ (words : ℕ). AtColumns words 0 s) (sym (c .before .before .before .before .before .before .sweep-along .kept .0)) (at-columns s _ (b .pre) (segments-held s agree (c .before .before .before .before .before .before .before .before .before .before .before .shared-slice-known3 .given) (c .before .before .before .before .before .before .before .before .before .before .shared-slice-known4 .given) (c .before .before .before .before .before .before .before .before .before .shared-slice-known5 .given)) (segments-all (λ (x : Segment). x .net < 2 ^ 32) s agree (λ i. c .before .before .before .before .before .before .before .before .before .before .before .before .before .shared-slice-known .given i .fits)) 0)
 
 enum-known-second : tie.Need-enum-known-second
 enum-known-second c = search needs

@@ -66,7 +66,7 @@ same-length : tie.Need-same-length
 same-length c = search needs
 
 returns : tie.Need-returns
-returns c = finishes (now (c .before .before .before .before .before .before .before .before .args .s)) _ _ (c .before .before .before .before .before .before .before .before .args .state) (c .before .before .before .before .before .before .before .before .args .n) _ (c .before .before .leave .last .0) (c .before .before .before .before .before .before .before .before .pre .at .inside) (c .before .before .leave .ensures .0) (c .before .before .leave .ensures .1) (c .before .before .leave .kept .0)
+returns c = let b = c .before .before .before .before .before .before .before .before in let a = b .args in finishes (now (a .s)) _ _ (a .state) (a .n) _ (c .before .before .leave .last .0) (b .pre .at .inside) (c .before .before .leave .ensures .0) (c .before .before .leave .ensures .1) (c .before .before .leave .kept .0)
 
 pub end-event-spec : {M : Type 1} → statement M
 end-event-spec =

@@ -87,7 +87,7 @@ same-length : tie.Need-same-length
 same-length c = search needs
 
 returns : tie.Need-returns
-returns c = begins-not (now (c .before .before .before .before .before .before .before .before .before .before .args .s)) _ _ (c .before .before .before .before .before .before .before .before .before .before .args .state) (c .before .before .before .before .before .before .before .before .before .before .args .n) _ _ (c .before .before .before .before .before .before .before .before .before .before .pre .inside) (c .before .before .look .ensures) (c .enum-told .given .1)
+returns c = let b = c .before .before .before .before .before .before .before .before .before .before in let a = b .args in begins-not (now (a .s)) _ _ (a .state) (a .n) _ _ (b .pre .inside) (c .before .before .look .ensures) (c .enum-told .given .1)
 
 mul-enter : tie.Need-mul-enter
 mul-enter c = search needs
@@ -111,7 +111,7 @@ same-length-2 : tie.Need-same-length-2
 same-length-2 c = search needs
 
 returns-2 : tie.Need-returns-2
-returns-2 c = begins (now (c .before .before .before .before .before .before .before .before .before .before .before .before .before .before .before .args .s)) _ _ (c .before .before .before .before .before .before .before .before .before .before .before .before .before .before .before .args .state) (c .before .before .before .before .before .before .before .before .before .before .before .before .before .before .before .args .n) _ _ _ (c .before .before .enter .last .0) (c .before .before .before .before .before .before .before .before .before .before .before .before .before .before .before .pre .inside) (c .before .before .before .before .before .before .before .look .ensures) (c .before .before .before .before .before .swept .given .1) (c .before .before .enter .ensures .0) (c .before .before .enter .ensures .1) (c .before .before .enter .kept .0)
+returns-2 c = let b = c .before .before .before .before .before .before .before .before .before .before .before .before .before .before .before in let a = b .args in begins (now (a .s)) _ _ (a .state) (a .n) _ _ _ (c .before .before .enter .last .0) (b .pre .inside) (c .before .before .before .before .before .before .before .look .ensures) (c .before .before .before .before .before .swept .given .1) (c .before .before .enter .ensures .0) (c .before .before .enter .ensures .1) (c .before .before .enter .kept .0)
 
 pub start-event-spec : {M : Type 1} → statement M
 start-event-spec =

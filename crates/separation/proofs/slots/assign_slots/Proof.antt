@@ -32,7 +32,7 @@ same-length : tie.Need-same-length
 same-length c = search needs
 
 returns : tie.Need-returns
-returns c = slots-assigned _ _ _ _ (c .before .before .before .before .before .before .before .before .before .before .before .before .before .pre) (c .before .before .before .before .before .before .before .before .before .before .fill-words .kept .0) (c .before .before .before .before .before .before .before .before .before .before .fill-words .ensures) (c .before .before .before .before .before .before .sort-indices .ensures) _ (c .before .before .hand-out .ensures)
+returns c = let fill-words = c .before .before .before .before .before .before .before .before .before .before .fill-words in slots-assigned _ _ _ _ (c .before .before .before .before .before .before .before .before .before .before .before .before .before .pre) (fill-words .kept .0) (fill-words .ensures) (c .before .before .before .before .before .before .sort-indices .ensures) _ (c .before .before .hand-out .ensures)
 
 pub assign-slots-spec : {M : Type 1} → statement M
 assign-slots-spec =

@@ -27,7 +27,7 @@ enum-told : tie.Need-enum-told
 enum-told c = search needs
 
 returns-2 : tie.Need-returns-2
-returns-2 c = λ ls H active x k v f l. look-stops (now (c .before .before .before .before .before .before .before .before .before .before .args .tree)) (now (c .before .before .before .before .before .before .before .before .before .before .args .fixed)) _ _ _ (c .before .before .before .before .before .before .before .before .before .before .args .state) ls H active x k v f l _ _ _ _ (c .before .before .before .before .before .has-other-at .ensures) (c .before .before .before .before .with-own-line .ensures .0) (c .before .before .before .before .with-own-line .ensures .1) (c .before .before .before .rightmost-other .ensures) (c .before .before .with-search .ensures) (c .enum-told .given .1)
+returns-2 c = let a = c .before .before .before .before .before .before .before .before .before .before .args in λ ls H active x k v f l. look-stops (now (a .tree)) (now (a .fixed)) _ _ _ (a .state) ls H active x k v f l _ _ _ _ (c .before .before .before .before .before .has-other-at .ensures) (c .before .before .before .before .with-own-line .ensures .0) (c .before .before .before .before .with-own-line .ensures .1) (c .before .before .before .rightmost-other .ensures) (c .before .before .with-search .ensures) (c .enum-told .given .1)
 
 add-leftmost-other : tie.Need-add-leftmost-other
 add-leftmost-other c = search needs
@@ -39,7 +39,7 @@ with-search-requires-2 : tie.Need-with-search-requires-2
 with-search-requires-2 c κs = let p = c .before .before .before .before .before .before .before .before .before .before .before .before .pre in left-within _ _ _ _ _ _ _ _ (p .tree .count) (p .inside) (p .values) (c .leftmost-other .ensures _ (p .tree .count))
 
 returns-3 : tie.Need-returns-3
-returns-3 c = λ ls H active x k v f l. look-on (now (c .before .before .before .before .before .before .before .before .before .before .before .before .before .args .tree)) (now (c .before .before .before .before .before .before .before .before .before .before .before .before .before .args .fixed)) _ _ _ (c .before .before .before .before .before .before .before .before .before .before .before .before .before .args .state) ls H active x k v f l _ _ _ _ (c .before .before .before .before .before .before .before .before .has-other-at .ensures) (c .before .before .before .before .before .before .before .with-own-line .ensures .0) (c .before .before .before .before .before .before .before .with-own-line .ensures .1) (c .before .before .before .before .before .before .rightmost-other .ensures) (c .before .before .before .before .before .with-search .ensures) _ _ _ (c .before .before .before .swept .given .1) (c .before .leftmost-other .ensures) (c .with-search2 .ensures)
+returns-3 c = let a = c .before .before .before .before .before .before .before .before .before .before .before .before .before .args in λ ls H active x k v f l. look-on (now (a .tree)) (now (a .fixed)) _ _ _ (a .state) ls H active x k v f l _ _ _ _ (c .before .before .before .before .before .before .before .before .has-other-at .ensures) (c .before .before .before .before .before .before .before .with-own-line .ensures .0) (c .before .before .before .before .before .before .before .with-own-line .ensures .1) (c .before .before .before .before .before .before .rightmost-other .ensures) (c .before .before .before .before .before .with-search .ensures) _ _ _ (c .before .before .before .swept .given .1) (c .before .leftmost-other .ensures) (c .with-search2 .ensures)
 
 pub look-spec : {M : Type 1} → statement M
 look-spec =

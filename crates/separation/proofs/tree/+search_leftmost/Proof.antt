@@ -5,11 +5,11 @@ use Prim.Native.Nat.{ℕ, _-_, _<_}
 use native.Mathlib.Omega.{arith}
 use denote.Ref.{now}
 use borrow.Author.Needs.{needs}
-use borrow.Author.Tests.{not-true, not-false}
+use borrow.Author.Tests.{not-true, not-false, lt-ltb, le-ltb}
 use borrow.Fn.Kinds.{In}
 use borrow.Fn.PlainCycle.{Measures, is, falls, and}
 use Rattle.separation.proofs.StoredTree.{below-inside, below-some, below-end, children-inside, below-low, below-high}
-use Rattle.separation.proofs.StoredSearches.{Opened, leftmost-spent, leftmost-shut, leftmost-leaf, leftmost-hands-spent, leftmost-hands-found, leftmost-goes-on}
+use Rattle.separation.proofs.StoredSearches.{up, Opened, search-spent, search-shut, search-leaf, hands-spent, hands-found, goes-on}
 use Rattle.separation.proofs.tree.search_leftmost.Reads as left
 use Rattle.separation.proofs.tree.search_leftmost.Kinds as left-kinds
 use Rattle.separation.proofs.tree.+search_leftmost.Lts-search_leftmost as left-lts
@@ -37,36 +37,34 @@ Wide t = left-lts.Else4 (claims t) (left-at t) left.Post
 abbrev given : (t : ℕ) → Wide t → left-lts.Start (claims t) (left-at t) left.Post
 given t c = c .before .before .before .before .before .before
 
-opened : (t : ℕ) (c : Wide t) → let a = given t c .args in Opened (now (a .tree)) (a .excluded) (a .node) (a .start) (a .end) (a .left)
+opened : (t : ℕ) (c : Wide t) → let a = given t c .args in Opened up (now (a .tree)) (a .excluded) (a .query-start) (a .node) (a .start) (a .end) (a .left)
 opened t c = record {
   some = c .before .before .before .before .if1 .left;
-  other = sym (c .before .before .other-below .ensures) ∙ not-false _ (c .before .if3 .left);
+  reached = lt-ltb _ _ (c .before .before .before .if2 .left);
+  active = sym (c .before .before .other-below .ensures) ∙ not-false _ (c .before .if3 .left);
   wide = c .if4 .left;
 }
 
-inside : (t : ℕ) (c : Wide t) → let a = given t c .args in a .query-start < a .end
-inside t c = c .before .before .before .if2 .left
-
 returns : (t : ℕ) → left-lts.Need-returns (claims t) (left-at t) left.Post
-returns t c = let a = c .before .before .args in leftmost-spent (now (a .tree)) (a .excluded) (a .query-start) (a .node) (a .start) (a .end) (a .left) (c .if1 .taken)
+returns t c = let a = c .before .before .args in search-spent up (now (a .tree)) (a .excluded) (a .query-start) (a .node) (a .start) (a .end) (a .left) (c .if1 .taken)
 
 sub-rest : (t : ℕ) → left-lts.Need-sub-rest (claims t) (left-at t) left.Post
 sub-rest t c = search needs
 
 returns-2 : (t : ℕ) → left-lts.Need-returns-2 (claims t) (left-at t) left.Post
-returns-2 t c = let a = c .before .before .before .args in leftmost-shut (now (a .tree)) (a .excluded) (a .query-start) (a .node) (a .start) (a .end) (a .left) (c .before .if1 .left) (inl (c .if2 .taken))
+returns-2 t c = let a = c .before .before .before .args in search-shut up (now (a .tree)) (a .excluded) (a .query-start) (a .node) (a .start) (a .end) (a .left) (c .before .if1 .left) (inl (le-ltb _ _ (c .if2 .taken)))
 
 other-below-requires : (t : ℕ) → left-lts.Need-other-below-requires (claims t) (left-at t) left.Post
 other-below-requires t c κs = below-inside (c .before .before .before .pre .1)
 
 returns-3 : (t : ℕ) → left-lts.Need-returns-3 (claims t) (left-at t) left.Post
-returns-3 t c = let a = c .before .before .before .before .before .args in leftmost-shut (now (a .tree)) (a .excluded) (a .query-start) (a .node) (a .start) (a .end) (a .left) (c .before .before .before .if1 .left) (inr (sym (c .before .other-below .ensures) ∙ not-true _ (c .if3 .taken)))
+returns-3 t c = let a = c .before .before .before .before .before .args in search-shut up (now (a .tree)) (a .excluded) (a .query-start) (a .node) (a .start) (a .end) (a .left) (c .before .before .before .if1 .left) (inr (sym (c .before .other-below .ensures) ∙ not-true _ (c .if3 .taken)))
 
 sub-if4 : (t : ℕ) → left-lts.Need-sub-if4 (claims t) (left-at t) left.Post
 sub-if4 t c = let h = below-some (c .before .before .before .before .before .pre .1) in omega arith
 
 returns-4 : (t : ℕ) → left-lts.Need-returns-4 (claims t) (left-at t) left.Post
-returns-4 t c = let a = c .before .before .before .before .before .before .args in leftmost-leaf (now (a .tree)) (a .excluded) (a .query-start) (a .node) (a .start) (a .end) (a .left) (c .before .before .before .before .if1 .left) (c .before .before .before .if2 .left) (sym (c .before .before .other-below .ensures) ∙ not-false _ (c .before .if3 .left)) (c .if4 .taken)
+returns-4 t c = let a = c .before .before .before .before .before .before .args in search-leaf up (now (a .tree)) (a .excluded) (a .query-start) (a .node) (a .start) (a .end) (a .left) (c .before .before .before .before .if1 .left) (lt-ltb _ _ (c .before .before .before .if2 .left)) (sym (c .before .before .other-below .ensures) ∙ not-false _ (c .before .if3 .left)) (c .if4 .taken)
 
 add-middle : (t : ℕ) → left-lts.Need-add-middle (claims t) (left-at t) left.Post
 add-middle t c = let h = below-end (given t c .pre .1) in search (needs, h)
@@ -93,13 +91,13 @@ enum-told : (t : ℕ) → left-lts.Need-enum-told (claims t) (left-at t) left.Po
 enum-told t c = search needs
 
 returns-5 : (t : ℕ) → left-lts.Need-returns-5 (claims t) (left-at t) left.Post
-returns-5 t c = let q = c .before .before .before .before in let a = given t q .args in leftmost-hands-found (now (a .tree)) (a .excluded) (a .query-start) (a .node) (a .start) (a .end) (a .left) (opened t q) _ (inside t q) (c .before .before .before .search-leftmost .ensures) _ _ (c .before .first .given .1)
+returns-5 t c = hands-found (opened t (c .before .before .before .before)) (c .before .before .before .search-leftmost .ensures) (c .before .first .given .1)
 
 returns-6 : (t : ℕ) → left-lts.Need-returns-6 (claims t) (left-at t) left.Post
-returns-6 t c = let q = c .before .before .before .before .before in let a = given t q .args in leftmost-goes-on (now (a .tree)) (a .excluded) (a .query-start) (a .node) (a .start) (a .end) (a .left) (opened t q) _ (inside t q) (c .before .before .before .before .search-leftmost .ensures) _ (c .before .before .first2 .given .1) _ (c .search-leftmost2 .ensures)
+returns-6 t c = goes-on (opened t (c .before .before .before .before .before)) (c .before .before .before .before .search-leftmost .ensures) (c .before .before .first2 .given .1) (c .search-leftmost2 .ensures)
 
 returns-7 : (t : ℕ) → left-lts.Need-returns-7 (claims t) (left-at t) left.Post
-returns-7 t c = let q = c .before .before .before in let a = given t q .args in leftmost-hands-spent (now (a .tree)) (a .excluded) (a .query-start) (a .node) (a .start) (a .end) (a .left) (opened t q) _ (inside t q) (c .before .before .search-leftmost .ensures) (c .enum-told .given .1)
+returns-7 t c = hands-spent (opened t (c .before .before .before)) (c .before .before .search-leftmost .ensures) (c .enum-told .given .1)
 
 pub +search-leftmost-spec : {M : Type 1} → statement M
 +search-leftmost-spec = close μ-left λ t. left-lts.spec (claims t) (left-at t) left.Post

@@ -5,11 +5,11 @@ use Prim.Native.Nat.{ℕ, _-_, _<_}
 use native.Mathlib.Omega.{arith}
 use denote.Ref.{now}
 use borrow.Author.Needs.{needs}
-use borrow.Author.Tests.{not-true, not-false}
+use borrow.Author.Tests.{not-true, not-false, lt-ltb, le-ltb}
 use borrow.Fn.Kinds.{In}
 use borrow.Fn.PlainCycle.{Measures, is, falls, and}
 use Rattle.separation.proofs.StoredTree.{below-inside, below-some, below-end, children-inside, below-low, below-high}
-use Rattle.separation.proofs.StoredSearches.{Opened, rightmost-spent, rightmost-shut, rightmost-leaf, rightmost-hands-spent, rightmost-hands-found, rightmost-goes-on}
+use Rattle.separation.proofs.StoredSearches.{down, Opened, search-spent, search-shut, search-leaf, hands-spent, hands-found, goes-on}
 use Rattle.separation.proofs.tree.search_rightmost.Reads as right
 use Rattle.separation.proofs.tree.search_rightmost.Kinds as right-kinds
 use Rattle.separation.proofs.tree.+search_rightmost.Lts-search_rightmost as right-lts
@@ -37,36 +37,34 @@ Wide t = right-lts.Else4 (claims t) (right-at t) right.Post
 abbrev given : (t : ℕ) → Wide t → right-lts.Start (claims t) (right-at t) right.Post
 given t c = c .before .before .before .before .before .before
 
-opened : (t : ℕ) (c : Wide t) → let a = given t c .args in Opened (now (a .tree)) (a .excluded) (a .node) (a .start) (a .end) (a .left)
+opened : (t : ℕ) (c : Wide t) → let a = given t c .args in Opened down (now (a .tree)) (a .excluded) (a .query-end) (a .node) (a .start) (a .end) (a .left)
 opened t c = record {
   some = c .before .before .before .before .if1 .left;
-  other = sym (c .before .before .other-below .ensures) ∙ not-false _ (c .before .if3 .left);
+  reached = lt-ltb _ _ (c .before .before .before .if2 .left);
+  active = sym (c .before .before .other-below .ensures) ∙ not-false _ (c .before .if3 .left);
   wide = c .if4 .left;
 }
 
-inside : (t : ℕ) (c : Wide t) → let a = given t c .args in a .start < a .query-end
-inside t c = c .before .before .before .if2 .left
-
 returns : (t : ℕ) → right-lts.Need-returns (claims t) (right-at t) right.Post
-returns t c = let a = c .before .before .args in rightmost-spent (now (a .tree)) (a .excluded) (a .query-end) (a .node) (a .start) (a .end) (a .left) (c .if1 .taken)
+returns t c = let a = c .before .before .args in search-spent down (now (a .tree)) (a .excluded) (a .query-end) (a .node) (a .start) (a .end) (a .left) (c .if1 .taken)
 
 sub-rest : (t : ℕ) → right-lts.Need-sub-rest (claims t) (right-at t) right.Post
 sub-rest t c = search needs
 
 returns-2 : (t : ℕ) → right-lts.Need-returns-2 (claims t) (right-at t) right.Post
-returns-2 t c = let a = c .before .before .before .args in rightmost-shut (now (a .tree)) (a .excluded) (a .query-end) (a .node) (a .start) (a .end) (a .left) (c .before .if1 .left) (inl (c .if2 .taken))
+returns-2 t c = let a = c .before .before .before .args in search-shut down (now (a .tree)) (a .excluded) (a .query-end) (a .node) (a .start) (a .end) (a .left) (c .before .if1 .left) (inl (le-ltb _ _ (c .if2 .taken)))
 
 other-below-requires : (t : ℕ) → right-lts.Need-other-below-requires (claims t) (right-at t) right.Post
 other-below-requires t c κs = below-inside (c .before .before .before .pre .1)
 
 returns-3 : (t : ℕ) → right-lts.Need-returns-3 (claims t) (right-at t) right.Post
-returns-3 t c = let a = c .before .before .before .before .before .args in rightmost-shut (now (a .tree)) (a .excluded) (a .query-end) (a .node) (a .start) (a .end) (a .left) (c .before .before .before .if1 .left) (inr (sym (c .before .other-below .ensures) ∙ not-true _ (c .if3 .taken)))
+returns-3 t c = let a = c .before .before .before .before .before .args in search-shut down (now (a .tree)) (a .excluded) (a .query-end) (a .node) (a .start) (a .end) (a .left) (c .before .before .before .if1 .left) (inr (sym (c .before .other-below .ensures) ∙ not-true _ (c .if3 .taken)))
 
 sub-if4 : (t : ℕ) → right-lts.Need-sub-if4 (claims t) (right-at t) right.Post
 sub-if4 t c = let h = below-some (c .before .before .before .before .before .pre .1) in omega arith
 
 returns-4 : (t : ℕ) → right-lts.Need-returns-4 (claims t) (right-at t) right.Post
-returns-4 t c = let a = c .before .before .before .before .before .before .args in rightmost-leaf (now (a .tree)) (a .excluded) (a .query-end) (a .node) (a .start) (a .end) (a .left) (c .before .before .before .before .if1 .left) (c .before .before .before .if2 .left) (sym (c .before .before .other-below .ensures) ∙ not-false _ (c .before .if3 .left)) (c .if4 .taken)
+returns-4 t c = let a = c .before .before .before .before .before .before .args in search-leaf down (now (a .tree)) (a .excluded) (a .query-end) (a .node) (a .start) (a .end) (a .left) (c .before .before .before .before .if1 .left) (lt-ltb _ _ (c .before .before .before .if2 .left)) (sym (c .before .before .other-below .ensures) ∙ not-false _ (c .before .if3 .left)) (c .if4 .taken)
 
 add-middle : (t : ℕ) → right-lts.Need-add-middle (claims t) (right-at t) right.Post
 add-middle t c = let h = below-end (given t c .pre .1) in search (needs, h)
@@ -93,13 +91,13 @@ enum-told : (t : ℕ) → right-lts.Need-enum-told (claims t) (right-at t) right
 enum-told t c = search needs
 
 returns-5 : (t : ℕ) → right-lts.Need-returns-5 (claims t) (right-at t) right.Post
-returns-5 t c = let q = c .before .before .before .before in let a = given t q .args in rightmost-hands-found (now (a .tree)) (a .excluded) (a .query-end) (a .node) (a .start) (a .end) (a .left) (opened t q) _ (inside t q) (c .before .before .before .search-rightmost .ensures) _ _ (c .before .first .given .1)
+returns-5 t c = hands-found (opened t (c .before .before .before .before)) (c .before .before .before .search-rightmost .ensures) (c .before .first .given .1)
 
 returns-6 : (t : ℕ) → right-lts.Need-returns-6 (claims t) (right-at t) right.Post
-returns-6 t c = let q = c .before .before .before .before .before in let a = given t q .args in rightmost-goes-on (now (a .tree)) (a .excluded) (a .query-end) (a .node) (a .start) (a .end) (a .left) (opened t q) _ (inside t q) (c .before .before .before .before .search-rightmost .ensures) _ (c .before .before .first2 .given .1) _ (c .search-rightmost2 .ensures)
+returns-6 t c = goes-on (opened t (c .before .before .before .before .before)) (c .before .before .before .before .search-rightmost .ensures) (c .before .before .first2 .given .1) (c .search-rightmost2 .ensures)
 
 returns-7 : (t : ℕ) → right-lts.Need-returns-7 (claims t) (right-at t) right.Post
-returns-7 t c = let q = c .before .before .before in let a = given t q .args in rightmost-hands-spent (now (a .tree)) (a .excluded) (a .query-end) (a .node) (a .start) (a .end) (a .left) (opened t q) _ (inside t q) (c .before .before .search-rightmost .ensures) (c .enum-told .given .1)
+returns-7 t c = hands-spent (opened t (c .before .before .before)) (c .before .before .search-rightmost .ensures) (c .enum-told .given .1)
 
 pub +search-rightmost-spec : {M : Type 1} → statement M
 +search-rightmost-spec = close μ-right λ t. right-lts.spec (claims t) (right-at t) right.Post
