@@ -18,12 +18,14 @@ use Rattle.drawing.specs.Entries.{SegmentColumns, NodeColumns, segments, nodes,
 use Rattle.drawing.specs.Refusals.{numberOf, firstOf}
 use Rattle.drawing.specs.Checks.{listConditions, entryConditions, clearanceConditions}
 use Rattle.drawing.proofs.ListOrders.{SegmentHeld, NodeHeld}
-use Rattle.clearance.specs.Figures.{Figures}
+use Rattle.clearance.specs.Figures.{Figures, figures}
 use Rattle.clearance.specs.Answer.{allPairs, answer, Result, result}
+use Rattle.clearance.proofs.Distances.{distances-good}
 use Rattle.clearance.proofs.AllPairs.{walk-all-pairs}
 use Rattle.clearance.proofs.AnyOrder.{all-pairs-any-order}
 use Rattle.clearance.proofs.Answers.{FitCall, fit-call, result-reached, result-spent}
-use Rattle.readability.specs.Measures.{SegmentsHeld, NodesHeld, Lists, clearance}
+use Rattle.readability.specs.Measures.{Reported, SegmentsHeld, NodesHeld, Lists, clearance}
+use Rattle.readability.proofs.Numbers.{least-reported}
 use Rattle.readability.proofs.FirstMet.{Rising}
 use Rattle.readability.proofs.Facts.{Passes, Same, Facts}
 
@@ -66,5 +68,9 @@ walks : (d : Lists) (t : Float) (words : ℕ) → clearance .Held d t → Passes
 unfolding allPairs
 walks d t words h p = let f = fit d t words h p in walk-all-pairs (exemptions (d .exemptions)) t (segments (d .segments)) (nodes (d .nodes)) (f .threshold-fit) (f .segments-fit) (f .nodes-fit)
 
+numbers : (d : Lists) (t : Float) (words : ℕ) → clearance .Held d t → Passes clearance d t words → All Reported (clearance .floats (clearance .figures d t))
+unfolding figures
+numbers d t words h p = let f = fit d t words h p in least-reported _ (distances-good (exemptions (d .exemptions)) (segments (d .segments)) (nodes (d .nodes)) (f .segments-fit) (f .nodes-fit))
+
 pub clearance-facts : Facts clearance
-clearance-facts = record { rising = rises; refuses = refuses; settles = settles; apart = apart; same = same; walks = walks }
+clearance-facts = record { rising = rises; refuses = refuses; settles = settles; apart = apart; same = same; walks = walks; numbers = numbers }

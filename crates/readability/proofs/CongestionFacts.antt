@@ -1,14 +1,20 @@
 -- The facts of the three congestion calls. Assumes nothing.
-use mathlib.Core.Path.{_≡_, refl, sym, ap, _∙_}
+use mathlib.Core.Path.{_≡_, refl, sym, ap, subst, _∙_}
 use mathlib.Core.Logic.{inl, inr}
 use mathlib.Core.Bool.{Bool, cond}
+use mathlib.Core.List.{List}
 use Prim.Native.Nat.{ℕ}
 use native.Mathlib.Omega.{arith}
 use borrow.Author.Tests.{leb-true, leb-false}
 use lib.Dec.{leb}
 use lib.Ieee.{Float}
+use Rattle.laws.specs.Lists.{All, pairs}
 use Rattle.laws.specs.Charged.{Charged}
 use Rattle.laws.proofs.Tests.{decide, cond-true, cond-false}
+use Rattle.laws.proofs.ListLaws.{mem-all, mem-pairs}
+use Rattle.floats.specs.Values.{plusZero, gapOf}
+use Rattle.floats.proofs.Gaps.{Good, zero-good}
+use Rattle.floats.proofs.Units.{gap-units}
 use Rattle.drawing.specs.declared.gap.Gap.{Gap}
 use Rattle.drawing.specs.declared.refusal.Refusal.{Refusal}
 use Rattle.drawing.specs.declared.refusal.Refusal.the-variants.{WorkLimitExceeded}
@@ -20,12 +26,14 @@ use Rattle.congestion.specs.declared.report.ParallelCongestion.{ParallelCongest
 use Rattle.congestion.specs.declared.report.CongestionReport.{CongestionReport}
 use Rattle.congestion.specs.declared.report.CongestionAnswer.{CongestionAnswer}
 use Rattle.congestion.specs.declared.report.CongestionAnswer.the-variants.{Report, Refused}
-use Rattle.congestion.specs.Profile.{allPairs}
+use Rattle.congestion.specs.Profile.{lengths, leastNonzero, allPairs}
 use Rattle.congestion.specs.Answer.{reportOf, densityAnswer, withoutDensity, profileAnswer, congestionAnswer, zeros, resultOf}
+use Rattle.clearance.proofs.Distances.{all-chosen}
 use Rattle.congestion.proofs.Fitness.{fit-list}
 use Rattle.congestion.proofs.SweepTheorem.{all-pairs-order, sweep-is-all-pairs}
 use Rattle.congestion.proofs.Answers.{Demand3, density-settles, profile-settles, congestion-earlier, congestion-reached}
-use Rattle.readability.specs.Measures.{ofCongestion, density, profile, congestion}
+use Rattle.readability.specs.Measures.{Reported, ofCongestion, density, profile, congestion}
+use Rattle.readability.proofs.Numbers.{good-reported, least-reported, units-good}
 use Rattle.readability.proofs.FirstMet.{Rising}
 use Rattle.readability.proofs.Facts.{Facts}
 
@@ -49,9 +57,23 @@ reported : (r : CongestionReport) → resultOf (Report r) ≡ (0, r)
 unfolding resultOf
 reported r = refl
 
+-- the floats of the report: lengths of whole 64ths, and a gap of two coordinates on the grid
+abbrev floatsOf : ParallelCongestion × Gap → List Float
+floatsOf f = density .floats f
+
+all-numbers : (s : SegmentColumns) (cutoff : Float) (words : ℕ) → firstOf (congestionConditions s cutoff words) ≡ Passed → All Reported (floatsOf (allPairs cutoff (segments s) .value))
+unfolding allPairs lengths leastNonzero
+all-numbers s cutoff words p =
+    let f = fit-list s cutoff words p in
+    (good-reported _ (units-good _), (good-reported _ (units-good _), (good-reported _ (units-good _), least-reported _
+    (all-chosen Good _ (λ q. gapOf (q .0 .fixed) (q .1 .fixed)) (pairs (segments s)) (mem-all _ (pairs (segments s)) (λ q m.
+      let k = mem-pairs q (segments s) m in
+      subst Good (sym (gap-units (q .0 .fixed) (q .1 .fixed) (f .each (q .0) (k .0) .fixed) (f .each (q .1) (k .1) .fixed))) (units-good _)))))))
+
 -- one call, whose figures are a part of the report that costs the same
 module _ (part : Charges → Charges) (A : Type 0) (reach : A → ℕ → Bool) (answers : SegmentColumns → Float → A → ℕ → CongestionAnswer)
     (costs : (c : Charges) → part c .cost ≡ c .cost)
+    (parts : (c : Charges) → All Reported (floatsOf (c .value)) → All Reported (floatsOf (part c .value)))
     (refuses : (s : SegmentColumns) (cutoff : Float) (a : A) (words : ℕ) (r : Refusal) → firstOf (congestionConditions s cutoff words) ≡ Stopped r → answers s cutoff a words ≡ Refused r)
     (settles : (s : SegmentColumns) (cutoff : Float) (a : A) (words : ℕ) → firstOf (congestionConditions s cutoff words) ≡ Passed → resultOf (answers s cutoff a words) ≡ cond (reach a (allPairs cutoff (segments s) .cost)) (0, reportOf (part (allPairs cutoff (segments s)) .value) (allPairs cutoff (segments s) .cost)) (7, zeros)) where
   facts : Facts (ofCongestion part A reach answers)
@@ -66,10 +88,11 @@ module _ (part : Charges → Charges) (A : Type 0) (reach : A → ℕ → Bool) 
     walks = λ s cutoff words h p.
         let all = sweep-is-all-pairs cutoff (segments s) (fit-list s cutoff words p) in
         ap part all ∙ (λ i. record { value = part (allPairs cutoff (segments s)) .value; cost = costs (allPairs cutoff (segments s)) i });
+    numbers = λ s cutoff words h p. parts (allPairs cutoff (segments s)) (all-numbers s cutoff words p);
   }
 
 -- a call with an allowance
-module _ (part : Charges → Charges) (answers : SegmentColumns → Float → ℕ → ℕ → CongestionAnswer) (costs : (c : Charges) → part c .cost ≡ c .cost) (d : Demand3 answers (λ cutoff l. part (allPairs cutoff l))) where
+module _ (part : Charges → Charges) (answers : SegmentColumns → Float → ℕ → ℕ → CongestionAnswer) (costs : (c : Charges) → part c .cost ≡ c .cost) (parts : (c : Charges) → All Reported (floatsOf (c .value)) → All Reported (floatsOf (part c .value))) (d : Demand3 answers (λ cutoff l. part (allPairs cutoff l))) where
   settled : (s : SegmentColumns) (cutoff : Float) (a words : ℕ) → firstOf (congestionConditions s cutoff words) ≡ Passed
       → resultOf (answers s cutoff a words) ≡ cond (leb (part (allPairs cutoff (segments s)) .cost) a) (0, reportOf (part (allPairs cutoff (segments s)) .value) (part (allPairs cutoff (segments s)) .cost)) (7, zeros)
   settled s cutoff a words p =
@@ -80,16 +103,16 @@ module _ (part : Charges → Charges) (answers : SegmentColumns → Float → �
       ]
 
   bounded : Facts (ofCongestion part ℕ (λ allowance n. leb n allowance) answers)
-  bounded = facts part ℕ (λ allowance n. leb n allowance) answers costs (λ s cutoff a words r e. d .earlier s cutoff a words r e)
+  bounded = facts part ℕ (λ allowance n. leb n allowance) answers costs parts (λ s cutoff a words r e. d .earlier s cutoff a words r e)
       (λ s cutoff a words p. settled s cutoff a words p ∙ (λ i. cond (leb (costs (allPairs cutoff (segments s)) i) a) (0, reportOf (part (allPairs cutoff (segments s)) .value) (costs (allPairs cutoff (segments s)) i)) (7, zeros)))
 
 pub density-facts : Facts density
-density-facts = bounded (λ c. c) densityAnswer (λ c. refl) density-settles
+density-facts = bounded (λ c. c) densityAnswer (λ c. refl) (λ c h. h) density-settles
 
 pub profile-facts : Facts profile
-profile-facts = bounded withoutDensity profileAnswer (λ c. refl) profile-settles
+profile-facts = bounded withoutDensity profileAnswer (λ c. refl) (λ c h. (h .0, (h .1 .0, (good-reported plusZero zero-good, h .1 .1 .1)))) profile-settles
 
 pub congestion-facts : Facts congestion
 congestion-facts =
-    facts (λ c. c) (Unit {0}) _ (λ s cutoff always words. congestionAnswer s cutoff words) (λ c. refl) (λ s cutoff always words r e. congestion-earlier s cutoff words r e)
+    facts (λ c. c) (Unit {0}) _ (λ s cutoff always words. congestionAnswer s cutoff words) (λ c. refl) (λ c h. h) (λ s cutoff always words r e. congestion-earlier s cutoff words r e)
     (λ s cutoff always words p. ap resultOf (congestion-reached s cutoff words p) ∙ reported _)

@@ -1,31 +1,42 @@
 -- The calls' own contracts say what specs/Contracts states. Assumes nothing.
 use Rattle.drawing.proofs.ColumnLaws.{columns-entries, columns-same}
 use Rattle.clearance.proofs.measure.measure_edge_node_clearance_bounded.Met as clearance
+use Rattle.clearance.proofs.measure.measure_edge_node_clearance_bounded.Reads as clearance-reads
 use Rattle.clearance.proofs.tight_pair.tight_pair.Met as tight-pair
+use Rattle.clearance.proofs.tight_pair.tight_pair.Reads as tight-pair-reads
 use Rattle.separation.proofs.measure.measure_parallel_separation_bounded.Met as separation
+use Rattle.separation.proofs.measure.measure_parallel_separation_bounded.Reads as separation-reads
 use Rattle.congestion.proofs.measure.measure_parallel_density_profile_bounded.Met as density
+use Rattle.congestion.proofs.measure.measure_parallel_density_profile_bounded.Reads as density-reads
 use Rattle.congestion.proofs.measure.measure_parallel_congestion_profile_bounded.Met as profile
+use Rattle.congestion.proofs.measure.measure_parallel_congestion_profile_bounded.Reads as profile-reads
 use Rattle.congestion.proofs.measure.measure_parallel_congestion.Met as congestion
+use Rattle.congestion.proofs.measure.measure_parallel_congestion.Reads as congestion-reads
 use Rattle.records.proofs.measure_edge_node_clearance_bounded_by_records.Met as clearance-entry
+use Rattle.records.proofs.Claims.measure_edge_node_clearance_bounded_by_records.Reads as clearance-entry-reads
 use Rattle.records.proofs.measure_parallel_separation_bounded_by_records.Met as separation-entry
+use Rattle.records.proofs.Claims.measure_parallel_separation_bounded_by_records.Reads as separation-entry-reads
 use Rattle.records.proofs.measure_parallel_density_profile_bounded_by_records.Met as density-entry
+use Rattle.records.proofs.Claims.measure_parallel_density_profile_bounded_by_records.Reads as density-entry-reads
 use Rattle.records.proofs.measure_parallel_congestion_profile_bounded_by_records.Met as profile-entry
+use Rattle.records.proofs.Claims.measure_parallel_congestion_profile_bounded_by_records.Reads as profile-entry-reads
 use Rattle.records.proofs.measure_parallel_congestion_by_records.Met as congestion-entry
+use Rattle.records.proofs.Claims.measure_parallel_congestion_by_records.Reads as congestion-entry-reads
 use Rattle.readability.specs.Contracts.{Contracts}
 
 pub contracts : Contracts
 contracts = record {
-  of-clearance = record { asks-nothing = λ κs a. tt; ends = λ M. clearance.met; says = λ κs a x e l. record { answers = l .0; leaves = l .1 } };
-  of-separation = record { asks-nothing = λ κs a. tt; ends = λ M. separation.met; says = λ κs a x e l. record { answers = l .0; leaves = l .1 } };
-  of-density = record { asks-nothing = λ κs a. tt; ends = λ M. density.met; says = λ κs a x e l. record { answers = l .0; leaves = l .1 } };
-  of-profile = record { asks-nothing = λ κs a. tt; ends = λ M. profile.met; says = λ κs a x e l. record { answers = l .0; leaves = l .1 } };
-  of-congestion = record { asks-nothing = λ κs a. tt; ends = λ M. congestion.met; says = λ κs a x e l. record { answers = l .0; leaves = l .1 } };
-  of-tight-pair = record { asks-nothing = λ κs a. tt; ends = λ M. tight-pair.met; says = λ κs a x e l. l };
-  of-clearance-by-records = record { asks-nothing = λ κs a. tt; ends = λ M. clearance-entry.met; says = λ κs a x e l. record { answers = l .0; leaves = l .1 } };
-  of-separation-by-records = record { asks-nothing = λ κs a. tt; ends = λ M. separation-entry.met; says = λ κs a x e l. record { answers = l .0; leaves = l .1 } };
-  of-density-by-records = record { asks-nothing = λ κs a. tt; ends = λ M. density-entry.met; says = λ κs a x e l. record { answers = l .0; leaves = l .1 } };
-  of-profile-by-records = record { asks-nothing = λ κs a. tt; ends = λ M. profile-entry.met; says = λ κs a x e l. record { answers = l .0; leaves = l .1 } };
-  of-congestion-by-records = record { asks-nothing = λ κs a. tt; ends = λ M. congestion-entry.met; says = λ κs a x e l. record { answers = l .0; leaves = l .1 } };
+  of-clearance = record { ends = λ w γ k same. clearance-reads.known w γ k _ same (clearance.met (w .𝓤) (w .H) (w .𝓜) (w .𝓖) (w .𝓡)); asks-nothing = λ κs a. tt; says = λ κs a x e l. record { answers = l .0; leaves = l .1 } };
+  of-separation = record { ends = λ w γ k same. separation-reads.known w γ k _ same (separation.met (w .𝓤) (w .H) (w .𝓜) (w .𝓖) (w .𝓡)); asks-nothing = λ κs a. tt; says = λ κs a x e l. record { answers = l .0; leaves = l .1 } };
+  of-density = record { ends = λ w γ k same. density-reads.known w γ k _ same (density.met (w .𝓤) (w .H) (w .𝓜) (w .𝓖) (w .𝓡)); asks-nothing = λ κs a. tt; says = λ κs a x e l. record { answers = l .0; leaves = l .1 } };
+  of-profile = record { ends = λ w γ k same. profile-reads.known w γ k _ same (profile.met (w .𝓤) (w .H) (w .𝓜) (w .𝓖) (w .𝓡)); asks-nothing = λ κs a. tt; says = λ κs a x e l. record { answers = l .0; leaves = l .1 } };
+  of-congestion = record { ends = λ w γ k same. congestion-reads.known w γ k _ same (congestion.met (w .𝓤) (w .H) (w .𝓜) (w .𝓖) (w .𝓡)); asks-nothing = λ κs a. tt; says = λ κs a x e l. record { answers = l .0; leaves = l .1 } };
+  of-tight-pair = record { ends = λ w γ k same. tight-pair-reads.known w γ k _ same (tight-pair.met (w .𝓤) (w .H) (w .𝓜) (w .𝓖) (w .𝓡)); asks-nothing = λ κs a. tt; says = λ κs a x e l. l };
+  of-clearance-by-records = record { ends = λ w γ k same. clearance-entry-reads.known w γ k _ same (clearance-entry.met (w .𝓤) (w .H) (w .𝓜) (w .𝓖) (w .𝓡)); asks-nothing = λ κs a. tt; says = λ κs a x e l. record { answers = l .0; leaves = l .1 } };
+  of-separation-by-records = record { ends = λ w γ k same. separation-entry-reads.known w γ k _ same (separation-entry.met (w .𝓤) (w .H) (w .𝓜) (w .𝓖) (w .𝓡)); asks-nothing = λ κs a. tt; says = λ κs a x e l. record { answers = l .0; leaves = l .1 } };
+  of-density-by-records = record { ends = λ w γ k same. density-entry-reads.known w γ k _ same (density-entry.met (w .𝓤) (w .H) (w .𝓜) (w .𝓖) (w .𝓡)); asks-nothing = λ κs a. tt; says = λ κs a x e l. record { answers = l .0; leaves = l .1 } };
+  of-profile-by-records = record { ends = λ w γ k same. profile-entry-reads.known w γ k _ same (profile-entry.met (w .𝓤) (w .H) (w .𝓜) (w .𝓖) (w .𝓡)); asks-nothing = λ κs a. tt; says = λ κs a x e l. record { answers = l .0; leaves = l .1 } };
+  of-congestion-by-records = record { ends = λ w γ k same. congestion-entry-reads.known w γ k _ same (congestion-entry.met (w .𝓤) (w .H) (w .𝓜) (w .𝓖) (w .𝓡)); asks-nothing = λ κs a. tt; says = λ κs a x e l. record { answers = l .0; leaves = l .1 } };
   stand-for = columns-entries;
   never-differ = columns-same;
 }

@@ -2,10 +2,11 @@
 use mathlib.Core.Path.{_≡_}
 use mathlib.Core.Bool.{cond}
 use Prim.Native.Nat.{ℕ}
+use Rattle.laws.specs.Lists.{All}
 use Rattle.drawing.specs.declared.refusal.Refusal.{Refusal}
 use Rattle.drawing.specs.declared.refusal.Check.the-variants.{Passed, Refused}
 use Rattle.drawing.specs.Refusals.{numberOf, firstOf}
-use Rattle.readability.specs.Measures.{Measure}
+use Rattle.readability.specs.Measures.{Measure, Reported}
 use Rattle.readability.proofs.FirstMet.{Rising}
 
 abbrev pub Passes : (m : Measure) → m .Drawing → m .Settings → ℕ → Type 0
@@ -29,3 +30,5 @@ pub record Facts (m : Measure) : Type 0 where
   pub same : (d e : m .Drawing) (s : m .Settings) (words : ℕ) → m .Reordered d e → m .Held d s → Passes m d s words → Same m d e s
   -- the walk's figures and visits
   pub walks : (d : m .Drawing) (s : m .Settings) (words : ℕ) → m .Held d s → Passes m d s words → m .walk d s ≡ record { value = m .figures d s; cost = m .count d s }
+  -- every float of the figures has one bit pattern
+  pub numbers : (d : m .Drawing) (s : m .Settings) (words : ℕ) → m .Held d s → Passes m d s words → All Reported (m .floats (m .figures d s))

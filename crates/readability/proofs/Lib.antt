@@ -5,8 +5,9 @@ pub mod Demand2
 pub mod Demand3
 pub mod TightPair
 pub mod Marked
--- what they lean on: the first refusal by number, the facts of each measure, and the demands of one measure from its facts
+-- what they lean on: the first refusal by number, the floats of a report, the facts of each measure, and the demands of one measure from its facts
 mod FirstMet
+mod Numbers
 mod Facts
 mod ClearanceFacts
 mod SeparationFacts

@@ -64,6 +64,7 @@ module _ (m : Measure) (facts : Facts m) where
 
   pub all-pairs : AllPairs m
   all-pairs = record {
+    numbers = λ r b h. facts .numbers (r .drawing) (r .settings) (length (r .before)) b (passes r h);
     walk = walked;
     returned = λ r b h t. reached r h t ∙ ap (m .accepted (m .figures (r .drawing) (r .settings))) (sym (ap (λ (c : Charged (m .Figures)). c .cost) (walked r b h)));
   }

@@ -6,19 +6,25 @@ use Prim.Native.Nat.{ℕ}
 use native.Mathlib.Omega.{arith}
 use borrow.Author.Tests.{leb-true, leb-false}
 use lib.Dec.{leb}
+use Rattle.laws.specs.Lists.{All}
 use Rattle.laws.specs.Charged.{Charged}
 use Rattle.laws.proofs.Tests.{decide, cond-true, cond-false}
+use Rattle.laws.proofs.ListLaws.{all-append}
 use Rattle.drawing.specs.declared.refusal.Refusal.{Refusal}
 use Rattle.drawing.specs.declared.refusal.Check.the-variants.{Refused}
 use Rattle.drawing.specs.Entries.{SegmentColumns, segments}
 use Rattle.drawing.specs.Refusals.{numberOf, firstOf}
 use Rattle.drawing.specs.Checks.{separationConditions}
+use Rattle.drawing.specs.Gaps.{leastGap}
 use Rattle.separation.specs.declared.report.ParallelSeparation.{ParallelSeparation}
-use Rattle.separation.specs.Figures.{Figures}
+use Rattle.separation.specs.Figures.{Figures, figures, leastOf, gaps}
 use Rattle.separation.specs.Answer as answering
+use Rattle.separation.proofs.Running.{kept-good}
+use Rattle.separation.proofs.WalkFigures.{gaps-good}
 use Rattle.separation.proofs.AnyOrder.{all-pairs-any, walk-all-pairs}
 use Rattle.separation.proofs.Answers.{passed-fit, result-reached, result-spent}
-use Rattle.readability.specs.Measures.{separation}
+use Rattle.readability.specs.Measures.{Reported, present, separation}
+use Rattle.readability.proofs.Numbers.{least-reported}
 use Rattle.readability.proofs.FirstMet.{Rising}
 use Rattle.readability.proofs.Facts.{Passes, Same, Facts}
 use Rattle.readability.proofs.ClearanceFacts.{held-segments}
@@ -51,5 +57,11 @@ walks : (s : SegmentColumns) (none : Unit {0}) (words : ℕ) → separation .Hel
 unfolding answering.allPairs
 walks s none words h p = walk-all-pairs (segments s) (passed-fit s words p (held-segments s h))
 
+numbers : (s : SegmentColumns) (none : Unit {0}) (words : ℕ) → separation .Held s none → Passes separation s none words → All Reported (separation .floats (separation .figures s none))
+unfolding figures leastOf
+numbers s none words h p =
+    let good = gaps-good (segments s) (passed-fit s words p (held-segments s h)) in
+    all-append Reported (present (leastGap (gaps (segments s)))) _ (least-reported _ good) (least-reported _ (kept-good _ good))
+
 pub separation-facts : Facts separation
-separation-facts = record { rising = λ s none words. separation-rises s words; refuses = refuses; settles = settles; apart = apart; same = same; walks = walks }
+separation-facts = record { rising = λ s none words. separation-rises s words; refuses = refuses; settles = settles; apart = apart; same = same; walks = walks; numbers = numbers }

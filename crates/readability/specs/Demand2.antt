@@ -3,7 +3,7 @@
 use mathlib.Core.Path.{_≡_}
 use mathlib.Core.Bool.{true}
 use lib.Ieee.{lt}
-use Rattle.laws.specs.Lists.{Mem}
+use Rattle.laws.specs.Lists.{Mem, All}
 use Rattle.floats.specs.Values.{plusZero}
 use Rattle.drawing.specs.Entries.{Segment, segments}
 use Rattle.congestion.specs.Wires.{wireOf, cutoffOf}
@@ -11,9 +11,11 @@ use Rattle.congestion.specs.Sweep.{inRange}
 use Rattle.congestion.specs.Rounded.{inRangeFloats, roundedTotal, roundedOverlap}
 use Rattle.congestion.specs.RoundedSweep.{roundedSweep}
 use Rattle.readability.specs.Applies.{NoneApplies}
-use Rattle.readability.specs.Measures.{Measure, Run, Binary, resultOfRun, visitCount, earlier, Call, measured, density}
+use Rattle.readability.specs.Measures.{Measure, Run, Binary, Reported, resultOfRun, visitCount, earlier, Call, measured, density}
 
 pub record AllPairs (m : Measure) : Type 0 where
+  -- "bit by bit": every float of the figures has one bit pattern, since none is a NaN
+  pub numbers : (r : Run m) → Binary m r → NoneApplies (earlier m r) → All Reported (m .floats (m .figures (r .drawing) (r .settings)))
   -- the figures of the walk, which skips pairs, are the figures over all pairs, bit by bit, and its visits are the count
   pub walk : (r : Run m) → Binary m r → NoneApplies (earlier m r) → m .walk (r .drawing) (r .settings) ≡ record { value = m .figures (r .drawing) (r .settings); cost = visitCount m r }
   -- so an accepted call returns what the walk finds, which is what all pairs give

@@ -1,18 +1,18 @@
 -- The five measures of demand 3, each as its crate defines it, and what is meant by a run of one.
 -- "A measure is one of the four calls above whose names end in `_bounded`, or `measure_parallel_congestion`, which counts as having an allowance that always reaches".
 use mathlib.Core.Path.{_≡_}
-use mathlib.Core.Bool.{Bool, true}
-use mathlib.Core.List.{List}
+use mathlib.Core.Bool.{Bool, true, false, not}
+use mathlib.Core.List.{List, [], _∷_, _++_}
 use Prim.Native.Nat.{ℕ}
 use lib.Dec.{T, leb}
-use lib.Ieee.{Float, binary64, fits}
+use lib.Ieee.{Float, nan, inf, fin, binary64, fits}
 use lib.ListN.{length}
 use Rattle.laws.specs.Lists.{All}
 use Rattle.laws.specs.Perm.{Perm}
 use Rattle.laws.specs.Charged.{Charged}
 use Rattle.drawing.specs.declared.refusal.Refusal.{Refusal}
 use Rattle.drawing.specs.declared.gap.Gap.{Gap}
-use Rattle.drawing.specs.declared.gap.Gap.the-variants.{Absent}
+use Rattle.drawing.specs.declared.gap.Gap.the-variants.{Absent, Present}
 use Rattle.drawing.specs.Entries.{Segment, Node, SegmentColumns, NodeColumns, ExemptionColumns, segments, nodes, exemptions}
 use Rattle.drawing.specs.Refusals.{firstOf, scratchAfter}
 use Rattle.drawing.specs.Checks.{clearanceConditions, separationConditions, congestionConditions}
@@ -49,6 +49,8 @@ pub record Measure : Type 1 where
   -- document 01, 'Figures over all pairs'
   pub Figures : Type 0
   pub figures : Drawing → Settings → Figures
+  -- the floats among them
+  pub floats : Figures → List Float
   -- the Rust's walk with no limit: what it finds, at the cost of its visits
   pub walk : Drawing → Settings → Charged Figures
   -- the visit count: "That count is defined over lists and settings alone, the walk included, and takes nothing from the allowance, the scratch or the port's own tally."
@@ -67,6 +69,21 @@ pub record Measure : Type 1 where
 -- ---- floats of binary64
 abbrev pub Binary64 : Float → Type 0
 Binary64 x = T (fits binary64 x)
+
+-- the sign is plus, and it is no NaN
+abbrev pub unsigned : Float → Bool
+unsigned nan = false
+unsigned (inf s) = not s
+unsigned (fin s m e) = not s
+
+-- what a report holds: a value of binary64, no NaN, not negative and not -0. IEEE 754 leaves the bits of a NaN open; any other value has one bit pattern, so that equal ones are equal bit by bit.
+abbrev pub Reported : Float → Type 0
+Reported x = Binary64 x × (unsigned x ≡ true)
+
+-- the float of a gap, where there is one
+abbrev pub present : Gap → List Float
+present Absent = []
+present (Present x) = x ∷ []
 
 abbrev pub SegmentsHeld : SegmentColumns → Type 0
 SegmentsHeld c = All (λ (s : Segment). Binary64 (s .fixed) × Binary64 (s .start) × Binary64 (s .end)) (segments c)
@@ -91,6 +108,7 @@ clearance = record {
   conditions = λ d threshold words. clearanceConditions (d .segments) (d .nodes) (d .exemptions) threshold words;
   Figures = ofClearance.Figures;
   figures = λ d threshold. ofClearance.figures (exemptions (d .exemptions)) threshold (segments (d .segments)) (nodes (d .nodes));
+  floats = λ f. present (f .least);
   walk = λ d threshold. clearanceWalk.walkAll (exemptions (d .exemptions)) threshold (segments (d .segments)) (nodes (d .nodes));
   count = λ d threshold. clearanceWalk.visitCount (exemptions (d .exemptions)) threshold (segments (d .segments)) (nodes (d .nodes));
   Answer = ClearanceAnswer;
@@ -113,6 +131,7 @@ separation = record {
   conditions = λ s none words. separationConditions s words;
   Figures = ofSeparation.Figures;
   figures = λ s none. ofSeparation.figures (segments s);
+  floats = λ f. present (f .least) ++ present (f .leastNonzero);
   walk = λ s none. separationWalk.walk (segments s);
   count = λ s none. separationWalk.visitCount (segments s);
   Answer = SeparationAnswer;
@@ -135,6 +154,7 @@ ofCongestion part A reach answers = record {
   conditions = λ s cutoff words. congestionConditions s cutoff words;
   Figures = ParallelCongestion × Gap;
   figures = λ s cutoff. part (allPairs cutoff (segments s)) .value;
+  floats = λ f. f .0 .«total_length» ∷ f .0 .«congested_length» ∷ f .0 .«pair_overlap_length» ∷ present (f .1);
   walk = λ s cutoff. part (sweep cutoff (segments s));
   count = λ s cutoff. allPairs cutoff (segments s) .cost;
   Answer = CongestionAnswer;
