@@ -64,11 +64,19 @@ floatsOf f = density .floats f
 all-numbers : (s : SegmentColumns) (cutoff : Float) (words : ℕ) → firstOf (congestionConditions s cutoff words) ≡ Passed → All Reported (floatsOf (allPairs cutoff (segments s) .value))
 unfolding allPairs lengths leastNonzero
 all-numbers s cutoff words p =
-    let f = fit-list s cutoff words p in
-    (good-reported _ (units-good _), (good-reported _ (units-good _), (good-reported _ (units-good _), least-reported _
-    (all-chosen Good _ (λ q. gapOf (q .0 .fixed) (q .1 .fixed)) (pairs (segments s)) (mem-all _ (pairs (segments s)) (λ q m.
-      let k = mem-pairs q (segments s) m in
-      subst Good (sym (gap-units (q .0 .fixed) (q .1 .fixed) (f .each (q .0) (k .0) .fixed) (f .each (q .1) (k .1) .fixed))) (units-good _)))))))
+    let f = fit-list s cutoff words p in (
+      good-reported _ (units-good _),
+      (
+        good-reported _ (units-good _),
+        (
+          good-reported _ (units-good _),
+          least-reported _
+              (all-chosen Good _ (λ q. gapOf (q .0 .fixed) (q .1 .fixed)) (pairs (segments s)) (mem-all _ (pairs (segments s)) (λ q m.
+              let k = mem-pairs q (segments s) m in
+              subst Good (sym (gap-units (q .0 .fixed) (q .1 .fixed) (f .each (q .0) (k .0) .fixed) (f .each (q .1) (k .1) .fixed))) (units-good _)))),
+        ),
+      ),
+    )
 
 -- one call, whose figures are a part of the report that costs the same
 module _ (part : Charges → Charges) (A : Type 0) (reach : A → ℕ → Bool) (answers : SegmentColumns → Float → A → ℕ → CongestionAnswer)
