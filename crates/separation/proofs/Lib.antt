@@ -1,6 +1,7 @@
 -- The laws of the definitions, a file for each notion.
 pub mod Summaries
 pub mod Searches
+pub mod TwoNets
 pub mod Lines
 pub mod Meets
 pub mod ActiveRows

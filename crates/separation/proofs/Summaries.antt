@@ -24,7 +24,7 @@ kept n l m k e =
     eqb-false m n (not-true (eqb m n) (ap (otherThan n) (g .3) ∙ g .2))
 
 -- ---- "a tree summary with one net only" would not do: of two different nets one is always another than n
-two-decide : (a b n : ℕ) → (b ≡ a → ⊥) → (not (eqb a n) || not (eqb b n)) ≡ true
+pub two-decide : (a b n : ℕ) → (b ≡ a → ⊥) → (not (eqb a n) || not (eqb b n)) ≡ true
 two-decide a b n h = elim (decide (eqb a n)) [
   | inr f ↦ rw f
   | inl t ↦ rw (t, ne-eqb b n (λ e. h (e ∙ sym (eqb-true a n t))))

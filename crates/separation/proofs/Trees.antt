@@ -63,7 +63,7 @@ module _ (ls : List ℕ) (active : List Row) (t : ℕ → NetSummary) (H : ℕ) 
 
 -- ---- two neighbouring ranges
 module _ (ls : List ℕ) (active : List Row) where
-  other-join : (n a b c : ℕ) → a ≤ b → b ≤ c → (otherIn ls active n a b || otherIn ls active n b c) ≡ otherIn ls active n a c
+  pub other-join : (n a b c : ℕ) → a ≤ b → b ≤ c → (otherIn ls active n a b || otherIn ls active n b c) ≡ otherIn ls active n a c
   other-join n a b c h k =
       let x = otherIn ls active n a b in
       let y = otherIn ls active n b c in
@@ -75,19 +75,23 @@ module _ (ls : List ℕ) (active : List Row) where
   merged-decides s t u a b c h k m p q n = m n ∙ (λ i. p n i || q n i) ∙ other-join n a b c h k
 
   -- a leaf: any list of the nets that are active on its line, in any order, one net once or more often
-  pub leaf-decides : (i : ℕ) (l : List ℕ) → ((m : ℕ) → Mem m l → (r : Row) × Mem r active × (index ls (r .line) ≡ i) × (r .net ≡ m)) → ((r : Row) → Mem r active → index ls (r .line) ≡ i → Mem (r .net) l) → Decides ls active (summaryOf l) i (i + 1)
-  leaf-decides i l f g n = summary-decides l n ∙ both (some-of (otherThan n) l) (otherIn ls active n i (i + 1)) to from
-    where
-      to : some-of (otherThan n) l ≡ true → otherIn ls active n i (i + 1) ≡ true
-      to t =
-          let x = some-mem (otherThan n) l t in
-          let r = f (x .0) (x .1) in
-          →other ls active n i (i + 1) (r .0) (r .1) ((λ e. eqb-false (x .0) n (not-true (eqb (x .0) n) (x .2)) (sym (r .3) ∙ e)), omega (arith, r .2), omega (arith, r .2))
+  module _ (i : ℕ) (l : List ℕ) (f : (m : ℕ) → Mem m l → (r : Row) × Mem r active × (index ls (r .line) ≡ i) × (r .net ≡ m)) (g : (r : Row) → Mem r active → index ls (r .line) ≡ i → Mem (r .net) l) where
+    pub leaf-nets : (n : ℕ) → some-of (otherThan n) l ≡ otherIn ls active n i (i + 1)
+    leaf-nets n = both (some-of (otherThan n) l) (otherIn ls active n i (i + 1)) to from
+      where
+        to : some-of (otherThan n) l ≡ true → otherIn ls active n i (i + 1) ≡ true
+        to t =
+            let x = some-mem (otherThan n) l t in
+            let r = f (x .0) (x .1) in
+            →other ls active n i (i + 1) (r .0) (r .1) ((λ e. eqb-false (x .0) n (not-true (eqb (x .0) n) (x .2)) (sym (r .3) ∙ e)), omega (arith, r .2), omega (arith, r .2))
 
-      from : otherIn ls active n i (i + 1) ≡ true → some-of (otherThan n) l ≡ true
-      from t =
-          let x = other→ ls active n i (i + 1) t in
-          mem-some (otherThan n) (x .0 .net) l (g (x .0) (x .1) (le-antisymm (omega (arith, x .2 .2)) (x .2 .1))) (ap not (ne-eqb (x .0 .net) n (x .2 .0)))
+        from : otherIn ls active n i (i + 1) ≡ true → some-of (otherThan n) l ≡ true
+        from t =
+            let x = other→ ls active n i (i + 1) t in
+            mem-some (otherThan n) (x .0 .net) l (g (x .0) (x .1) (le-antisymm (omega (arith, x .2 .2)) (x .2 .1))) (ap not (ne-eqb (x .0 .net) n (x .2 .0)))
+
+    pub leaf-decides : Decides ls active (summaryOf l) i (i + 1)
+    leaf-decides n = summary-decides l n ∙ leaf-nets n
 
 same-off : (ls : List ℕ) (old new : List Row) (i : ℕ) → ((r : Row) → Mem r old → (index ls (r .line) ≡ i) ⊎ Mem r new) → ((r : Row) → Mem r new → (index ls (r .line) ≡ i) ⊎ Mem r old) → SameOff ls old new i
 same-off ls old new i f g n a b o = both (otherIn ls old n a b) (otherIn ls new n a b) (λ t. move old new f t) (λ t. move new old g t)

@@ -4,6 +4,7 @@ pub mod Lines
 pub mod Searches
 pub mod Walk
 pub mod Summaries
+pub mod TwoNets
 pub mod Answer
 -- what only private contracts cite
 pub mod ActiveTree

@@ -12,7 +12,7 @@ use Rattle.separation.specs.declared.tree.Search.{Search}
 use Rattle.separation.specs.declared.tree.Search.the-variants.{Found, Empty, Spent}
 use Rattle.separation.specs.Lines.{index}
 
--- some active segment of another net than n lies on a line from a up to b: what the Rust's summary of two different nets decides for every net (`summary-decides` in proofs/Summaries.antt)
+-- some active segment of another net than n lies on a line from a up to b: what the Rust's summaries decide (`two-nets-decide` in proofs/TwoNets.antt)
 unfoldable pub otherIn : List ℕ → List Row → ℕ → ℕ → ℕ → Bool
 otherIn ls active n a b = some-of (λ r. not (eqb (r .net) n) && (leb a (index ls (r .line)) && ltb (index ls (r .line)) b)) active
 
