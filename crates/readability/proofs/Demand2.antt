@@ -1,17 +1,23 @@
 -- Demand 2. Assumes nothing.
 use mathlib.Core.Path.{_≡_, sym, ap, _∙_}
 use mathlib.Core.Bool.{true}
-use Prim.Native.Nat.{_<_}
+use Prim.Native.Nat.{ℕ, _<_}
 use borrow.Author.Tests.{ltb-true}
-use lib.Dec.{T, lit<}
-use lib.Ieee.{Float, lt}
-use lib.ListN.{length}
+use lib.Dec.{T, ltb, lit<}
+use lib.Ieee.{Float, nan, inf, fin, binary64, lt}
 use Rattle.laws.specs.Lists.{Mem}
+use Rattle.laws.proofs.Tests.{of-true}
 use Rattle.laws.proofs.ListLaws.{all-mem}
-use Rattle.floats.specs.Values.{plusZero}
-use Rattle.floats.specs.Grid.{onGrid}
-use Rattle.drawing.specs.Entries.{Segment, segments}
+use Rattle.floats.specs.Values.{plusZero, canonicalZero}
+use Rattle.floats.specs.TotalOrder.{keyOf}
+use Rattle.floats.specs.Grid.{onGrid, unit}
+use Rattle.floats.proofs.Zeros.{canonical-again, canonical-fin}
+use Rattle.floats.proofs.NumberKeys.{canonical-key}
+use Rattle.floats.proofs.TotalOrder.{key-order}
+use Rattle.floats.proofs.Units.{lt-units, grid-num, canonical-unit, canonical-grid}
+use Rattle.drawing.specs.Entries.{Segment, SegmentColumns, segments}
 use Rattle.drawing.proofs.ListOrders.{SegmentHeld}
+use Rattle.separation.proofs.TwoNets.{two-nets-decide}
 use Rattle.congestion.specs.Wires.{cutoffOf}
 use Rattle.congestion.proofs.Fitness.{fit-list, fit-cutoff}
 use Rattle.congestion.proofs.Closeness.{below-cutoff}
@@ -19,7 +25,7 @@ use Rattle.congestion.proofs.RoundedSums.{zero-units}
 use Rattle.congestion.proofs.RangeTests.{range-floats}
 use Rattle.congestion.proofs.RoundedDrawing.{report-exact}
 use Rattle.readability.specs.Applies.{NoneApplies}
-use Rattle.readability.specs.Measures.{Run, earlier, measured, density}
+use Rattle.readability.specs.Measures.{Binary64, measured, density}
 use Rattle.readability.specs.Demand2.{Exact, Demand2}
 use Rattle.readability.proofs.FirstMet.{none-passed}
 use Rattle.readability.proofs.ClearanceFacts.{held-segments}
@@ -29,23 +35,37 @@ use Rattle.readability.proofs.AllFacts.{all-facts}
 some-cutoff : (cutoff : Float) → T (onGrid cutoff) → lt plusZero cutoff ≡ true → 0 < cutoffOf cutoff
 some-cutoff cutoff g h = ltb-true 0 (cutoffOf cutoff) (sym (below-cutoff 0 cutoff (lit< tt) g) ∙ ap (λ (x : Float). lt x cutoff) zero-units ∙ h)
 
-exact : (r : Run density) → NoneApplies (earlier density r) → Exact r
-exact r h =
-    let l = segments (r .drawing) in
-    let p = none-passed (earlier density r) h in
-    let f = fit-list (r .drawing) (r .settings) (length (r .before)) p in
-    let g = fit-cutoff (r .drawing) (r .settings) (length (r .before)) p in
-    let x = report-exact (r .settings) l f in
+exact : (s : SegmentColumns) (cutoff : Float) (words : ℕ) → NoneApplies (density .conditions s cutoff words) → Exact s cutoff
+exact s cutoff words h =
+    let l = segments s in
+    let p = none-passed (density .conditions s cutoff words) h in
+    let f = fit-list s cutoff words p in
+    let g = fit-cutoff s cutoff words p in
+    let x = report-exact cutoff l f in
     record {
       total = x .total;
       overlap = x .overlap-pairs g;
       swept-congested = x .congested;
       swept-overlap = x .overlap;
       swept-least = x .least;
-      range = λ b e s t m n.
-          let held : (y : Segment) → Mem y l → SegmentHeld y = all-mem SegmentHeld l (held-segments (r .drawing) (b .0)) in
-          range-floats (r .settings) s t (held s m .fixed) (held t n .fixed) (f .each s m .fixed) (f .each t n .fixed) g (some-cutoff (r .settings) g e);
+      range = λ b e y z m n.
+          let held : (y : Segment) → Mem y l → SegmentHeld y = all-mem SegmentHeld l (held-segments s (b .0)) in
+          range-floats cutoff y z (held y m .fixed) (held z n .fixed) (f .each y m .fixed) (f .each z n .fixed) g (some-cutoff cutoff g e);
     }
 
+grid-fits : (x : Float) → Binary64 x → T (onGrid x) → Binary64 (canonicalZero x)
+unfolding onGrid
+grid-fits nan p g = absurd g
+grid-fits (inf s) p g = absurd g
+grid-fits (fin s m e) p g = canonical-fin binary64 (fin s m e) (p, tt) .0
+
+grid-order : (x y : Float) → Binary64 x → Binary64 y → onGrid x ≡ true → onGrid y ≡ true → ltb (keyOf (canonicalZero x)) (keyOf (canonicalZero y)) ≡ ltb (unit x) (unit y)
+grid-order x y p q g h =
+    let a : T (onGrid (canonicalZero x)) = of-true (onGrid (canonicalZero x)) (canonical-grid x ∙ g) in
+    let b : T (onGrid (canonicalZero y)) = of-true (onGrid (canonicalZero y)) (canonical-grid y ∙ h) in
+    sym (canonical-key (canonicalZero x) (canonicalZero y) (grid-num (canonicalZero x) (grid-fits x p (of-true (onGrid x) g)) a) (grid-num (canonicalZero y) (grid-fits y q (of-true (onGrid y) h)) b) (canonical-again x) (canonical-again y))
+    ∙ lt-units (canonicalZero x) (canonicalZero y) a b
+    ∙ (λ i. ltb (canonical-unit x i) (canonical-unit y i))
+
 pub demand-2 : Demand2
-demand-2 = record { of-each = λ call. all-pairs (measured call) (all-facts call); exact = exact }
+demand-2 = record { of-each = λ call. all-pairs (measured call) (all-facts call); exact = exact; comparisons = record { total-order = key-order; grid-order = grid-order; two-nets = two-nets-decide } }
