@@ -2,7 +2,6 @@
 use mathlib.Core.Path.{_≡_, refl, sym, ap, _∙_}
 use mathlib.Core.Logic.{_↔_}
 use mathlib.Core.Bool.{Bool, true, false, cond}
-use mathlib.Core.Option.{Option, none, some}
 use Prim.Native.Nat.{ℕ, _≤_, _<_}
 use native.Mathlib.Omega.{arith}
 use lib.Dec.{T}
@@ -21,11 +20,12 @@ use Rattle.drawing.specs.Checks.{listConditions, entryConditions, clearanceCond
 use Rattle.drawing.proofs.FirstRefusal.{passed-head}
 use Rattle.drawing.proofs.AnyOrder.{SameSegments, SameNodes, SameExemptions, clearance-order}
 use Rattle.drawing.proofs.ListOrders.{SegmentHeld, NodeHeld}
+use Rattle.clearance.specs.declared.report.EdgeNodeClearance.{EdgeNodeClearance}
 use Rattle.clearance.specs.declared.report.ClearanceAnswer.{ClearanceAnswer}
 use Rattle.clearance.specs.declared.report.ClearanceAnswer.the-variants.{Refused}
 use Rattle.clearance.specs.Figures.{Figures, figures}
 use Rattle.clearance.specs.Walk.{visitCount}
-use Rattle.clearance.specs.Answer.{accepted, allPairs, answer, Result, acceptedResult, refusedResult, result}
+use Rattle.clearance.specs.Answer.{reportOf, accepted, allPairs, answer, zeros, resultOf}
 use Rattle.boxes.proofs.Fit.{FitSegment, FitNode, FitThreshold}
 use Rattle.clearance.proofs.AnyOrder.{all-pairs-any-order}
 
@@ -77,42 +77,45 @@ module _ (s s′ : SegmentColumns) (o : SameSegments s s′) (n n′ : NodeColum
 
 -- ---- the allowance
 -- "7 is the spent-allowance refusal"
-abbrev pub spent : Result
-spent = refusedResult 7
+abbrev pub spent : ℕ × EdgeNodeClearance
+spent = (7, zeros)
+
+abbrev reported : Figures → ℕ → ℕ × EdgeNodeClearance
+reported g count = (0, reportOf g count)
 
 result-passed : (s : SegmentColumns) (n : NodeColumns) (e : ExemptionColumns) (t : Float) (allowance words : ℕ) → passes s n e t words
-    → result (answer s n e t allowance words) ≡ settle acceptedResult spent allowance (allPairs (exemptions e) t (segments s) (nodes n))
-unfolding answer settle result accepted numberOf
+    → resultOf (answer s n e t allowance words) ≡ settle reported spent allowance (allPairs (exemptions e) t (segments s) (nodes n))
+unfolding answer settle resultOf accepted numberOf
 result-passed s n e t allowance words h = let c = allPairs (exemptions e) t (segments s) (nodes n) in rw h (go (reaches allowance c) (c .value) (c .cost))
   where
-    go : (b : Bool) (g : Figures) (count : ℕ) → result (cond b (accepted g count) (Refused WorkLimitExceeded)) ≡ cond b (acceptedResult g count) spent
+    go : (b : Bool) (g : Figures) (count : ℕ) → resultOf (cond b (accepted g count) (Refused WorkLimitExceeded)) ≡ cond b (reported g count) spent
     go true g count = refl
     go false g count = refl
 
 module _ (s : SegmentColumns) (n : NodeColumns) (e : ExemptionColumns) (t : Float) (allowance words : ℕ) (h : passes s n e t words) where
   -- "A call whose allowance reaches it returns the all-pairs report, whose visits are that count"
   pub result-reached : visitCount (exemptions e) t (segments s) (nodes n) ≤ allowance
-      → result (answer s n e t allowance words) ≡ acceptedResult (figures (exemptions e) t (segments s) (nodes n)) (visitCount (exemptions e) t (segments s) (nodes n))
+      → resultOf (answer s n e t allowance words) ≡ reported (figures (exemptions e) t (segments s) (nodes n)) (visitCount (exemptions e) t (segments s) (nodes n))
   unfolding allPairs
-  result-reached k = result-passed s n e t allowance words h ∙ settle-reached acceptedResult spent allowance (allPairs (exemptions e) t (segments s) (nodes n)) k
+  result-reached k = result-passed s n e t allowance words h ∙ settle-reached reported spent allowance (allPairs (exemptions e) t (segments s) (nodes n)) k
 
   -- "a call whose allowance does not returns the spent-allowance refusal"
-  pub result-spent : allowance < visitCount (exemptions e) t (segments s) (nodes n) → result (answer s n e t allowance words) ≡ spent
+  pub result-spent : allowance < visitCount (exemptions e) t (segments s) (nodes n) → resultOf (answer s n e t allowance words) ≡ spent
   unfolding allPairs
-  result-spent k = result-passed s n e t allowance words h ∙ settle-short acceptedResult spent allowance (allPairs (exemptions e) t (segments s) (nodes n)) k
+  result-spent k = result-passed s n e t allowance words h ∙ settle-short reported spent allowance (allPairs (exemptions e) t (segments s) (nodes n)) k
 
 -- "Take any two calls .. on one drawing with the same settings, its lists in any two orders, under any two allowances and whatever either scratch held before.
 -- Where neither call meets an earlier refusal, their results are equal, bit by bit, exactly when both allowances reach that drawing's visit count or neither does."
 pub any-two-calls : (s s′ : SegmentColumns) → SameSegments s s′ → (n n′ : NodeColumns) → SameNodes n n′ → (e e′ : ExemptionColumns) → SameExemptions e e′ → (t : Float) → Lent s n t
     → (allowance allowance′ words words′ : ℕ) → passes s n e t words → passes s′ n′ e′ t words′
-    → (result (answer s n e t allowance words) ≡ result (answer s′ n′ e′ t allowance′ words′))
+    → (resultOf (answer s n e t allowance words) ≡ resultOf (answer s′ n′ e′ t allowance′ words′))
     ↔ (reaches allowance (allPairs (exemptions e) t (segments s) (nodes n)) ≡ reaches allowance′ (allPairs (exemptions e) t (segments s) (nodes n)))
 any-two-calls s s′ o n n′ p e e′ q t l allowance allowance′ words words′ h h′ =
     let all = allPairs (exemptions e) t (segments s) (nodes n) in
     let x = result-passed s n e t allowance words h in
-    let y = result-passed s′ n′ e′ t allowance′ words′ h′ ∙ ap (settle acceptedResult spent allowance′) (sym (all-pairs-order s s′ o n n′ p e e′ q t l words h)) in
-    let w = settle-equal acceptedResult spent apart allowance allowance′ all in
+    let y = result-passed s′ n′ e′ t allowance′ words′ h′ ∙ ap (settle reported spent allowance′) (sym (all-pairs-order s s′ o n n′ p e e′ q t l words h)) in
+    let w = settle-equal reported spent apart allowance allowance′ all in
     (λ z. w .0 (sym x ∙ z ∙ y), λ z. x ∙ w .1 z ∙ sym y)
   where
-    apart : (g : Figures) (count : ℕ) → acceptedResult g count ≡ spent → ⊥
-    apart g count z = let f : _≡_ {A = Option ℕ} none (some 7) = ap (λ (r : Result). r .refused) z in let k : _≡_ {A = ℕ} 0 1 = cc in omega arith
+    apart : (g : Figures) (count : ℕ) → reported g count ≡ spent → ⊥
+    apart g count z = let f : _≡_ {A = ℕ} 0 7 = ap (λ (r : ℕ × EdgeNodeClearance). r .0) z in omega arith

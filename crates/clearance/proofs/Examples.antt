@@ -22,7 +22,8 @@ use Rattle.boxes.specs.Boxes.{fromNode, fromSegment, nodeBox, segmentBox, union
 use Rattle.clearance.specs.Figures.{exempt, distances, figures}
 use Rattle.clearance.specs.Tree.{indexed, indexedRow, indexedInOrder, horizontalWider, hull, boundsOf, build, treeOf}
 use Rattle.clearance.specs.Walk.{contributes, withPair, walk, walkAll, visitCount}
-use Rattle.clearance.specs.Answer.{accepted, allPairs, answer, Result, acceptedResult, refusedResult, result}
+use Rattle.clearance.specs.declared.report.EdgeNodeClearance.{EdgeNodeClearance}
+use Rattle.clearance.specs.Answer.{reportOf, accepted, allPairs, answer, zeros, resultOf}
 
 abbrev zero : Float
 zero = ofBits binary64 0
@@ -61,12 +62,12 @@ d-nodes = nodeColumns (7 ∷ []) (two ∷ []) (one ∷ []) (three ∷ []) (two �
 abbrev d-exemptions : ExemptionColumns
 d-exemptions = exemptionColumns (2 ∷ []) (7 ∷ [])
 
--- what a reader finds in the answer; the scratch has 32 (2 + 1) + 64 words
-abbrev measured : SegmentColumns → NodeColumns → ExemptionColumns → Float → ℕ → Result
-measured s n e threshold allowance = result (answer s n e threshold allowance 160)
+-- the number and values of the answer; the scratch has 32 (2 + 1) + 64 words
+abbrev measured : SegmentColumns → NodeColumns → ExemptionColumns → Float → ℕ → ℕ × EdgeNodeClearance
+measured s n e threshold allowance = resultOf (answer s n e threshold allowance 160)
 
-abbrev report : Gap → ℕ → ℕ → Result
-report g v n = acceptedResult (record { least = g; violations = v }) n
+abbrev report : Gap → ℕ → ℕ → ℕ × EdgeNodeClearance
+report g v n = (0, reportOf (record { least = g; violations = v }) n)
 
 -- "clearance 3ff0000000000000 1 2", and the spent allowance below 2
 pub record Marked : Type 0 where
@@ -74,14 +75,14 @@ pub record Marked : Type 0 where
   -- D as the program `sheet` measures it
   pub d-sheet : answer d-segments d-nodes d-exemptions two 1000 7744 ≡ accepted (record { least = Present one; violations = 1 }) 2
   pub d-at-2 : measured d-segments d-nodes d-exemptions two 2 ≡ report (Present one) 1 2
-  pub d-at-1 : measured d-segments d-nodes d-exemptions two 1 ≡ refusedResult 7
+  pub d-at-1 : measured d-segments d-nodes d-exemptions two 1 ≡ (7, zeros)
   -- (g) "distance 2, threshold 2: no violation": D's first segment, and D's node one further away
   pub g : measured (segmentColumns (1 ∷ []) (1 ∷ []) (zero ∷ []) (zero ∷ []) (ten ∷ [])) (nodeColumns (7 ∷ []) (two ∷ []) (two ∷ []) (three ∷ []) (two ∷ [])) d-exemptions two 1000 ≡ report (Present two) 0 1
   -- (h) "no nodes, threshold -1: 5"
-  pub h : measured d-segments (nodeColumns [] [] [] [] []) d-exemptions minus-one 1000 ≡ refusedResult 5
+  pub h : measured d-segments (nodeColumns [] [] [] [] []) d-exemptions minus-one 1000 ≡ (5, zeros)
   -- (i) "no segments, threshold 0: absent, 0, 0"
   pub i : measured (segmentColumns [] [] [] [] []) d-nodes d-exemptions zero 0 ≡ report Absent 0 0
 
 pub marked : Marked
-unfolding ofBits toBits add sub lt some-of chosen fold cross rowLe insertBy sortBy lesser least runs settle key keyOf lesserOf greaterOf segmentsOf nodesOf exemptionsOf gapFrom leastGap lesserGap segmentRow nodeRow segmentsInOrder nodesInOrder numberOf firstOf differ tooMany shortScratch unfitLine unfitSegment unfitExtent unfitNode unfitThreshold segmentsDiffer nodesDiffer exemptionsDiffer listConditions entryConditions clearanceConditions fromNode fromSegment nodeBox segmentBox union axisGap distance exempt distances figures indexed indexedRow indexedInOrder horizontalWider hull boundsOf build treeOf contributes withPair walk walkAll visitCount accepted allPairs answer result
+unfolding ofBits toBits add sub lt some-of chosen fold cross rowLe insertBy sortBy lesser least runs settle key keyOf lesserOf greaterOf segmentsOf nodesOf exemptionsOf gapFrom leastGap lesserGap segmentRow nodeRow segmentsInOrder nodesInOrder numberOf firstOf differ tooMany shortScratch unfitLine unfitSegment unfitExtent unfitNode unfitThreshold segmentsDiffer nodesDiffer exemptionsDiffer listConditions entryConditions clearanceConditions fromNode fromSegment nodeBox segmentBox union axisGap distance exempt distances figures indexed indexedRow indexedInOrder horizontalWider hull boundsOf build treeOf contributes withPair walk walkAll visitCount accepted allPairs answer resultOf
 marked = record { d = refl; d-sheet = refl; d-at-2 = refl; d-at-1 = refl; g = refl; h = refl; i = refl }

@@ -18,7 +18,7 @@ use Rattle.clearance.specs.declared.tight_pair.TightPair.{TightPair}
 use Rattle.clearance.specs.declared.tight_pair.TightPair.the-variants.{Pair, Absent}
 use Rattle.boxes.specs.Boxes.{fromNode, fromSegment, nodeBox, segmentBox, axisGap, distance}
 use Rattle.clearance.specs.Figures.{exempt, distances}
-use Rattle.clearance.specs.TightPair.{Tight, found, answer, Answered, Result, result}
+use Rattle.clearance.specs.TightPair.{Tight, found, answer, Answered, resultOf}
 
 abbrev float : ℕ → Float
 float bits = ofBits binary64 bits
@@ -38,8 +38,8 @@ d-exemptions = exemptionColumns (2 ∷ []) (7 ∷ [])
 abbrev no-nodes : NodeColumns
 no-nodes = nodeColumns [] [] [] [] []
 
-abbrev refusal : ℕ → Result
-refusal n = record { refused = some n; pair = none }
+abbrev refusal : ℕ → ℕ × Option (ℕ × ℕ)
+refusal n = (n, none)
 
 pub record PairExamples : Type 0 where
   -- in D there is a pair, whichever is chosen
@@ -50,11 +50,11 @@ pub record PairExamples : Type 0 where
   pub no-nodes-absent : (pair : ℕ × ℕ) → answer d-segments no-nodes d-exemptions pair ≡ Absent
   pub all-exempt-absent : (pair : ℕ × ℕ) → answer d-segments d-nodes (exemptionColumns (1 ∷ 2 ∷ []) (7 ∷ 7 ∷ [])) pair ≡ Absent
   -- columns of different lengths are refused by 2, and a segment of no length by 5, with an absent pair
-  pub columns-differ : (pair : ℕ × ℕ) → result (answer d-segments d-nodes (exemptionColumns (2 ∷ []) []) pair) ≡ refusal 2
-  pub no-length : (pair : ℕ × ℕ) → result (answer (segmentColumns (1 ∷ []) (1 ∷ []) (float 0 ∷ []) (float 0 ∷ []) (float 0 ∷ [])) d-nodes d-exemptions pair) ≡ refusal 5
+  pub columns-differ : (pair : ℕ × ℕ) → resultOf (answer d-segments d-nodes (exemptionColumns (2 ∷ []) []) pair) ≡ refusal 2
+  pub no-length : (pair : ℕ × ℕ) → resultOf (answer (segmentColumns (1 ∷ []) (1 ∷ []) (float 0 ∷ []) (float 0 ∷ []) (float 0 ∷ [])) d-nodes d-exemptions pair) ≡ refusal 5
 
 pub pair-examples : PairExamples
-unfolding ofBits toBits add sub lt some-of chosen cross lesser least greaterOf segmentsOf nodesOf exemptionsOf gapFrom leastGap numberOf firstOf differ tooMany unfitLine unfitSegment unfitExtent unfitNode segmentsDiffer nodesDiffer exemptionsDiffer listConditions entryConditions tightPairConditions fromNode fromSegment nodeBox segmentBox axisGap distance exempt distances found answer result
+unfolding ofBits toBits add sub lt some-of chosen cross lesser least greaterOf segmentsOf nodesOf exemptionsOf gapFrom leastGap numberOf firstOf differ tooMany unfitLine unfitSegment unfitExtent unfitNode segmentsDiffer nodesDiffer exemptionsDiffer listConditions entryConditions tightPairConditions fromNode fromSegment nodeBox segmentBox axisGap distance exempt distances found answer resultOf
 pair-examples = record {
   d = λ i j. refl;
   d-tight = record { segment = _; node = _; segment-at = refl; node-at = refl; free = refl; least = refl };

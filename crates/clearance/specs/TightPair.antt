@@ -1,4 +1,4 @@
--- What the tight pair's call answers, and what a reader finds in each case of the answer.
+-- What the tight pair's call answers, and the number and values of each case of the answer.
 use mathlib.Core.Path.{_≡_}
 use mathlib.Core.Bool.{false}
 use mathlib.Core.List.{List}
@@ -40,13 +40,8 @@ pub record Answered (s : SegmentColumns) (n : NodeColumns) (e : ExemptionColumns
   pub is : r ≡ answer s n e choice
   pub tight : (i j : ℕ) → r ≡ Pair i j → Tight (exemptions e) (segments s) (nodes n) i j
 
--- document 01's number and values: `refused` is absent where the call was accepted
-pub record Result : Type 0 where
-  pub refused : Option ℕ
-  pub pair : Option (ℕ × ℕ)
-
--- "A refusal returns its number and ..; for the tight pair, an absent pair."
-unfoldable pub result : TightPair → Result
-result (Pair i j) = record { refused = none; pair = some (i, j) }
-result Absent = record { refused = none; pair = none }
-result (Refused w) = record { refused = some (numberOf w); pair = none }
+-- "A refusal returns its number and ..; for the tight pair, an absent pair.": each case by its number, 0 where nothing was refused, and its pair
+unfoldable pub resultOf : TightPair → ℕ × Option (ℕ × ℕ)
+resultOf (Pair i j) = (0, some (i, j))
+resultOf Absent = (0, none)
+resultOf (Refused w) = (numberOf w, none)

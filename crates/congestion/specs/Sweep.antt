@@ -11,7 +11,7 @@ use Rattle.laws.specs.Rows.{rowLe}
 use Rattle.laws.specs.Sort.{sortBy}
 use Rattle.laws.specs.Least.{lesser}
 use Rattle.laws.specs.Charged.{Charged, free, after, runs}
-use Rattle.floats.specs.Grid.{ofUnits}
+use Rattle.floats.specs.Grid.{zeroUnit, ofUnits}
 use Rattle.drawing.specs.Entries.{Segment}
 use Rattle.drawing.specs.Orders.{segmentsInOrder}
 use Rattle.drawing.specs.declared.gap.Gap.{Gap}
@@ -57,7 +57,7 @@ pub record Row : Type 0 where
   pub active : Bool
   pub neighbors : ℕ
 
--- `Excluded(query.fixed - cutoff), Excluded(query.fixed + cutoff)`
+-- `Excluded(FloatKey(query.fixed - cutoff)), Excluded(FloatKey(query.fixed + cutoff))`, in 64ths
 abbrev pub inRange : ℕ → Wire → Wire → Bool
 inRange c s t = ltb (s .fixed) (t .fixed + c) && ltb (t .fixed) (s .fixed + c)
 
@@ -83,7 +83,7 @@ fallen true b r = record { item = r .item; active = false; neighbors = 0 }
 fallen false true r = record { item = r .item; active = r .active; neighbors = r .neighbors - 1 }
 fallen false false r = r
 
--- the Rust's variables, under its names
+-- the Rust's variables; `rows` stands for its set of active wires and their counts
 pub record State : Type 0 where
   pub rows : List Row
   pub congestedActive : ℕ
@@ -149,9 +149,9 @@ module _ (c : ℕ) (i : Item) (st : State) where
 abbrev pub step : ℕ → State → Event → Charged State
 step c st e = record { value = cond (e .ends) (atEnd c (e .item) st (at e)) (atStart c (e .item) st (at e)); cost = count (visited c (e .item .wire)) (st .rows) }
 
--- `events.first().map_or(0.0, ..)`: 2 ^ 26 is the unit of 0
+-- `events.first().map_or(0.0, ..)`
 abbrev pub firstAt : List Event → ℕ
-firstAt [] = 67108864
+firstAt [] = zeroUnit
 firstAt (e ∷ l) = at e
 
 -- before the first event: nothing is active, and `previous` is the first coordinate

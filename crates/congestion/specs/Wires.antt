@@ -3,7 +3,7 @@ use mathlib.Core.Bool.{Bool}
 use Prim.Native.Nat.{ℕ, _-_}
 use lib.Dec.{eqb}
 use lib.Ieee.{Float}
-use Rattle.floats.specs.Grid.{unit}
+use Rattle.floats.specs.Grid.{zeroUnit, unit}
 use Rattle.drawing.specs.Entries.{Segment}
 
 pub record Wire : Type 0 where
@@ -17,6 +17,6 @@ pub record Wire : Type 0 where
 abbrev pub wireOf : Segment → Wire
 wireOf s = record { net = s .net; horizontal = eqb (s .orientation) 1; fixed = unit (s .fixed); start = unit (s .start); end = unit (s .end) }
 
--- a cutoff in whole numbers of 1/64, 0 where it is 0 or less: 2 ^ 26 is the unit of 0
+-- a cutoff in whole numbers of 1/64, 0 where it is 0 or less
 unfoldable pub cutoffOf : Float → ℕ
-cutoffOf x = unit x - 67108864
+cutoffOf x = unit x - zeroUnit

@@ -4,5 +4,6 @@ pub mod Refusals
 pub mod Conditions
 pub mod Checks
 pub mod Orders
-pub mod Lengths
 pub mod Gaps
+-- what only private contracts cite
+pub mod Lengths

@@ -7,16 +7,11 @@ use lib.Ieee.{binary64, toBits}
 use Rattle.drawing.specs.declared.gap.Gap.{Gap}
 use Rattle.drawing.specs.declared.gap.Gap.the-variants.{Absent, Present}
 use Rattle.drawing.specs.Entries.{SegmentColumns, NodeColumns, ExemptionColumns}
-use Rattle.clearance.specs.Answer.{Result}
+use Rattle.clearance.specs.declared.report.EdgeNodeClearance.{EdgeNodeClearance}
 use Rattle.clearance.specs.declared.tight_pair.TightPair.{TightPair}
-use Rattle.clearance.specs.TightPair.{Answered, result}
+use Rattle.clearance.specs.TightPair.{Answered, resultOf}
 use Rattle.separation.specs.declared.report.ParallelSeparation.{ParallelSeparation}
 use Rattle.congestion.specs.declared.report.CongestionReport.{CongestionReport}
-
--- 0 where nothing was refused, else the refusal's number
-unfoldable pub status : Option ℕ → ℕ
-status none = 0
-status (some n) = n
 
 -- whether the gap is present
 unfoldable pub presentWord : Gap → ℕ
@@ -28,9 +23,9 @@ unfoldable pub bitsWord : Gap → ℕ
 bitsWord Absent = 0
 bitsWord (Present x) = toBits binary64 x
 
--- the words of a clearance report; a refusal's result has an absent gap and zeros
-unfoldable pub clearanceWords : Result → List ℕ
-clearanceWords r = presentWord (r .least) ∷ bitsWord (r .least) ∷ r .violations ∷ r .visits ∷ []
+-- the words of a clearance report; a refusal's has an absent gap and zeros
+unfoldable pub clearanceWords : EdgeNodeClearance → List ℕ
+clearanceWords r = presentWord (r .«minimum_clearance») ∷ bitsWord (r .«minimum_clearance») ∷ r .violations ∷ r .visits ∷ []
 
 -- the words of a separation report; a refusal's has absent gaps and zeros
 unfoldable pub separationWords : ParallelSeparation → List ℕ
@@ -51,5 +46,5 @@ pairWords (some p) = 1 ∷ p .0 ∷ p .1 ∷ []
 pub record PairTold (s : SegmentColumns) (n : NodeColumns) (e : ExemptionColumns) (number : ℕ) (words : List ℕ) : Type 0 where
   pub answer : TightPair
   pub answered : Answered s n e answer
-  pub number-is : number ≡ status (result answer .refused)
-  pub words-are : words ≡ pairWords (result answer .pair)
+  pub number-is : number ≡ resultOf answer .0
+  pub words-are : words ≡ pairWords (resultOf answer .1)

@@ -4,8 +4,8 @@ ghost use lib.ListN.{length};
 ghost use Rattle.drawing.specs.Refusals.{firstOf, scratchAfter};
 ghost use Rattle.drawing.specs.Entries.{segmentColumns, nodeColumns, exemptionColumns};
 ghost use Rattle.drawing.specs.Checks.{clearanceConditions};
-ghost use Rattle.clearance.specs.Answer.{answer, result};
-ghost use Rattle.exports.specs.Told.{status, clearanceWords};
+ghost use Rattle.clearance.specs.Answer.{answer, resultOf};
+ghost use Rattle.exports.specs.Told.{clearanceWords};
 use crate::gap::bits_word;
 use crate::gap::present_word;
 use clearance::ClearanceAnswer;
@@ -14,7 +14,7 @@ use drawing::number;
 
 // 0 where the call was accepted, else the refusal's number.
 pub(crate) fn clearance_status(told: ClearanceAnswer) -> u32
-    ensures { λ r. ⌜ r ≡ status (result told .refused) ⌝ }
+    ensures { λ r. ⌜ r ≡ resultOf told .0 ⌝ }
 {
     match told {
         ClearanceAnswer::Report(_) => 0,
@@ -24,7 +24,7 @@ pub(crate) fn clearance_status(told: ClearanceAnswer) -> u32
 
 // The report: the gap's two words, violations, visits. Zeros at a refusal.
 pub(crate) fn clearance_words(told: ClearanceAnswer) -> [u64; 4]
-    ensures { λ r. ⌜ r ≡ clearanceWords (result told) ⌝ }
+    ensures { λ r. ⌜ r ≡ clearanceWords (resultOf told .1) ⌝ }
 {
     let ClearanceAnswer::Report(report) = told else {
         return [0; 4];
@@ -57,8 +57,8 @@ pub extern "C" fn readability_clearance(
     scratch: &mut [u64],
     out: &mut [u64; 4],
 ) -> u32
-    ensures { λ r. ⌜ r ≡ status (result (answer (segmentColumns (now (net .entry)) (now (orientation .entry)) (now (fixed .entry)) (now (start .entry)) (now (end .entry))) (nodeColumns (now (id .entry)) (now (x .entry)) (now (y .entry)) (now (width .entry)) (now (height .entry))) (exemptionColumns (now («exempt_net» .entry)) (now («exempt_node» .entry))) threshold allowance (length (now (scratch .entry)))) .refused) ⌝ }
-    ensures { λ _. ⌜ now (out .exit) ≡ clearanceWords (result (answer (segmentColumns (now (net .entry)) (now (orientation .entry)) (now (fixed .entry)) (now (start .entry)) (now (end .entry))) (nodeColumns (now (id .entry)) (now (x .entry)) (now (y .entry)) (now (width .entry)) (now (height .entry))) (exemptionColumns (now («exempt_net» .entry)) (now («exempt_node» .entry))) threshold allowance (length (now (scratch .entry))))) ⌝ }
+    ensures { λ r. ⌜ r ≡ resultOf (answer (segmentColumns (now (net .entry)) (now (orientation .entry)) (now (fixed .entry)) (now (start .entry)) (now (end .entry))) (nodeColumns (now (id .entry)) (now (x .entry)) (now (y .entry)) (now (width .entry)) (now (height .entry))) (exemptionColumns (now («exempt_net» .entry)) (now («exempt_node» .entry))) threshold allowance (length (now (scratch .entry)))) .0 ⌝ }
+    ensures { λ _. ⌜ now (out .exit) ≡ clearanceWords (resultOf (answer (segmentColumns (now (net .entry)) (now (orientation .entry)) (now (fixed .entry)) (now (start .entry)) (now (end .entry))) (nodeColumns (now (id .entry)) (now (x .entry)) (now (y .entry)) (now (width .entry)) (now (height .entry))) (exemptionColumns (now («exempt_net» .entry)) (now («exempt_node» .entry))) threshold allowance (length (now (scratch .entry)))) .1) ⌝ }
     ensures { λ _. ⌜ now (scratch .exit) ≡ scratchAfter (firstOf (clearanceConditions (segmentColumns (now (net .entry)) (now (orientation .entry)) (now (fixed .entry)) (now (start .entry)) (now (end .entry))) (nodeColumns (now (id .entry)) (now (x .entry)) (now (y .entry)) (now (width .entry)) (now (height .entry))) (exemptionColumns (now («exempt_net» .entry)) (now («exempt_node» .entry))) threshold (length (now (scratch .entry))))) (now (scratch .entry)) ⌝ }
 {
     let told = measure_edge_node_clearance_bounded(

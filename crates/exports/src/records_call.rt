@@ -8,7 +8,7 @@ ghost use Rattle.separation.specs.Answer as Separation;
 ghost use Rattle.congestion.specs.Answer as Congestion;
 ghost use Rattle.clearance.specs.Answer as Clearance;
 ghost use Rattle.records.specs.Records.{parallelColumns, edgeNodeColumns};
-ghost use Rattle.exports.specs.Told.{status, separationWords, congestionWords, clearanceWords};
+ghost use Rattle.exports.specs.Told.{separationWords, congestionWords, clearanceWords};
 use crate::clearance_call::clearance_status;
 use crate::clearance_call::clearance_words;
 use crate::congestion_call::congestion_status;
@@ -115,8 +115,8 @@ pub extern "C" fn readability_congestion_by_records(
 }
 
 fn tell_clearance(told: ClearanceAnswer, out: &mut [u64; 4]) -> u32
-    ensures { λ r. ⌜ r ≡ status (Clearance.result told .refused) ⌝ }
-    ensures { λ _. ⌜ now (out .exit) ≡ clearanceWords (Clearance.result told) ⌝ }
+    ensures { λ r. ⌜ r ≡ Clearance.resultOf told .0 ⌝ }
+    ensures { λ _. ⌜ now (out .exit) ≡ clearanceWords (Clearance.resultOf told .1) ⌝ }
 {
     *out = clearance_words(told);
     clearance_status(told)
@@ -137,8 +137,8 @@ pub extern "C" fn readability_clearance_by_records(
     scratch: &mut [u64],
     out: &mut [u64; 4],
 ) -> u32
-    ensures { λ r. ⌜ r ≡ status (Clearance.result (Clearance.answer (edgeNodeColumns (now (records .entry))) (nodeColumns (now (id .entry)) (now (x .entry)) (now (y .entry)) (now (width .entry)) (now (height .entry))) (exemptionColumns (now («exempt_net» .entry)) (now («exempt_node» .entry))) threshold allowance (length (now (scratch .entry)))) .refused) ⌝ }
-    ensures { λ _. ⌜ now (out .exit) ≡ clearanceWords (Clearance.result (Clearance.answer (edgeNodeColumns (now (records .entry))) (nodeColumns (now (id .entry)) (now (x .entry)) (now (y .entry)) (now (width .entry)) (now (height .entry))) (exemptionColumns (now («exempt_net» .entry)) (now («exempt_node» .entry))) threshold allowance (length (now (scratch .entry))))) ⌝ }
+    ensures { λ r. ⌜ r ≡ Clearance.resultOf (Clearance.answer (edgeNodeColumns (now (records .entry))) (nodeColumns (now (id .entry)) (now (x .entry)) (now (y .entry)) (now (width .entry)) (now (height .entry))) (exemptionColumns (now («exempt_net» .entry)) (now («exempt_node» .entry))) threshold allowance (length (now (scratch .entry)))) .0 ⌝ }
+    ensures { λ _. ⌜ now (out .exit) ≡ clearanceWords (Clearance.resultOf (Clearance.answer (edgeNodeColumns (now (records .entry))) (nodeColumns (now (id .entry)) (now (x .entry)) (now (y .entry)) (now (width .entry)) (now (height .entry))) (exemptionColumns (now («exempt_net» .entry)) (now («exempt_node» .entry))) threshold allowance (length (now (scratch .entry)))) .1) ⌝ }
     ensures { λ _. ⌜ now (scratch .exit) ≡ scratchAfter (firstOf (clearanceConditions (edgeNodeColumns (now (records .entry))) (nodeColumns (now (id .entry)) (now (x .entry)) (now (y .entry)) (now (width .entry)) (now (height .entry))) (exemptionColumns (now («exempt_net» .entry)) (now («exempt_node» .entry))) threshold (length (now (scratch .entry))))) (now (scratch .entry)) ⌝ }
 {
     let told = measure_edge_node_clearance_bounded_by_records(

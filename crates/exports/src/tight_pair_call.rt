@@ -1,14 +1,14 @@
 // The tight pair.
 ghost use mathlib.Core.Path.{_≡_};
 ghost use Rattle.drawing.specs.Entries.{segmentColumns, nodeColumns, exemptionColumns};
-ghost use Rattle.clearance.specs.TightPair.{result};
-ghost use Rattle.exports.specs.Told.{status, pairWords, PairTold};
+ghost use Rattle.clearance.specs.TightPair.{resultOf};
+ghost use Rattle.exports.specs.Told.{pairWords, PairTold};
 use clearance::TightPair;
 use drawing::number;
 
 // 0 where the call was accepted, else the refusal's number.
 fn tight_pair_status(told: TightPair) -> u32
-    ensures { λ r. ⌜ r ≡ status (result told .refused) ⌝ }
+    ensures { λ r. ⌜ r ≡ resultOf told .0 ⌝ }
 {
     match told {
         TightPair::Pair(_, _) => 0,
@@ -19,7 +19,7 @@ fn tight_pair_status(told: TightPair) -> u32
 
 // Whether there is a pair, and the positions of its segment and of its node. Zeros at a refusal.
 fn tight_pair_words(told: TightPair) -> [u64; 3]
-    ensures { λ r. ⌜ r ≡ pairWords (result told .pair) ⌝ }
+    ensures { λ r. ⌜ r ≡ pairWords (resultOf told .1) ⌝ }
 {
     match told {
         TightPair::Pair(segment, node) => [1, segment as u64, node as u64],

@@ -16,12 +16,16 @@ steps nan = 0
 steps (inf s) = 0
 steps (fin s m e) = m * up e * 64 / down e
 
--- a coordinate on the grid as a natural number, 64 x + 2 ^ 26: both zeros are 2 ^ 26 (an infinity or a NaN is no coordinate, and has 0)
+-- 2 ^ 26, as many 64ths as 1,048,576 has
+abbrev pub zeroUnit : ℕ
+zeroUnit = 67108864
+
+-- a coordinate on the grid as a natural number, 64 x + 2 ^ 26: both zeros are `zeroUnit` (an infinity or a NaN is no coordinate, and has 0)
 unfoldable pub unit : Float → ℕ
 unit nan = 0
 unit (inf s) = 0
-unit (fin true m e) = 67108864 - steps (fin true m e)
-unit (fin false m e) = 67108864 + steps (fin false m e)
+unit (fin true m e) = zeroUnit - steps (fin true m e)
+unit (fin false m e) = zeroUnit + steps (fin false m e)
 
 -- the float of n / 64
 unfoldable pub ofUnits : ℕ → Float

@@ -1,4 +1,4 @@
--- The definitions, a file for each module of src/.
+-- The definitions, a file for each notion.
 pub mod TotalOrder
 pub mod Values
 pub mod Grid

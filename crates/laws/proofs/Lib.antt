@@ -4,6 +4,7 @@ pub mod ListLaws
 pub mod Places
 pub mod Perms
 pub mod Folds
+pub mod Orders
 pub mod RowLaws
 pub mod Sorting
 pub mod SortedLists

@@ -7,7 +7,7 @@ use Prim.Native.Nat.{ℕ, _≤_, _<_}
 use native.Mathlib.Omega.{arith}
 use borrow.Author.Tests.{lt-ltb, le-ltb, eq-eqb, ne-eqb}
 use Rattle.laws.specs.Rows.{rowLe}
-use Rattle.laws.specs.Sort.{Order}
+use Rattle.laws.proofs.Orders.{Order}
 use Rattle.laws.proofs.Tests.{clash, le-or-lt, same-or-not}
 
 -- ---- one word at a time

@@ -2,7 +2,6 @@
 use mathlib.Core.Path.{_≡_, sym, ap, _∙_}
 use mathlib.Core.Logic.{inl, inr}
 use mathlib.Core.Bool.{cond}
-use mathlib.Core.Option.{Option, none, some}
 use Prim.Native.Nat.{ℕ}
 use native.Mathlib.Omega.{arith}
 use borrow.Author.Tests.{leb-true, leb-false}
@@ -19,7 +18,8 @@ use Rattle.drawing.specs.Refusals.{numberOf, firstOf}
 use Rattle.drawing.specs.Checks.{listConditions, entryConditions, clearanceConditions}
 use Rattle.drawing.proofs.ListOrders.{SegmentHeld, NodeHeld}
 use Rattle.clearance.specs.Figures.{Figures, figures}
-use Rattle.clearance.specs.Answer.{allPairs, answer, Result, result}
+use Rattle.clearance.specs.declared.report.EdgeNodeClearance.{EdgeNodeClearance}
+use Rattle.clearance.specs.Answer.{allPairs, answer, resultOf}
 use Rattle.clearance.proofs.Distances.{distances-good}
 use Rattle.clearance.proofs.AllPairs.{walk-all-pairs}
 use Rattle.clearance.proofs.AnyOrder.{all-pairs-any-order}
@@ -44,7 +44,7 @@ fit : (d : Lists) (t : Float) (words : ℕ) → clearance .Held d t → Passes c
 fit d t words h p = fit-call (d .segments) (d .nodes) (d .exemptions) t words (record { segments-held = held-segments (d .segments) (h .0); nodes-held = held-nodes (d .nodes) (h .1); threshold-held = h .2 }) p
 
 refuses : (d : Lists) (t : Float) (a words : ℕ) (r : Refusal) → firstOf (clearance .conditions d t words) ≡ Refused r → clearance .result (clearance .answer d t a words) ≡ clearance .refused (numberOf r)
-unfolding answer result
+unfolding answer resultOf
 refuses d t a words r e = rw e
 
 settles : (d : Lists) (t : Float) (a words : ℕ) → Passes clearance d t words
@@ -55,7 +55,7 @@ settles d t a words p = elim (decide (leb (clearance .count d t) a)) [
 ]
 
 apart : (g : Figures) (n : ℕ) → clearance .accepted g n ≡ clearance .refused 7 → ⊥
-apart g n z = let f : _≡_ {A = Option ℕ} none (some 7) = ap (λ (r : Result). r .refused) z in let k : _≡_ {A = ℕ} 0 1 = cc in omega arith
+apart g n z = let f : _≡_ {A = ℕ} 0 7 = ap (λ (r : ℕ × EdgeNodeClearance). r .0) z in omega arith
 
 same : (d e : Lists) (t : Float) (words : ℕ) → clearance .Reordered d e → clearance .Held d t → Passes clearance d t words → Same clearance d e t
 unfolding allPairs

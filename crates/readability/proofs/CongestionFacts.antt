@@ -32,7 +32,7 @@ use Rattle.clearance.proofs.Distances.{all-chosen}
 use Rattle.congestion.proofs.Fitness.{fit-list}
 use Rattle.congestion.proofs.SweepTheorem.{all-pairs-order, sweep-is-all-pairs}
 use Rattle.congestion.proofs.Answers.{Demand3, density-settles, profile-settles, congestion-earlier, congestion-reached}
-use Rattle.readability.specs.Measures.{Reported, ofCongestion, density, profile, congestion}
+use Rattle.readability.specs.Measures.{visitsReach, Reported, ofCongestion, density, profile, congestion}
 use Rattle.readability.proofs.Numbers.{good-reported, least-reported, units-good}
 use Rattle.readability.proofs.FirstMet.{Rising}
 use Rattle.readability.proofs.Facts.{Facts}
@@ -110,8 +110,8 @@ module _ (part : Charges → Charges) (answers : SegmentColumns → Float → �
         | inr e ↦ ap resultOf (d .spent s cutoff a words p (leb-false _ _ e)) ∙ spent-result ∙ sym (cond-false (leb (c .cost) a) (0, reportOf (c .value) (c .cost)) (7, zeros) e)
       ]
 
-  bounded : Facts (ofCongestion part ℕ (λ allowance n. leb n allowance) answers)
-  bounded = facts part ℕ (λ allowance n. leb n allowance) answers costs parts (λ s cutoff a words r e. d .earlier s cutoff a words r e)
+  bounded : Facts (ofCongestion part ℕ visitsReach answers)
+  bounded = facts part ℕ visitsReach answers costs parts (λ s cutoff a words r e. d .earlier s cutoff a words r e)
       (λ s cutoff a words p. settled s cutoff a words p ∙ (λ i. cond (leb (costs (allPairs cutoff (segments s)) i) a) (0, reportOf (part (allPairs cutoff (segments s)) .value) (costs (allPairs cutoff (segments s)) i)) (7, zeros)))
 
 pub density-facts : Facts density

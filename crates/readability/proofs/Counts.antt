@@ -26,7 +26,7 @@ use Rattle.congestion.proofs.FoldLaws.{both, pairs-map}
 use Rattle.congestion.proofs.Fitness.{FitList, fit-list, fit-cutoff}
 use Rattle.congestion.proofs.Closeness.{below-cutoff, close-floats}
 use Rattle.readability.specs.Applies.{NoneApplies}
-use Rattle.readability.specs.Demand3.{along, formula, Counts}
+use Rattle.readability.specs.Demand3.{segmentsAlong, formula, Counts}
 use Rattle.readability.proofs.FirstMet.{none-passed}
 
 -- ---- a count is the same where the tests agree, also through a map
@@ -55,11 +55,11 @@ choose zero n = refl
 choose (suc c) n = cond-true (ltb 0 (suc c)) n 0 (lt-ltb 0 (suc c) (omega arith)) ∙ sym (cond-false (eqb (suc c) 0) 0 n (ne-eqb (suc c) 0 (λ e. omega arith)))
 
 module _ (cutoff : Float) (l : List Segment) (fit : FitList l) (grid : T (onGrid cutoff)) where
-  along-horizontal : along 1 l ≡ inOrientation true (map wireOf l)
-  along-horizontal = sym (count-map (λ (w : Wire). Bool·beq true (w .horizontal)) wireOf l ∙ count-same _ _ l (λ s m. horizontal (eqb (s .orientation) 1)))
+  horizontal-count : segmentsAlong 1 l ≡ inOrientation true (map wireOf l)
+  horizontal-count = sym (count-map (λ (w : Wire). Bool·beq true (w .horizontal)) wireOf l ∙ count-same _ _ l (λ s m. horizontal (eqb (s .orientation) 1)))
 
-  along-vertical : along 0 l ≡ inOrientation false (map wireOf l)
-  along-vertical = sym (count-map (λ (w : Wire). Bool·beq false (w .horizontal)) wireOf l ∙ count-same _ _ l (λ s m. vertical (s .orientation) (fit .each s m .byte)))
+  vertical-count : segmentsAlong 0 l ≡ inOrientation false (map wireOf l)
+  vertical-count = sym (count-map (λ (w : Wire). Bool·beq false (w .horizontal)) wireOf l ∙ count-same _ _ l (λ s m. vertical (s .orientation) (fit .each s m .byte)))
 
   close-pairs : count (λ (p : Segment × Segment). closeFloats cutoff (p .0) (p .1)) (pairs l) ≡ closePairs (cutoffOf cutoff) (map wireOf l)
   unfolding closePairs
@@ -71,7 +71,7 @@ module _ (cutoff : Float) (l : List Segment) (fit : FitList l) (grid : T (onGrid
   formula-is : allPairs cutoff l .cost ≡ formula cutoff l
   unfolding allPairs visits formula
   formula-is =
-      sym (ap₂ (λ (b : Bool) (n : ℕ). cond b n 0) (above-zero cutoff grid) (λ i. atLeastTwo (along-horizontal i) + atLeastTwo (along-vertical i) + 2 * close-pairs i)
+      sym (ap₂ (λ (b : Bool) (n : ℕ). cond b n 0) (above-zero cutoff grid) (λ i. atLeastTwo (horizontal-count i) + atLeastTwo (vertical-count i) + 2 * close-pairs i)
       ∙ choose (cutoffOf cutoff) _)
 
 exactly : (s : SegmentColumns) (cutoff : Float) (words : ℕ) → NoneApplies (congestionConditions s cutoff words) → allPairs cutoff (segments s) .cost ≡ formula cutoff (segments s)

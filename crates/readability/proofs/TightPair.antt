@@ -1,6 +1,6 @@
 -- The tight pair. Assumes nothing.
 use mathlib.Core.Path.{_≡_, refl, ap, _∙_}
-use mathlib.Core.Option.{none, some}
+use mathlib.Core.Option.{none}
 use Prim.Native.Nat.{ℕ}
 use native.Mathlib.Omega.{arith}
 use lib.Ieee.{Float}
@@ -15,7 +15,7 @@ use Rattle.drawing.specs.Checks.{listConditions, entryConditions, tightPairCond
 use Rattle.clearance.specs.declared.tight_pair.TightPair.{TightPair}
 use Rattle.clearance.specs.declared.tight_pair.TightPair.the-variants as tightPair
 use Rattle.clearance.specs.Figures.{distances, figures}
-use Rattle.clearance.specs.TightPair.{found, answer, Answered, result}
+use Rattle.clearance.specs.TightPair.{found, answer, Answered, resultOf}
 use Rattle.readability.specs.Applies.{First, NoneApplies}
 use Rattle.readability.specs.TightPair.{Pair, TightPairs}
 use Rattle.readability.proofs.FirstMet.{Rising, first-refused, none-passed}
@@ -30,21 +30,21 @@ module _ (s : SegmentColumns) (n : NodeColumns) (e : ExemptionColumns) (r : Tigh
   unfolding answer
   answered c p g q = a .is ∙ (λ i. checked tightPair.Refused (p i) (found (q i) (a .choice)))
 
-  unfit : (k : ℕ) → First (tightPairConditions s n e) k → result r ≡ record { refused = some k; pair = none }
-  unfolding result
+  unfit : (k : ℕ) → First (tightPairConditions s n e) k → resultOf r ≡ (k, none)
+  unfolding resultOf
   unfit k f =
       let w = first-refused 0 (tightPairConditions s n e) (rises s n e) k f in
-      ap result (answered (Stopped (w .refusal)) (w .first) _ refl) ∙ ap (λ (j : ℕ). record { refused = some j; pair = none }) (w .number)
+      ap resultOf (answered (Stopped (w .refusal)) (w .first) _ refl) ∙ ap (λ (j : ℕ). (j, none)) (w .number)
 
-  no-pair : NoneApplies (tightPairConditions s n e) → (threshold : Float) → figures (exemptions e) threshold (segments s) (nodes n) .least ≡ Absent → result r ≡ record { refused = none; pair = none }
-  unfolding found result figures
-  no-pair h threshold g = ap result (answered Passed (none-passed (tightPairConditions s n e) h) Absent g)
+  no-pair : NoneApplies (tightPairConditions s n e) → (threshold : Float) → figures (exemptions e) threshold (segments s) (nodes n) .least ≡ Absent → resultOf r ≡ (0, none)
+  unfolding found resultOf figures
+  no-pair h threshold g = ap resultOf (answered Passed (none-passed (tightPairConditions s n e) h) Absent g)
 
   some-pair : NoneApplies (tightPairConditions s n e) → (threshold d : Float) → figures (exemptions e) threshold (segments s) (nodes n) .least ≡ Present d → Pair s n e r
-  unfolding found result figures
+  unfolding found resultOf figures
   some-pair h threshold d g =
       let is : r ≡ tightPair.Pair (a .choice .0) (a .choice .1) = answered Passed (none-passed (tightPairConditions s n e) h) (Present d) g in
-      record { segment = a .choice .0; node = a .choice .1; told = ap result is; tight = a .tight (a .choice .0) (a .choice .1) is }
+      record { segment = a .choice .0; node = a .choice .1; told = ap resultOf is; tight = a .tight (a .choice .0) (a .choice .1) is }
 
 pub tight-pairs : TightPairs
 tight-pairs = record { of-each = λ s n e r a. record { unfit = unfit s n e r a; no-pair = no-pair s n e r a; some-pair = some-pair s n e r a } }

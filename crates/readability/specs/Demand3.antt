@@ -21,6 +21,7 @@ use Rattle.readability.specs.Measures.{Measure, Run, Binary, resultOfRun
 pub record AnyTwo (m : Measure) (a b : Run m) : Type 0 where
   pub reordered : m .Reordered (a .drawing) (b .drawing)
   pub same-settings : a .settings ≡ b .settings
+  -- no part of the sentence: the type of the parameters, `f64`, says it of every call
   pub binary : Binary m a
   pub one-fit : NoneApplies (earlier m a)
   pub other-fit : NoneApplies (earlier m b)
@@ -41,8 +42,8 @@ pub record Depends (m : Measure) : Type 0 where
 
 -- ---- the counts
 -- "n is that orientation's segments"
-abbrev pub along : ℕ → List Segment → ℕ
-along orientation l = count (λ (s : Segment). eqb (s .orientation) orientation) l
+abbrev pub segmentsAlong : ℕ → List Segment → ℕ
+segmentsAlong orientation l = count (λ (s : Segment). eqb (s .orientation) orientation) l
 
 -- "and 2 to the power h its leaf count": the tree has a leaf for each different fixed coordinate, rounded up to a power of two
 abbrev pub height : ℕ → List Segment → ℕ
@@ -50,11 +51,11 @@ height orientation l = levels (length (lines (oriented orientation l)))
 
 -- "n times (10h + 5)"
 abbrev pub atMost : ℕ → List Segment → ℕ
-atMost orientation l = along orientation l * (10 * height orientation l + 5)
+atMost orientation l = segmentsAlong orientation l * (10 * height orientation l + 5)
 
 -- "Congestion: segments in orientations holding at least two, plus twice the close pairs of all nets, equal nets included; 0 if the cutoff is 0 or less." `atLeastTwo` of a number below two is 0. `closeFloats` compares floats: "same orientation, positive overlap, fixed gap below the cutoff", the gap one rounded subtraction.
 unfoldable pub formula : Float → List Segment → ℕ
-formula cutoff l = cond (lt plusZero cutoff) (atLeastTwo (along 1 l) + atLeastTwo (along 0 l) + 2 * count (λ p. closeFloats cutoff (p .0) (p .1)) (pairs l)) 0
+formula cutoff l = cond (lt plusZero cutoff) (atLeastTwo (segmentsAlong 1 l) + atLeastTwo (segmentsAlong 0 l) + 2 * count (λ p. closeFloats cutoff (p .0) (p .1)) (pairs l)) 0
 
 abbrev pub Formula : (m : Measure) → (m .Drawing → List Segment) → (m .Settings → Float) → Type 0
 Formula m list cutoff = (r : Run m) → NoneApplies (earlier m r) → visitCount m r ≡ formula (cutoff (r .settings)) (list (r .drawing))

@@ -93,44 +93,44 @@ abbrev told : (m : Measure) → m .Drawing → m .Settings → m .Allowance → 
 told m drawing settings allowance words = m .result (m .answer drawing settings allowance words)
 
 -- separation: least, least nonzero, visits
-abbrev separated : Gap → Gap → ℕ → separation .Result
-separated g h n = separation .accepted (record { least = g; leastNonzero = h }) n
+abbrev separationIs : Gap → Gap → ℕ → separation .Result
+separationIs g h n = separation .accepted (record { least = g; leastNonzero = h }) n
 
 -- clearance: least, violations, visits
-abbrev cleared : Gap → ℕ → ℕ → clearance .Result
-cleared g v n = clearance .accepted (record { least = g; violations = v }) n
+abbrev clearanceIs : Gap → ℕ → ℕ → clearance .Result
+clearanceIs g v n = clearance .accepted (record { least = g; violations = v }) n
 
 -- congestion: total, congested, pair overlap, peak, least nonzero close gap, visits
-abbrev congested : Float → Float → Float → ℕ → Gap → ℕ → density .Result
-congested t c o p g n = density .accepted (record { «total_length» = t; «congested_length» = c; «pair_overlap_length» = o; «peak_close_neighbors» = p }, g) n
+abbrev congestionIs : Float → Float → Float → ℕ → Gap → ℕ → density .Result
+congestionIs t c o p g n = density .accepted (record { «total_length» = t; «congested_length» = c; «pair_overlap_length» = o; «peak_close_neighbors» = p }, g) n
 
 pub record Marked : Type 0 where
   -- "(a) one segment, allowance 0: separation absent, 0 visits"
-  pub a : told separation (alone 1 zero zero ten) tt 0 96 ≡ separated Absent Absent 0
+  pub a : told separation (alone 1 zero zero ten) tt 0 96 ≡ separationIs Absent Absent 0
   -- "(b) D's separation accepted at 16, refused at 15"
-  pub b-accepted : told separation D tt 16 128 ≡ separated (Present four) (Present four) 16
+  pub b-accepted : told separation D tt 16 128 ≡ separationIs (Present four) (Present four) 16
   pub b-refused : told separation D tt 15 128 ≡ separation .refused 7
   -- "(c) D's congestion at 4 and 3"
-  pub c-accepted : told density D six 4 128 ≡ congested twenty ten five 1 (Present four) 4
+  pub c-accepted : told density D six 4 128 ≡ congestionIs twenty ten five 1 (Present four) 4
   pub c-refused : told density D six 3 128 ≡ density .refused 7
   -- "(d) 0 to 5 and 5 to 9, nets 1 and 2: absent"
-  pub d : told separation (pair 1 2 (zero, zero, five) (four, five, nine)) tt 1000 128 ≡ separated Absent Absent 14
+  pub d : told separation (pair 1 2 (zero, zero, five) (four, five, nine)) tt 1000 128 ≡ separationIs Absent Absent 14
   -- "(e) equal fixed, overlapping, two nets: least 0, nonzero absent"
-  pub e : told separation (pair 1 2 (four, zero, ten) (four, five, nine)) tt 1000 128 ≡ separated (Present zero) Absent 10
+  pub e : told separation (pair 1 2 (four, zero, ten) (four, five, nine)) tt 1000 128 ≡ separationIs (Present zero) Absent 10
   -- "(f) one net, gap 1: absent"
-  pub f : told separation (pair 1 1 (zero, zero, ten) (one, five, nine)) tt 1000 128 ≡ separated Absent Absent 14
+  pub f : told separation (pair 1 1 (zero, zero, ten) (one, five, nine)) tt 1000 128 ≡ separationIs Absent Absent 14
   -- "(g) distance 2, threshold 2: no violation"
-  pub g : told clearance (record { segments = alone 1 zero zero ten; nodes = node-7 two; exemptions = D-exemptions }) two 1000 160 ≡ cleared (Present two) 0 1
+  pub g : told clearance (record { segments = alone 1 zero zero ten; nodes = node-7 two; exemptions = D-exemptions }) two 1000 160 ≡ clearanceIs (Present two) 0 1
   -- "(h) no nodes, threshold -1: 5"
   pub h : told clearance (record { segments = D; nodes = no-nodes; exemptions = D-exemptions }) minus-one 1000 160 ≡ clearance .refused 5
   -- "(i) no segments, threshold 0: absent, 0, 0"
-  pub i : told clearance (record { segments = none; nodes = node-7 one; exemptions = D-exemptions }) zero 0 160 ≡ cleared Absent 0 0
+  pub i : told clearance (record { segments = none; nodes = node-7 one; exemptions = D-exemptions }) zero 0 160 ≡ clearanceIs Absent 0 0
   -- "(j) gap 4, cutoff 4, two overlapping segments: congested 0, 2 visits"
-  pub j : told density D four 2 128 ≡ congested twenty zero zero 0 Absent 2
+  pub j : told density D four 2 128 ≡ congestionIs twenty zero zero 0 Absent 2
   -- "(k) 1/64 and 1,048,576 pass, 1/128 gives 6"
-  pub k-passes : told density (alone 1 the-most a-64th a-32nd) a-64th 0 96 ≡ congested a-64th zero zero 0 Absent 0
+  pub k-passes : told density (alone 1 the-most a-64th a-32nd) a-64th 0 96 ≡ congestionIs a-64th zero zero 0 Absent 0
   pub k-off-the-grid : told density (alone 1 the-most a-128th a-32nd) a-64th 0 96 ≡ density .refused 6
   -- "(l) fixed -1 and -0, cutoff 1: not close"
-  pub l : told density (pair 1 2 (minus-one, zero, ten) (minus-zero, zero, ten)) one 2 128 ≡ congested twenty zero zero 0 Absent 2
+  pub l : told density (pair 1 2 (minus-one, zero, ten) (minus-zero, zero, ten)) one 2 128 ≡ congestionIs twenty zero zero 0 Absent 2
   -- D's sheet: "clearance 3ff0000000000000 1 2", "separation 4010000000000000 4010000000000000 16", "congestion 4034000000000000 4024000000000000 4014000000000000 1 4010000000000000 4"; the last two are (b) and (c)
-  pub sheet : told clearance (record { segments = D; nodes = node-7 one; exemptions = D-exemptions }) two 1000 160 ≡ cleared (Present one) 1 2
+  pub sheet : told clearance (record { segments = D; nodes = node-7 one; exemptions = D-exemptions }) two 1000 160 ≡ clearanceIs (Present one) 1 2

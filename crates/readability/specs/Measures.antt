@@ -16,6 +16,7 @@ use Rattle.drawing.specs.declared.gap.Gap.the-variants.{Absent, Present}
 use Rattle.drawing.specs.Entries.{Segment, Node, SegmentColumns, NodeColumns, ExemptionColumns, segments, nodes, exemptions}
 use Rattle.drawing.specs.Refusals.{firstOf, scratchAfter}
 use Rattle.drawing.specs.Checks.{clearanceConditions, separationConditions, congestionConditions}
+use Rattle.clearance.specs.declared.report.EdgeNodeClearance.{EdgeNodeClearance}
 use Rattle.clearance.specs.declared.report.ClearanceAnswer.{ClearanceAnswer}
 use Rattle.clearance.specs.Figures as ofClearance
 use Rattle.clearance.specs.Walk as clearanceWalk
@@ -66,6 +67,10 @@ pub record Measure : Type 1 where
   -- "A refusal returns its number and a report of zeros and absent gaps"
   pub refused : ℕ → Result
 
+-- ---- an allowance in visits reaches a count that is not above it
+abbrev pub visitsReach : ℕ → ℕ → Bool
+visitsReach allowance n = leb n allowance
+
 -- ---- floats of binary64
 abbrev pub Binary64 : Float → Type 0
 Binary64 x = T (fits binary64 x)
@@ -104,7 +109,7 @@ clearance = record {
   Settings = Float;
   Held = λ d threshold. SegmentsHeld (d .segments) × NodesHeld (d .nodes) × Binary64 threshold;
   Allowance = ℕ;
-  reaches = λ allowance n. leb n allowance;
+  reaches = visitsReach;
   conditions = λ d threshold words. clearanceConditions (d .segments) (d .nodes) (d .exemptions) threshold words;
   Figures = ofClearance.Figures;
   figures = λ d threshold. ofClearance.figures (exemptions (d .exemptions)) threshold (segments (d .segments)) (nodes (d .nodes));
@@ -113,10 +118,10 @@ clearance = record {
   count = λ d threshold. clearanceWalk.visitCount (exemptions (d .exemptions)) threshold (segments (d .segments)) (nodes (d .nodes));
   Answer = ClearanceAnswer;
   answer = λ d threshold allowance words. clearanceAnswer.answer (d .segments) (d .nodes) (d .exemptions) threshold allowance words;
-  Result = clearanceAnswer.Result;
-  result = clearanceAnswer.result;
-  accepted = clearanceAnswer.acceptedResult;
-  refused = clearanceAnswer.refusedResult;
+  Result = ℕ × EdgeNodeClearance;
+  result = clearanceAnswer.resultOf;
+  accepted = λ f n. (0, clearanceAnswer.reportOf f n);
+  refused = λ k. (k, clearanceAnswer.zeros);
 }
 
 -- ---- `measure_parallel_separation_bounded`, which has no settings
@@ -127,7 +132,7 @@ separation = record {
   Settings = Unit {0};
   Held = λ s none. SegmentsHeld s;
   Allowance = ℕ;
-  reaches = λ allowance n. leb n allowance;
+  reaches = visitsReach;
   conditions = λ s none words. separationConditions s words;
   Figures = ofSeparation.Figures;
   figures = λ s none. ofSeparation.figures (segments s);
@@ -139,7 +144,7 @@ separation = record {
   Result = ℕ × ParallelSeparation;
   result = separationAnswer.resultOf;
   accepted = λ f n. (0, separationAnswer.reportOf f n);
-  refused = λ k. (k, record { minimum = Absent; «minimum_positive» = Absent; visits = 0 });
+  refused = λ k. (k, separationAnswer.zeros);
 }
 
 -- ---- the three calls of congestion, whose figures are a part of one report
@@ -167,11 +172,11 @@ ofCongestion part A reach answers = record {
 
 -- `measure_parallel_density_profile_bounded`: "the congestion reference"
 abbrev pub density : Measure
-density = ofCongestion (λ c. c) ℕ (λ allowance n. leb n allowance) densityAnswer
+density = ofCongestion (λ c. c) ℕ visitsReach densityAnswer
 
 -- `measure_parallel_congestion_profile_bounded`: "is the same with pair overlap and peak zero"
 abbrev pub profile : Measure
-profile = ofCongestion withoutDensity ℕ (λ allowance n. leb n allowance) profileAnswer
+profile = ofCongestion withoutDensity ℕ visitsReach profileAnswer
 
 -- `measure_parallel_congestion`: "an allowance that always reaches"
 abbrev pub congestion : Measure

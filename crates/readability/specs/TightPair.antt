@@ -9,7 +9,7 @@ use Rattle.drawing.specs.declared.gap.Gap.the-variants.{Absent, Present}
 use Rattle.drawing.specs.Entries.{SegmentColumns, NodeColumns, ExemptionColumns, segments, nodes, exemptions}
 use Rattle.drawing.specs.Checks.{tightPairConditions}
 use Rattle.clearance.specs.declared.tight_pair.TightPair.{TightPair}
-use Rattle.clearance.specs.TightPair.{Tight, Answered, result}
+use Rattle.clearance.specs.TightPair.{Tight, Answered, resultOf}
 use Rattle.readability.specs.Applies.{First, NoneApplies}
 use Rattle.readability.specs.Measures.{clearance}
 
@@ -22,14 +22,14 @@ module _ (s : SegmentColumns) (n : NodeColumns) (e : ExemptionColumns) (r : Tigh
   pub record Pair : Type 0 where
     pub segment : ℕ
     pub node : ℕ
-    pub told : result r ≡ record { refused = none; pair = some (segment, node) }
+    pub told : resultOf r ≡ (0, some (segment, node))
     pub tight : Tight (exemptions e) (segments s) (nodes n) segment node
 
   pub record Holds : Type 0 where
     -- "for the tight pair, an absent pair"
-    pub unfit : (k : ℕ) → First (tightPairConditions s n e) k → result r ≡ record { refused = some k; pair = none }
+    pub unfit : (k : ℕ) → First (tightPairConditions s n e) k → resultOf r ≡ (k, none)
     -- "or absent if there is none"
-    pub no-pair : NoneApplies (tightPairConditions s n e) → (threshold : Float) → leastClearance threshold ≡ Absent → result r ≡ record { refused = none; pair = none }
+    pub no-pair : NoneApplies (tightPairConditions s n e) → (threshold : Float) → leastClearance threshold ≡ Absent → resultOf r ≡ (0, none)
     -- "any pair .. that is not exempt and whose distance is the least clearance"
     pub some-pair : NoneApplies (tightPairConditions s n e) → (threshold least : Float) → leastClearance threshold ≡ Present least → Pair
 

@@ -1,3 +1,4 @@
--- The columns that a list of records stands for, and how it gets there.
+-- The columns that a list of records stands for.
 pub mod Records
+-- what only private contracts cite
 pub mod Lines

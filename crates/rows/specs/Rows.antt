@@ -1,4 +1,4 @@
--- The segments of one orientation as rows in the Rust's own order, and their events in order: what the sweeps of separation and of congestion go over.
+-- The segments of one orientation as rows in the Rust's own order, and their events in order: separation's walk is defined over them, and the code of both sweeps goes over them. Congestion's walk is defined over wires in 64ths.
 use mathlib.Core.Bool.{Bool}
 use mathlib.Core.List.{List, [], _∷_}
 use Prim.Native.Nat.{ℕ, suc}
@@ -12,7 +12,7 @@ use Rattle.floats.specs.Values.{canonicalZero}
 use Rattle.drawing.specs.Entries.{Segment}
 use Rattle.drawing.specs.Orders.{segmentsInOrder}
 
--- a segment's coordinates as these measures take them: "Zeros become +0." and "Congestion turns -0 into +0 first, as separation does."
+-- a segment's coordinates as these measures take them: "Zeros become +0."
 unfoldable pub fixedOf : Segment → Float
 fixedOf s = canonicalZero (s .fixed)
 
@@ -23,7 +23,7 @@ startOf s = canonicalZero (s .start)
 unfoldable pub endOf : Segment → Float
 endOf s = canonicalZero (s .end)
 
--- a segment's net, and its coordinates by their places in totalOrder, `line` being that of the fixed one
+-- a segment's net, and its coordinates by their places in totalOrder, `line` being that of the fixed one; `floatAt` gives the coordinate at a place back
 pub record Row : Type 0 where
   pub net : ℕ
   pub line : ℕ

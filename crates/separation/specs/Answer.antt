@@ -30,7 +30,11 @@ separation s allowance words =
     let settled = settle accepted (Refused WorkLimitExceeded) allowance (allPairs (segments s)) in
     checked Refused (firstOf (separationConditions s words)) settled
 
+-- "a report of zeros and absent gaps"
+abbrev pub zeros : ParallelSeparation
+zeros = record { minimum = Absent; «minimum_positive» = Absent; visits = 0 }
+
 -- "A refusal returns its number and a report of zeros and absent gaps": each case by its number, 0 for a report, and its values
 unfoldable pub resultOf : SeparationAnswer → ℕ × ParallelSeparation
 resultOf (Report p) = (0, p)
-resultOf (Refused r) = (numberOf r, record { minimum = Absent; «minimum_positive» = Absent; visits = 0 })
+resultOf (Refused r) = (numberOf r, zeros)

@@ -3,10 +3,10 @@ pub mod Figures
 pub mod Lines
 pub mod Searches
 pub mod Walk
-pub mod Summaries
 pub mod TwoNets
 pub mod Answer
 -- what only private contracts cite
+pub mod Summaries
 pub mod ActiveTree
 pub mod ActiveNets
 pub mod Prepared

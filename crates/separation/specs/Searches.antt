@@ -12,7 +12,7 @@ use Rattle.separation.specs.declared.tree.Search.{Search}
 use Rattle.separation.specs.declared.tree.Search.the-variants.{Found, Empty, Spent}
 use Rattle.separation.specs.Lines.{index}
 
--- some active segment of another net than n lies on a line from a up to b: what the Rust's summaries decide (`two-nets-decide` in proofs/TwoNets.antt)
+-- some active segment of another net than n lies on a line from a on, before b: what the Rust's summaries decide (`two-nets-decide` in proofs/TwoNets.antt)
 unfoldable pub otherIn : List ℕ → List Row → ℕ → ℕ → ℕ → Bool
 otherIn ls active n a b = some-of (λ r. not (eqb (r .net) n) && (leb a (index ls (r .line)) && ltb (index ls (r .line)) b)) active
 
@@ -31,7 +31,7 @@ abbrev pub node : Bool → Charged (Option ℕ) → Charged (Option ℕ) → Cha
 node true one two = visit (after one (λ r. orElse r two))
 node false one two = visit (free none)
 
--- `search_rightmost` from node k: the last leaf below q for which `has` holds. `has` is asked with a node's number, its first leaf and its end.
+-- `search_rightmost` from node k: the last leaf below q for which `has` holds. `has` is asked with a node's number, which only the tree in the scratch needs, its first leaf and its end.
 unfoldable pub rightmost : (ℕ → ℕ → ℕ → Bool) → ℕ → ℕ → ℕ → ℕ → Charged (Option ℕ)
 rightmost has q zero k s = leaf (ltb s q && has k s (s + 1)) s
 rightmost has q (suc h) k s =

@@ -1,7 +1,6 @@
 -- `exports::clearance_call::clearance_status` meets its contract: case by case. Assumes nothing.
 use mathlib.Core.Path.{sym, ap, _∙_}
-use Rattle.clearance.specs.Answer.{result}
-use Rattle.exports.specs.Told.{status}
+use Rattle.clearance.specs.Answer.{resultOf}
 use borrow.Author.Needs.{needs}
 use Rattle.exports.proofs.clearance_call.clearance_status.Statement.{statement}
 use Rattle.exports.proofs.clearance_call.clearance_status.Tie as tie
@@ -19,12 +18,12 @@ cast-result : tie.Need-cast-result
 cast-result c = search needs
 
 returns : tie.Need-returns
-unfolding status result
-returns c = sym (ap (λ a. status (result a .refused)) (c .enum-told .given .1))
+unfolding resultOf
+returns c = sym (ap (λ a. resultOf a .0) (c .enum-told .given .1))
 
 returns-2 : tie.Need-returns-2
-unfolding status result
-returns-2 c = c .number .ensures ∙ sym (ap (λ a. status (result a .refused)) (c .before .before .told .given .1))
+unfolding resultOf
+returns-2 c = c .number .ensures ∙ sym (ap (λ a. resultOf a .0) (c .before .before .told .given .1))
 
 pub clearance-status-spec : {M : Type 1} → statement M
 clearance-status-spec =

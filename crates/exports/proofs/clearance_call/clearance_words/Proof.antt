@@ -1,6 +1,6 @@
 -- `exports::clearance_call::clearance_words` meets its contract: case by case. Assumes nothing.
 use mathlib.Core.Path.{refl, sym, ap}
-use Rattle.clearance.specs.Answer.{result}
+use Rattle.clearance.specs.Answer.{resultOf}
 use Rattle.exports.specs.Told.{presentWord, bitsWord, clearanceWords}
 use borrow.Author.Needs.{needs}
 use Rattle.exports.proofs.clearance_call.clearance_words.Statement.{statement}
@@ -13,8 +13,8 @@ enum-told : tie.Need-enum-told
 enum-told c = search needs
 
 returns : tie.Need-returns
-unfolding clearanceWords presentWord bitsWord result
-returns c = sym (ap (λ a. clearanceWords (result a)) (c .enum-told .given .1))
+unfolding clearanceWords presentWord bitsWord resultOf
+returns c = sym (ap (λ a. clearanceWords (resultOf a .1)) (c .enum-told .given .1))
 
 present-word-requires : tie.Need-present-word-requires
 present-word-requires c κs = search needs
@@ -23,7 +23,7 @@ bits-word-requires : tie.Need-bits-word-requires
 bits-word-requires c κs = search needs
 
 returns-2 : tie.Need-returns-2
-unfolding clearanceWords result
+unfolding clearanceWords resultOf
 returns-2 c = rw (c .before .before .before .told .given .1, c .bits-word .ensures, c .before .present-word .ensures) refl
 
 pub clearance-words-spec : {M : Type 1} → statement M

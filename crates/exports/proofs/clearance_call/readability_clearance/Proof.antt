@@ -1,7 +1,7 @@
 -- `exports::clearance_call::readability_clearance` meets its contract: the call's own, with its answer told in numbers. Assumes nothing.
 use mathlib.Core.Path.{ap, _∙_}
-use Rattle.clearance.specs.Answer.{result}
-use Rattle.exports.specs.Told.{status, clearanceWords}
+use Rattle.clearance.specs.Answer.{resultOf}
+use Rattle.exports.specs.Told.{clearanceWords}
 use borrow.Author.Needs.{needs}
 use Rattle.exports.proofs.clearance_call.readability_clearance.Statement.{statement}
 use Rattle.exports.proofs.clearance_call.readability_clearance.Tie as tie
@@ -22,8 +22,8 @@ same-length c = search needs
 returns : tie.Need-returns
 returns c =
     let measured = c .before .before .before .before .measure-edge-node-clearance-bounded in (
-      c .clearance-status .ensures ∙ ap (λ a. status (result a .refused)) (measured .ensures .0),
-      (c .before .clearance-words .ensures ∙ ap (λ a. clearanceWords (result a)) (measured .ensures .0), measured .ensures .1),
+      c .clearance-status .ensures ∙ ap (λ a. resultOf a .0) (measured .ensures .0),
+      (c .before .clearance-words .ensures ∙ ap (λ a. clearanceWords (resultOf a .1)) (measured .ensures .0), measured .ensures .1),
     )
 
 pub readability-clearance-spec : {M : Type 1} → statement M

@@ -2,8 +2,8 @@
 mod Lts
 mod Tie
 use mathlib.Core.Path.{ap, _∙_}
-use Rattle.clearance.specs.Answer.{result}
-use Rattle.exports.specs.Told.{status, clearanceWords}
+use Rattle.clearance.specs.Answer.{resultOf}
+use Rattle.exports.specs.Told.{clearanceWords}
 use borrow.Author.Needs.{needs}
 use Rattle.exports.proofs.records_call.readability_clearance_by_records.Statement.{statement}
 use Rattle.exports.proofs.records_call.readability_clearance_by_records.Proof.Tie as tie
@@ -20,8 +20,8 @@ same-length c = search needs
 returns : tie.Need-returns
 returns c =
     let measured = c .before .before .before .before .measure-edge-node-clearance-bounded-by-records in (
-      c .tell-clearance .ensures .0 ∙ ap (λ a. status (result a .refused)) (measured .ensures .0),
-      (c .tell-clearance .ensures .1 ∙ ap (λ a. clearanceWords (result a)) (measured .ensures .0), measured .ensures .1),
+      c .tell-clearance .ensures .0 ∙ ap (λ a. resultOf a .0) (measured .ensures .0),
+      (c .tell-clearance .ensures .1 ∙ ap (λ a. clearanceWords (resultOf a .1)) (measured .ensures .0), measured .ensures .1),
     )
 
 pub readability-clearance-by-records-spec : {M : Type 1} → statement M

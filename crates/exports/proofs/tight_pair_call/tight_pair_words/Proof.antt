@@ -1,6 +1,6 @@
 -- `exports::tight_pair_call::tight_pair_words` meets its contract: case by case. Assumes nothing.
 use mathlib.Core.Path.{sym, ap}
-use Rattle.clearance.specs.TightPair.{result}
+use Rattle.clearance.specs.TightPair.{resultOf}
 use Rattle.exports.specs.Told.{pairWords}
 use borrow.Author.Needs.{needs}
 use Rattle.exports.proofs.tight_pair_call.tight_pair_words.Statement.{statement}
@@ -16,16 +16,16 @@ enum-told-2 : tie.Need-enum-told-2
 enum-told-2 c = search needs
 
 returns : tie.Need-returns
-unfolding pairWords result
-returns c = sym (ap (λ a. pairWords (result a .pair)) (c .before .told .given .1))
+unfolding pairWords resultOf
+returns c = sym (ap (λ a. pairWords (resultOf a .1)) (c .before .told .given .1))
 
 returns-2 : tie.Need-returns-2
-unfolding pairWords result
-returns-2 c = sym (ap (λ a. pairWords (result a .pair)) (c .enum-told .given .1))
+unfolding pairWords resultOf
+returns-2 c = sym (ap (λ a. pairWords (resultOf a .1)) (c .enum-told .given .1))
 
 returns-3 : tie.Need-returns-3
-unfolding pairWords result
-returns-3 c = sym (ap (λ a. pairWords (result a .pair)) (c .enum-told2 .given .1))
+unfolding pairWords resultOf
+returns-3 c = sym (ap (λ a. pairWords (resultOf a .1)) (c .enum-told2 .given .1))
 
 pub tight-pair-words-spec : {M : Type 1} → statement M
 tight-pair-words-spec =
