@@ -19,8 +19,8 @@ use crate::{
 /// The most entries that a list may hold.
 pub const MOST_ENTRIES: usize = 4_096;
 
-/// The words of scratch that a call needs, if it is lent no more than that. The
-/// calls that take no nodes count 0 of them.
+/// The words of scratch that a call needs; more may be lent. The calls that take
+/// no nodes count 0 of them.
 pub fn scratch_words(segments: usize, nodes: usize) -> usize {
     segments
         .saturating_add(nodes)

@@ -1,10 +1,6 @@
 //! The functions of the port's library, called with slices. All unsafe code is
 //! here.
 //!
-//! The declarations stand for `crates/exports`; nothing holds the two against
-//! each other but the tests. A slice passes as a pointer and a length, an array
-//! as a pointer.
-//!
 //! Every call is sound. The pointers and lengths are those of slices that live
 //! through it. Only the scratch, the words of the report and the text of the
 //! sheet are written, and each is borrowed for writing, so that nothing overlaps
@@ -12,151 +8,14 @@
 
 #![allow(unsafe_code)]
 
-use crate::columns::{NodeColumns, RelationColumns, SegmentColumns};
-
-extern "C" {
-    #[link_name = "readability_clearance"]
-    fn exported_clearance(
-        net: *const u32,
-        net_length: usize,
-        orientation: *const u8,
-        orientation_length: usize,
-        fixed: *const f64,
-        fixed_length: usize,
-        start: *const f64,
-        start_length: usize,
-        end: *const f64,
-        end_length: usize,
-        id: *const u32,
-        id_length: usize,
-        x: *const f64,
-        x_length: usize,
-        y: *const f64,
-        y_length: usize,
-        width: *const f64,
-        width_length: usize,
-        height: *const f64,
-        height_length: usize,
-        exempt_net: *const u32,
-        exempt_net_length: usize,
-        exempt_node: *const u32,
-        exempt_node_length: usize,
-        threshold: f64,
-        allowance: usize,
-        scratch: *mut u64,
-        scratch_length: usize,
-        out: *mut [u64; 4],
-    ) -> u32;
-
-    #[link_name = "readability_separation"]
-    fn exported_separation(
-        net: *const u32,
-        net_length: usize,
-        orientation: *const u8,
-        orientation_length: usize,
-        fixed: *const f64,
-        fixed_length: usize,
-        start: *const f64,
-        start_length: usize,
-        end: *const f64,
-        end_length: usize,
-        allowance: usize,
-        scratch: *mut u64,
-        scratch_length: usize,
-        out: *mut [u64; 5],
-    ) -> u32;
-
-    #[link_name = "readability_density_profile"]
-    fn exported_density_profile(
-        net: *const u32,
-        net_length: usize,
-        orientation: *const u8,
-        orientation_length: usize,
-        fixed: *const f64,
-        fixed_length: usize,
-        start: *const f64,
-        start_length: usize,
-        end: *const f64,
-        end_length: usize,
-        cutoff: f64,
-        allowance: usize,
-        scratch: *mut u64,
-        scratch_length: usize,
-        out: *mut [u64; 7],
-    ) -> u32;
-
-    #[link_name = "readability_congestion_profile"]
-    fn exported_congestion_profile(
-        net: *const u32,
-        net_length: usize,
-        orientation: *const u8,
-        orientation_length: usize,
-        fixed: *const f64,
-        fixed_length: usize,
-        start: *const f64,
-        start_length: usize,
-        end: *const f64,
-        end_length: usize,
-        cutoff: f64,
-        allowance: usize,
-        scratch: *mut u64,
-        scratch_length: usize,
-        out: *mut [u64; 7],
-    ) -> u32;
-
-    #[link_name = "readability_congestion"]
-    fn exported_congestion(
-        net: *const u32,
-        net_length: usize,
-        orientation: *const u8,
-        orientation_length: usize,
-        fixed: *const f64,
-        fixed_length: usize,
-        start: *const f64,
-        start_length: usize,
-        end: *const f64,
-        end_length: usize,
-        cutoff: f64,
-        scratch: *mut u64,
-        scratch_length: usize,
-        out: *mut [u64; 7],
-    ) -> u32;
-
-    #[link_name = "readability_ratio"]
-    fn exported_ratio(total: f64, congested: f64) -> f64;
-
-    #[link_name = "readability_tight_pair"]
-    fn exported_tight_pair(
-        net: *const u32,
-        net_length: usize,
-        orientation: *const u8,
-        orientation_length: usize,
-        fixed: *const f64,
-        fixed_length: usize,
-        start: *const f64,
-        start_length: usize,
-        end: *const f64,
-        end_length: usize,
-        id: *const u32,
-        id_length: usize,
-        x: *const f64,
-        x_length: usize,
-        y: *const f64,
-        y_length: usize,
-        width: *const f64,
-        width_length: usize,
-        height: *const f64,
-        height_length: usize,
-        exempt_net: *const u32,
-        exempt_net_length: usize,
-        exempt_node: *const u32,
-        exempt_node_length: usize,
-        out: *mut [u64; 3],
-    ) -> u32;
-
-    #[link_name = "readability_sheet"]
-    fn exported_sheet(bytes: *const u8, bytes_length: usize, text: *mut [u8; 256]) -> usize;
-}
+use crate::{
+    columns::{NodeColumns, RelationColumns, SegmentColumns},
+    declarations::{
+        readability_clearance, readability_congestion, readability_congestion_profile,
+        readability_density_profile, readability_ratio, readability_separation, readability_sheet,
+        readability_tight_pair, SHEET_BYTES,
+    },
+};
 
 /// Calls a function with columns, each as a pointer and a length, then with the
 /// other arguments, and last with the words that it writes. Gives its status and
@@ -182,7 +41,7 @@ pub fn clearance(
 ) -> (u32, [u64; 4]) {
     let (s, n, r) = (segments, nodes, relations);
     call!(
-        exported_clearance,
+        readability_clearance,
         [
             s.net,
             s.orientation,
@@ -209,7 +68,7 @@ pub fn separation(
 ) -> (u32, [u64; 5]) {
     let s = segments;
     call!(
-        exported_separation,
+        readability_separation,
         [s.net, s.orientation, s.fixed, s.start, s.end],
         [allowance, scratch.as_mut_ptr(), scratch.len()],
         5
@@ -224,7 +83,7 @@ pub fn density_profile(
 ) -> (u32, [u64; 7]) {
     let s = segments;
     call!(
-        exported_density_profile,
+        readability_density_profile,
         [s.net, s.orientation, s.fixed, s.start, s.end],
         [cutoff, allowance, scratch.as_mut_ptr(), scratch.len()],
         7
@@ -239,7 +98,7 @@ pub fn congestion_profile(
 ) -> (u32, [u64; 7]) {
     let s = segments;
     call!(
-        exported_congestion_profile,
+        readability_congestion_profile,
         [s.net, s.orientation, s.fixed, s.start, s.end],
         [cutoff, allowance, scratch.as_mut_ptr(), scratch.len()],
         7
@@ -253,7 +112,7 @@ pub fn congestion(
 ) -> (u32, [u64; 7]) {
     let s = segments;
     call!(
-        exported_congestion,
+        readability_congestion,
         [s.net, s.orientation, s.fixed, s.start, s.end],
         [cutoff, scratch.as_mut_ptr(), scratch.len()],
         7
@@ -267,7 +126,7 @@ pub fn tight_pair(
 ) -> (u32, [u64; 3]) {
     let (s, n, r) = (segments, nodes, relations);
     call!(
-        exported_tight_pair,
+        readability_tight_pair,
         [
             s.net,
             s.orientation,
@@ -290,13 +149,13 @@ pub fn tight_pair(
 /// It takes and gives numbers only.
 pub fn ratio(total: f64, congested: f64) -> f64 {
     // SAFETY: there is no pointer.
-    unsafe { exported_ratio(total, congested) }
+    unsafe { readability_ratio(total, congested) }
 }
 
 /// The length of a sheet's text, and the text with zeros behind it.
-pub fn sheet(bytes: &[u8]) -> (usize, [u8; 256]) {
-    let mut text = [0; 256];
+pub fn sheet(bytes: &[u8]) -> (usize, [u8; SHEET_BYTES]) {
+    let mut text = [0; SHEET_BYTES];
     // SAFETY: see the top of the file.
-    let length = unsafe { exported_sheet(bytes.as_ptr(), bytes.len(), &mut text) };
+    let length = unsafe { readability_sheet(bytes.as_ptr(), bytes.len(), &mut text) };
     (length, text)
 }

@@ -35,8 +35,9 @@
 //!   (refusal 6), a NaN or infinite one and a start not below its end (5). The
 //!   module takes all floats there, and may panic or give wrong figures.
 //!
-//! Congestion of no segments has a total of +0, where the module's sign depends
-//! on the version of Rust.
+//! Congestion turns every -0 into +0 first, as separation does in the module too,
+//! and its total for no segments is +0, where the module's sign depends on the
+//! version of Rust.
 //!
 //! # How refusals appear
 //!
@@ -81,6 +82,7 @@ compile_error!("the port's library links only into x86-64 programs");
 mod clearance;
 pub mod columns;
 mod congestion;
+mod declarations;
 mod exported;
 mod refusal;
 mod separation;

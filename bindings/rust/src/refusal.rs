@@ -48,7 +48,8 @@ impl Refusal {
             4 => Self::ShortScratch,
             5 => Self::InvalidInput,
             6 => Self::OffGrid,
-            _ => Self::WorkLimitExceeded,
+            7 => Self::WorkLimitExceeded,
+            _ => unreachable!("the port has no status {status}"),
         })
     }
 }

@@ -22,22 +22,26 @@ pub struct Segments {
 
 impl Segments {
     pub fn of_routes(list: &[EdgeNodeSegment]) -> Self {
-        Self {
-            net: column(list, |segment| segment.net),
-            orientation: column(list, |segment| u8::from(segment.horizontal)),
-            fixed: column(list, |segment| segment.fixed),
-            start: column(list, |segment| segment.start),
-            end: column(list, |segment| segment.end),
-        }
+        Self::of(list, |route| ParallelSegment {
+            net: route.net,
+            horizontal: route.horizontal,
+            fixed: route.fixed,
+            start: route.start,
+            end: route.end,
+        })
     }
 
     pub fn of_wires(list: &[ParallelSegment]) -> Self {
+        Self::of(list, |wire| *wire)
+    }
+
+    fn of<E>(list: &[E], wire: impl Fn(&E) -> ParallelSegment) -> Self {
         Self {
-            net: column(list, |segment| segment.net),
-            orientation: column(list, |segment| u8::from(segment.horizontal)),
-            fixed: column(list, |segment| segment.fixed),
-            start: column(list, |segment| segment.start),
-            end: column(list, |segment| segment.end),
+            net: column(list, |entry| wire(entry).net),
+            orientation: column(list, |entry| u8::from(wire(entry).horizontal)),
+            fixed: column(list, |entry| wire(entry).fixed),
+            start: column(list, |entry| wire(entry).start),
+            end: column(list, |entry| wire(entry).end),
         }
     }
 
@@ -103,6 +107,8 @@ impl Relations {
     }
 }
 
+/// A field of every entry. A call refuses more than `MOST_ENTRIES` whatever they
+/// are, so one more of them is enough.
 fn column<E, T>(list: &[E], field: impl Fn(&E) -> T) -> Vec<T> {
-    list.iter().map(field).collect()
+    list.iter().take(MOST_ENTRIES + 1).map(field).collect()
 }

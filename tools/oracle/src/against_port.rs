@@ -74,7 +74,7 @@ fn differences_by(
     let measure = call.measure();
     let mut tried = Tried {
         call,
-        random: Random::new(drawing.entries() as u64),
+        random: drawing.random(),
         found: Vec::new(),
     };
     let need = scratch_words(measure, drawing);
@@ -378,7 +378,7 @@ const LENGTHS: [f64; 12] = [
 /// lengths, if there is a report, and some of any lengths. The bits of a NaN
 /// are left open.
 pub fn ratio_differences(drawing: &Drawing, answer: &Answer) -> Vec<String> {
-    let mut random = Random::new(drawing.entries() as u64);
+    let mut random = drawing.random();
     let mut pairs: Vec<[f64; 2]> = (0..8)
         .map(|_| [(); 2].map(|()| any_length(&mut random)))
         .collect();

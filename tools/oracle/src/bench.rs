@@ -17,7 +17,8 @@ use crate::{
     values::GRID_STEP,
 };
 
-/// A drawing, by the numbers that decide how far a walk goes.
+/// A drawing, by the numbers that decide how far a walk goes. It has as many nodes
+/// as segments.
 struct Kind {
     name: &'static str,
     segments: usize,
@@ -71,7 +72,7 @@ const DENSE: Kind = Kind {
 };
 
 const ALL_IN_REACH: Kind = Kind {
-    name: "all in reach",
+    name: "all boxes in reach",
     reach: 1_000_000.0,
     ..DENSE
 };
@@ -120,18 +121,26 @@ const OUT_OF_REACH: Kind = Kind {
     ..ALL_OVERLAPPING
 };
 
-const CLEARANCE: [Kind; 6] = [
+const CLEARANCE: [Kind; 8] = [
     SPARSE,
+    Kind {
+        segments: 256,
+        ..DENSE
+    },
+    Kind {
+        segments: 1_024,
+        ..DENSE
+    },
     DENSE,
     ALL_IN_REACH,
     ONE_NET,
     Kind {
-        name: "exemptions",
+        name: "4,096 exemptions",
         exemptions: CALL_LIMITS.exemptions,
         ..DENSE
     },
     Kind {
-        name: "exemptions, all in reach",
+        name: "4,096 exemptions, all boxes in reach",
         exemptions: CALL_LIMITS.exemptions,
         ..ALL_IN_REACH
     },
@@ -168,7 +177,7 @@ const CONGESTION: [Kind; 11] = [
     ONE_NET,
     ONE_LINE,
     Kind {
-        name: "one extent, own nets",
+        name: "one line, one extent, own nets",
         segments: 2_048,
         lines: Lines::Alike,
         ..DENSE
@@ -197,7 +206,7 @@ pub fn bench(runs: u64) -> Result<(), String> {
         (Measure::Congestion, &CONGESTION[..]),
     ] {
         println!(
-            "{:<28}{:>8}{:>10}{:>10}{:>10}{:>8}{:>8}{:>10}",
+            "{:<38}{:>8}{:>10}{:>10}{:>10}{:>8}{:>8}{:>10}",
             measure.name(),
             "segments",
             "visits",
@@ -222,7 +231,7 @@ fn bench_kind(measure: Measure, kind: &Kind, runs: u64) -> Result<(), String> {
     })?;
     let [rust, port, clearing] = best(&times);
     println!(
-        "{:<28}{:>8}{visits:>10}{rust:>10.3}{port:>10.3}{:>8.3}{:>8.3}{clearing:>10.3}",
+        "{:<38}{:>8}{visits:>10}{rust:>10.3}{port:>10.3}{:>8.3}{:>8.3}{clearing:>10.3}",
         kind.name,
         kind.segments,
         port / rust,
@@ -290,13 +299,13 @@ fn drawing(kind: &Kind, random: &mut Random) -> Drawing {
         segments: (0..kind.segments)
             .map(|place| segment(kind, place, random))
             .collect(),
-        nodes: (0..CALL_LIMITS.nodes)
+        nodes: (0..kind.segments)
             .map(|id| node(kind, id as u32, random))
             .collect(),
         exemptions: (0..kind.exemptions)
             .map(|_| Exemption {
                 net: random.below(kind.nets) as u32,
-                node: random.below(CALL_LIMITS.nodes) as u32,
+                node: random.below(kind.segments) as u32,
             })
             .collect(),
         threshold: kind.reach,

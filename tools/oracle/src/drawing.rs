@@ -3,6 +3,8 @@
 
 use std::cmp::Ordering;
 
+use crate::{file, random::Random};
+
 pub const VERTICAL: u8 = 0;
 pub const HORIZONTAL: u8 = 1;
 
@@ -111,6 +113,13 @@ impl Drawing {
     /// How many entries its three lists hold together.
     pub fn entries(&self) -> usize {
         self.segments.len() + self.nodes.len() + self.exemptions.len()
+    }
+
+    /// A generator for what is tried on the drawing. It depends on every bit of
+    /// the drawing and on nothing else, so that drawings are tried differently and
+    /// each one is tried the same way again.
+    pub fn random(&self) -> Random {
+        Random::of_bytes(&file::write(self))
     }
 
     /// The same drawing with the zeros of its segments made +0.

@@ -12,7 +12,6 @@ use crate::{
     generate::Aim,
     listing::listing,
     pairs::{self, Congestion},
-    random::Random,
     reference::{self, Fault, Fed, Run},
     refusals::{settle, Refusal, PROGRAM_LIMITS},
     report::{Answer, Measure, Report, MEASURES},
@@ -248,7 +247,7 @@ fn within_program_limits(drawing: &Drawing) -> bool {
 
 /// The drawing with its lists shuffled, always in the same way.
 fn reordered(drawing: &Drawing) -> Drawing {
-    let mut random = Random::new(drawing.entries() as u64);
+    let mut random = drawing.random();
     let mut reordered = drawing.clone();
     random.shuffle(&mut reordered.segments);
     random.shuffle(&mut reordered.nodes);

@@ -6,7 +6,12 @@
 mod against_port;
 #[cfg(port)]
 mod bench;
+#[cfg(all(port, test))]
+mod c_tests;
 mod check;
+#[cfg(port)]
+#[path = "../../../bindings/rust/src/declarations.rs"]
+mod declarations;
 mod drawing;
 mod drawings;
 mod examine;
@@ -93,7 +98,11 @@ fn run(words: &[&str]) -> Result<ExitCode, String> {
         ["sheet"] => output(sheet_of_input(sheet::by_reference)?.as_bytes()),
         ["pairs"] => output(sheet_of_input(sheet::by_pairs)?.as_bytes()),
         ["check", count, seed] => {
-            let differ = check::check(number(count)?, number(seed)?);
+            let count = number(count)?;
+            if count == 0 {
+                return Err("nothing is compared: N is 1 or more".to_string());
+            }
+            let differ = check::check(count, number(seed)?);
             Ok(if differ == 0 {
                 ExitCode::SUCCESS
             } else {
@@ -147,7 +156,7 @@ fn bench_runs(runs: u64) -> Result<ExitCode, String> {
 
 #[cfg(not(port))]
 fn bench_runs(_runs: u64) -> Result<ExitCode, String> {
-    Err("the port is not linked: run `rt staticlib exports` and build again".to_string())
+    Err("the port is not linked: run `tools/build-port` and build again".to_string())
 }
 
 fn number(word: &str) -> Result<u64, String> {

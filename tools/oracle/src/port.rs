@@ -1,126 +1,24 @@
 //! The port: the proved library, called by columns, by records, or with the
 //! bytes of a drawing file.
 //!
-//! The declarations below stand for `crates/exports`; nothing holds the two
-//! against each other but this comparison. A slice passes as a pointer and a
-//! length, an array as a pointer.
+//! The declarations, those of the Rust package and those below, stand for
+//! `crates/exports`; nothing holds the two against each other but this
+//! comparison. A slice passes as a pointer and a length, an array as a pointer.
 
 use crate::{
+    declarations::{
+        readability_clearance, readability_congestion, readability_congestion_profile,
+        readability_density_profile, readability_ratio, readability_separation, readability_sheet,
+        readability_tight_pair, SHEET_BYTES,
+    },
     drawing::Drawing,
     refusals::{scratch_need, Lent},
     report::{Answer, Figure, Measure, Report},
 };
 
+// The entries by records, which the Rust package does without.
 extern "C" {
-    #[link_name = "readability_clearance"]
-    fn clearance(
-        net: *const u32,
-        net_length: usize,
-        orientation: *const u8,
-        orientation_length: usize,
-        fixed: *const f64,
-        fixed_length: usize,
-        start: *const f64,
-        start_length: usize,
-        end: *const f64,
-        end_length: usize,
-        id: *const u32,
-        id_length: usize,
-        x: *const f64,
-        x_length: usize,
-        y: *const f64,
-        y_length: usize,
-        width: *const f64,
-        width_length: usize,
-        height: *const f64,
-        height_length: usize,
-        exempt_net: *const u32,
-        exempt_net_length: usize,
-        exempt_node: *const u32,
-        exempt_node_length: usize,
-        threshold: f64,
-        allowance: usize,
-        scratch: *mut u64,
-        scratch_length: usize,
-        out: *mut [u64; 4],
-    ) -> u32;
-
-    #[link_name = "readability_separation"]
-    fn separation(
-        net: *const u32,
-        net_length: usize,
-        orientation: *const u8,
-        orientation_length: usize,
-        fixed: *const f64,
-        fixed_length: usize,
-        start: *const f64,
-        start_length: usize,
-        end: *const f64,
-        end_length: usize,
-        allowance: usize,
-        scratch: *mut u64,
-        scratch_length: usize,
-        out: *mut [u64; 5],
-    ) -> u32;
-
-    #[link_name = "readability_density_profile"]
-    fn density_profile(
-        net: *const u32,
-        net_length: usize,
-        orientation: *const u8,
-        orientation_length: usize,
-        fixed: *const f64,
-        fixed_length: usize,
-        start: *const f64,
-        start_length: usize,
-        end: *const f64,
-        end_length: usize,
-        cutoff: f64,
-        allowance: usize,
-        scratch: *mut u64,
-        scratch_length: usize,
-        out: *mut [u64; 7],
-    ) -> u32;
-
-    #[link_name = "readability_congestion_profile"]
-    fn congestion_profile(
-        net: *const u32,
-        net_length: usize,
-        orientation: *const u8,
-        orientation_length: usize,
-        fixed: *const f64,
-        fixed_length: usize,
-        start: *const f64,
-        start_length: usize,
-        end: *const f64,
-        end_length: usize,
-        cutoff: f64,
-        allowance: usize,
-        scratch: *mut u64,
-        scratch_length: usize,
-        out: *mut [u64; 7],
-    ) -> u32;
-
-    #[link_name = "readability_congestion"]
-    fn congestion(
-        net: *const u32,
-        net_length: usize,
-        orientation: *const u8,
-        orientation_length: usize,
-        fixed: *const f64,
-        fixed_length: usize,
-        start: *const f64,
-        start_length: usize,
-        end: *const f64,
-        end_length: usize,
-        cutoff: f64,
-        scratch: *mut u64,
-        scratch_length: usize,
-        out: *mut [u64; 7],
-    ) -> u32;
-
-    #[link_name = "readability_clearance_by_records"]
-    fn clearance_by_records(
+    fn readability_clearance_by_records(
         records: *const Record,
         records_length: usize,
         id: *const u32,
@@ -144,8 +42,7 @@ extern "C" {
         out: *mut [u64; 4],
     ) -> u32;
 
-    #[link_name = "readability_separation_by_records"]
-    fn separation_by_records(
+    fn readability_separation_by_records(
         records: *const Record,
         records_length: usize,
         allowance: usize,
@@ -154,8 +51,7 @@ extern "C" {
         out: *mut [u64; 5],
     ) -> u32;
 
-    #[link_name = "readability_density_profile_by_records"]
-    fn density_profile_by_records(
+    fn readability_density_profile_by_records(
         records: *const Record,
         records_length: usize,
         cutoff: f64,
@@ -165,8 +61,7 @@ extern "C" {
         out: *mut [u64; 7],
     ) -> u32;
 
-    #[link_name = "readability_congestion_profile_by_records"]
-    fn congestion_profile_by_records(
+    fn readability_congestion_profile_by_records(
         records: *const Record,
         records_length: usize,
         cutoff: f64,
@@ -176,8 +71,7 @@ extern "C" {
         out: *mut [u64; 7],
     ) -> u32;
 
-    #[link_name = "readability_congestion_by_records"]
-    fn congestion_by_records(
+    fn readability_congestion_by_records(
         records: *const Record,
         records_length: usize,
         cutoff: f64,
@@ -185,45 +79,7 @@ extern "C" {
         scratch_length: usize,
         out: *mut [u64; 7],
     ) -> u32;
-
-    #[link_name = "readability_ratio"]
-    fn ratio(total: f64, congested: f64) -> f64;
-
-    #[link_name = "readability_tight_pair"]
-    fn tight_pair(
-        net: *const u32,
-        net_length: usize,
-        orientation: *const u8,
-        orientation_length: usize,
-        fixed: *const f64,
-        fixed_length: usize,
-        start: *const f64,
-        start_length: usize,
-        end: *const f64,
-        end_length: usize,
-        id: *const u32,
-        id_length: usize,
-        x: *const f64,
-        x_length: usize,
-        y: *const f64,
-        y_length: usize,
-        width: *const f64,
-        width_length: usize,
-        height: *const f64,
-        height_length: usize,
-        exempt_net: *const u32,
-        exempt_net_length: usize,
-        exempt_node: *const u32,
-        exempt_node_length: usize,
-        out: *mut [u64; 3],
-    ) -> u32;
-
-    #[link_name = "readability_sheet"]
-    fn sheet(bytes: *const u8, bytes_length: usize, text: *mut [u8; SHEET_ROOM]) -> usize;
 }
-
-/// The bytes that a sheet's text is lent; the longest text is shorter.
-pub const SHEET_ROOM: usize = 256;
 
 /// A segment as the thin entries take it, `ParallelSegment` and
 /// `EdgeNodeSegment` alike.
@@ -490,28 +346,40 @@ pub fn run(call: Call, columns: &Columns, allowance: u64, scratch: &mut [u64]) -
     let (start, length) = (scratch.as_mut_ptr(), scratch.len());
     match call {
         Call::Clearance => told!(
-            clearance,
+            readability_clearance,
             columns,
             [id, x, y, width, height, exempt_net, exempt_node],
             [threshold, allowance, start, length],
             4
         ),
-        Call::Separation => told!(separation, columns, [], [allowance, start, length], 5),
+        Call::Separation => told!(
+            readability_separation,
+            columns,
+            [],
+            [allowance, start, length],
+            5
+        ),
         Call::DensityProfile => told!(
-            density_profile,
+            readability_density_profile,
             columns,
             [],
             [cutoff, allowance, start, length],
             7
         ),
         Call::CongestionProfile => told!(
-            congestion_profile,
+            readability_congestion_profile,
             columns,
             [],
             [cutoff, allowance, start, length],
             7
         ),
-        Call::Congestion => told!(congestion, columns, [], [cutoff, start, length], 7),
+        Call::Congestion => told!(
+            readability_congestion,
+            columns,
+            [],
+            [cutoff, start, length],
+            7
+        ),
     }
 }
 
@@ -529,7 +397,7 @@ pub fn run_by_records(
     let (start, length) = (scratch.as_mut_ptr(), scratch.len());
     match call {
         Call::Clearance => told_of!(
-            clearance_by_records,
+            readability_clearance_by_records,
             [
                 records,
                 columns.id,
@@ -544,24 +412,29 @@ pub fn run_by_records(
             4
         ),
         Call::Separation => told_of!(
-            separation_by_records,
+            readability_separation_by_records,
             [records],
             [allowance, start, length],
             5
         ),
         Call::DensityProfile => told_of!(
-            density_profile_by_records,
+            readability_density_profile_by_records,
             [records],
             [cutoff, allowance, start, length],
             7
         ),
         Call::CongestionProfile => told_of!(
-            congestion_profile_by_records,
+            readability_congestion_profile_by_records,
             [records],
             [cutoff, allowance, start, length],
             7
         ),
-        Call::Congestion => told_of!(congestion_by_records, [records], [cutoff, start, length], 7),
+        Call::Congestion => told_of!(
+            readability_congestion_by_records,
+            [records],
+            [cutoff, start, length],
+            7
+        ),
     }
 }
 
@@ -569,7 +442,7 @@ pub fn run_by_records(
 /// of its segment and of its node.
 pub fn run_tight_pair(columns: &Columns) -> Told {
     told!(
-        tight_pair,
+        readability_tight_pair,
         columns,
         [id, x, y, width, height, exempt_net, exempt_node],
         [],
@@ -579,11 +452,11 @@ pub fn run_tight_pair(columns: &Columns) -> Told {
 
 /// The ratio of two lengths. It takes and gives numbers only.
 pub fn run_ratio(total: f64, congested: f64) -> f64 {
-    unsafe { ratio(total, congested) }
+    unsafe { readability_ratio(total, congested) }
 }
 
 /// The sheet of a drawing file: writes its text to the front of the buffer and
 /// returns the text's length.
-pub fn run_sheet(bytes: &[u8], text: &mut [u8; SHEET_ROOM]) -> usize {
-    unsafe { sheet(bytes.as_ptr(), bytes.len(), text) }
+pub fn run_sheet(bytes: &[u8], text: &mut [u8; SHEET_BYTES]) -> usize {
+    unsafe { readability_sheet(bytes.as_ptr(), bytes.len(), text) }
 }

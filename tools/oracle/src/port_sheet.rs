@@ -8,10 +8,11 @@ use std::{
 };
 
 use crate::{
+    declarations::SHEET_BYTES,
     drawing::{drawing_d, Drawing},
     file,
     listing::hexadecimal,
-    port::{run_sheet, SHEET_ROOM},
+    port::run_sheet,
     random::Random,
     refusals::PROGRAM_LIMITS,
     sample::with_count,
@@ -116,7 +117,7 @@ impl Sheets {
 /// The export gives the expected text at the front of the buffer and leaves
 /// the rest of it alone.
 pub fn difference_in_process(file: &[u8], expected: &str) -> Option<String> {
-    let mut text = [UNWRITTEN; SHEET_ROOM];
+    let mut text = [UNWRITTEN; SHEET_BYTES];
     let length = run_sheet(file, &mut text);
     let written = text.get(..length).unwrap_or(&text);
     if length != written.len() || written != expected.as_bytes() {

@@ -20,6 +20,13 @@ impl Random {
         Self::new(of_run.rotate_left(32) ^ of_drawing)
     }
 
+    /// The generator that belongs to these bytes: its seed is their FNV-1a hash.
+    pub fn of_bytes(bytes: &[u8]) -> Self {
+        Self::new(bytes.iter().fold(0xcbf2_9ce4_8422_2325, |hash, byte| {
+            (hash ^ u64::from(*byte)).wrapping_mul(0x0100_0000_01b3)
+        }))
+    }
+
     pub fn word(&mut self) -> u64 {
         self.state = self.state.wrapping_add(STEP);
         let mut mixed = self.state;

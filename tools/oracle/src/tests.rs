@@ -125,6 +125,15 @@ fn one_seed_gives_one_sample() {
     assert!(first == second);
 }
 
+#[test]
+fn what_is_tried_on_a_drawing_depends_on_every_part_of_it() {
+    let mut drawing = drawing_d();
+    let first = drawing.random().word();
+    assert_eq!(drawing.random().word(), first);
+    drawing.allowances.congestion += 1;
+    assert_ne!(drawing.random().word(), first);
+}
+
 /// The reference knows no grid, so that `check` cannot hold refusal 6 against
 /// it.
 #[test]

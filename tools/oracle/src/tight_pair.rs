@@ -6,7 +6,6 @@ use crate::{
     drawing::Drawing,
     pairs,
     port::{run_tight_pair, Columns, Told},
-    random::Random,
     refusals::{before_tight_pair, Refusal},
     report::{Figure, Measure},
 };
@@ -78,7 +77,7 @@ fn compare_refusals(drawing: &Drawing, columns: &Columns, found: &mut Vec<String
             }
         }
     }
-    let mut random = Random::new(drawing.entries() as u64);
+    let mut random = drawing.random();
     let mut turned = drawing.clone();
     turn_some(&mut turned, &mut random);
     let mut columns = Columns::of(&turned);

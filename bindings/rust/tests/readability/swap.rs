@@ -187,7 +187,9 @@ macro_rules! caller {
     };
 }
 
-/// The names as the drawing library has them at its root.
+/// The names as the drawing library has them at its root. The original module
+/// takes the first three from there and does not define them, so they are this
+/// package's on both sides: of these three the tests show nothing.
 #[cfg(original)]
 mod drawing_library {
     pub use readability::{NetId, NodeGeometry, NodeId};
