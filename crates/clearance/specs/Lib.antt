@@ -1,9 +1,10 @@
--- The definitions, a file for each notion. LeafOrder and what follows it speak of the scratch: only private contracts cite them.
+-- The definitions, a file for each notion.
 pub mod Figures
 pub mod Tree
 pub mod Walk
 pub mod Answer
 pub mod TightPair
+-- what only private contracts cite
 pub mod LeafOrder
 pub mod Tables
 pub mod Stored

@@ -1,6 +1,5 @@
 -- The laws of the definitions. Those that other crates cite:
 pub mod Fitness
-pub mod Bounds
 pub mod SweepTheorem
 pub mod Answers
 pub mod Closeness
@@ -21,6 +20,7 @@ mod Beginning
 mod Meetings
 mod Reaching
 -- its figures
+mod Bounds
 mod Oriented
 mod Orientations
 mod SweepFigures

@@ -24,9 +24,8 @@ use Rattle.floats.proofs.Units.{canonical-grid, lt-units, unit-one, grid-num}
 use Rattle.floats.proofs.Zeros.{canonical-again}
 use Rattle.drawing.specs.Entries.{Segment}
 use Rattle.drawing.proofs.ListOrders.{SegmentHeld}
-use Rattle.rows.specs.Rows.{fixedOf, startOf, endOf}
+use Rattle.rows.specs.Rows.{fixedOf, startOf, endOf, Row, rowOf, eventsFrom, moment, eventsInOrder, ends, starts}
 use Rattle.rows.specs.Rows as rows
-use Rattle.rows.specs.Rows.{Row, rowOf, eventsFrom, moment, eventsInOrder, ends, starts}
 use Rattle.rows.specs.Tables.{noRow, rowFrom, eventFrom, column}
 use Rattle.rows.proofs.SpreadTables.{Spread}
 use Rattle.rows.proofs.ColumnParts.{getD-map, at-mem, column-at}

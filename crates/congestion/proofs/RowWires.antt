@@ -21,8 +21,7 @@ use Rattle.floats.proofs.NumberKeys.{float-back}
 use Rattle.floats.proofs.Units.{canonical-unit}
 use Rattle.drawing.specs.Entries.{Segment}
 use Rattle.drawing.proofs.ListOrders.{SegmentHeld}
-use Rattle.rows.specs.Rows.{fixedOf, startOf, endOf}
-use Rattle.rows.specs.Rows.{Row, rowOf, rowsInOrder, oriented}
+use Rattle.rows.specs.Rows.{fixedOf, startOf, endOf, Row, rowOf, rowsInOrder, oriented}
 use Rattle.rows.proofs.Oriented.{list-order-idle}
 use Rattle.congestion.specs.Wires.{Wire, wireOf}
 use Rattle.congestion.specs.Sweep.{only}

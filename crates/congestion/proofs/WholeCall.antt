@@ -12,7 +12,7 @@ use lib.ListN.{length, getD, drop, drop-of-length-le}
 use lib.Seq.{drop-cons}
 use Rattle.laws.specs.Charged.{Charged, spent, left, within, reaches, settle, reply}
 use Rattle.laws.proofs.Tests.{le-or-lt}
-use Rattle.laws.proofs.Runs.{within-enough, within-short, settle-within}
+use Rattle.laws.proofs.Runs.{within-enough, within-short, settle-reached, settle-within}
 use Rattle.floats.specs.Values.{plusZero, canonicalZero}
 use Rattle.drawing.specs.declared.gap.Gap.{Gap}
 use Rattle.drawing.specs.declared.refusal.Refusal.{Refusal}
@@ -148,10 +148,13 @@ plain-answer c cutoff allowance words = go (firstOf (congestionConditions c cuto
 
 -- ---- `measure_parallel_congestion`: 4,096 segments cost at most 4,096 * 4,096 visits
 pub great-allowance : (c : SegmentColumns) (cutoff : Float) (m words : ℕ) → 16777216 ≤ m → densityAnswer c cutoff m words ≡ congestionAnswer c cutoff words
+unfolding settled
 great-allowance c cutoff m words h = go (firstOf (congestionConditions c cutoff words)) refl
   where
     go : (k : Check) → firstOf (congestionConditions c cutoff words) ≡ k → densityAnswer c cutoff m words ≡ congestionAnswer c cutoff words
     go (Checked.Refused r) e = density-settles .earlier c cutoff m words r e ∙ sym (congestion-earlier c cutoff words r e)
     go Checked.Passed e =
         let few = fit-list c cutoff words e .few in
-        density-settles .reached c cutoff m words e (le-trans (cost-at-most cutoff (segments c)) (le-trans (mul-le-mul few few) h)) ∙ sym (congestion-reached c cutoff words e)
+        density-settles .behind c cutoff m words e
+        ∙ settle-reached (λ p n. Report (reportOf p n)) (Refused WorkLimitExceeded) m (allPairs cutoff (segments c)) (le-trans (cost-at-most cutoff (segments c)) (le-trans (mul-le-mul few few) h))
+        ∙ sym (congestion-reached c cutoff words e)

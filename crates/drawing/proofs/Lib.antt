@@ -1,4 +1,4 @@
--- The laws of the definitions, a file for each notion. Other crates cite these.
+-- The laws of the definitions, a file for each notion.
 pub mod EntryLaws
 pub mod Scans
 pub mod FirstRefusal

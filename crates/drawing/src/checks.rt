@@ -278,7 +278,7 @@ fn check_lists(
     Check::Passed
 }
 
-// Their check 5, of the entries.
+// The check 5 of clearance and of the tight pair, of the entries.
 fn check_entries(
     net: &[u32],
     orientation: &[u8],

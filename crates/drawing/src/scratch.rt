@@ -1,4 +1,4 @@
-// The scratch that every measure lends on: cleared as a whole when the work is done.
+// Clearing: of the whole scratch when a call is done, and of a part that must be zero before a sweep.
 ghost use mathlib.Core.Path.{_≡_};
 ghost use lib.ListN.{length, replicate};
 

@@ -1,4 +1,4 @@
--- The laws that other crates cite, a file for each notion.
+-- The laws of the definitions, a file for each notion.
 pub mod Rank
 pub mod Rounding
 pub mod Difference

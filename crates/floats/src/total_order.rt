@@ -32,7 +32,7 @@ fn pattern_of_key(key: u64) -> u64
     }
 }
 
-// Two bit patterns compared by totalOrder.
+// Two bit patterns compared, the Rust's `total_cmp`. The port's orders compare keys.
 pub fn total_cmp(a: u64, b: u64) -> Ordering
     ensures { λ r. ⌜ r ≡ TotalOrder.totalCmp a b ⌝ }
 {

@@ -1,13 +1,12 @@
 -- Charged runs within an allowance: one law for every walk. Assumes nothing.
 use mathlib.Core.Path.{_≡_, refl, sym, ap, _∙_}
-use mathlib.Core.Logic.{_⊎_, inl, inr, _↔_}
+use mathlib.Core.Logic.{_⊎_, inl, inr}
 use mathlib.Core.List.{List, [], _∷_}
-use mathlib.Core.Bool.{Bool, true, false, cond}
 use Prim.Native.Nat.{ℕ, suc, _-_, _≤_, _<_}
 use native.Mathlib.Omega.{arith}
 use borrow.Author.Tests.{le-leb, lt-leb}
 use lib.Dec.{leb}
-use Rattle.laws.specs.Charged.{Charged, Outcome, spent, left, within, free, visit, after, runs, onward, reaches, settle, reply}
+use Rattle.laws.specs.Charged.{Charged, Outcome, spent, left, within, free, visit, after, runs, onward, settle, reply}
 use Rattle.laws.proofs.Tests.{le-or-lt, cond-true, cond-false}
 
 module _ {A : Type 0} where
@@ -83,14 +82,3 @@ module _ {A R : Type 0} (report : A → ℕ → R) (refusal : R) where
     where
       used : (a m : ℕ) → a ≤ m → m - (m - a) ≡ a
       used a m h = omega arith
-
-  -- "their results are equal, bit by bit, exactly when both allowances reach that drawing's visit count or neither does"
-  pub settle-equal : ((a : A) (n : ℕ) → report a n ≡ refusal → ⊥) → (m n : ℕ) (c : Charged A) → (settle report refusal m c ≡ settle report refusal n c) ↔ (reaches m c ≡ reaches n c)
-  unfolding settle
-  settle-equal apart m n c = (to (reaches m c) (reaches n c), λ e. ap (λ (b : Bool). cond b (report (c .value) (c .cost)) refusal) e)
-    where
-      to : (a b : Bool) → cond a (report (c .value) (c .cost)) refusal ≡ cond b (report (c .value) (c .cost)) refusal → a ≡ b
-      to true true e = refl
-      to true false e = absurd (apart (c .value) (c .cost) e)
-      to false true e = absurd (apart (c .value) (c .cost) (sym e))
-      to false false e = refl

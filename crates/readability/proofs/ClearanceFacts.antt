@@ -1,15 +1,12 @@
 -- The facts of clearance. Assumes nothing.
-use mathlib.Core.Path.{_≡_, sym, ap, _∙_}
-use mathlib.Core.Logic.{inl, inr}
+use mathlib.Core.Path.{_≡_, ap}
 use mathlib.Core.Bool.{cond}
 use Prim.Native.Nat.{ℕ}
 use native.Mathlib.Omega.{arith}
-use borrow.Author.Tests.{leb-true, leb-false}
 use lib.Dec.{leb}
 use lib.Ieee.{Float}
 use Rattle.laws.specs.Lists.{All}
-use Rattle.laws.specs.Charged.{Charged}
-use Rattle.laws.proofs.Tests.{decide, cond-true, cond-false}
+use Rattle.laws.specs.Charged.{Charged, settle}
 use Rattle.laws.proofs.ListLaws.{all-map}
 use Rattle.drawing.specs.declared.refusal.Refusal.{Refusal}
 use Rattle.drawing.specs.declared.refusal.Check.the-variants.{Refused}
@@ -23,7 +20,7 @@ use Rattle.clearance.specs.Answer.{allPairs, answer, resultOf}
 use Rattle.clearance.proofs.Distances.{distances-good}
 use Rattle.clearance.proofs.AllPairs.{walk-all-pairs}
 use Rattle.clearance.proofs.AnyOrder.{all-pairs-any-order}
-use Rattle.clearance.proofs.Answers.{FitCall, fit-call, result-reached, result-spent}
+use Rattle.clearance.proofs.Answers.{FitCall, fit-call, result-settles}
 use Rattle.readability.specs.Measures.{Reported, SegmentsHeld, NodesHeld, Lists, clearance}
 use Rattle.readability.proofs.Numbers.{least-reported}
 use Rattle.readability.proofs.FirstMet.{Rising}
@@ -49,10 +46,8 @@ refuses d t a words r e = rw e
 
 settles : (d : Lists) (t : Float) (a words : ℕ) → Passes clearance d t words
     → clearance .result (clearance .answer d t a words) ≡ cond (leb (clearance .count d t) a) (clearance .accepted (clearance .figures d t) (clearance .count d t)) (clearance .refused 7)
-settles d t a words p = elim (decide (leb (clearance .count d t) a)) [
-  | inl e ↦ result-reached (d .segments) (d .nodes) (d .exemptions) t a words p (leb-true _ _ e) ∙ sym (cond-true (leb (clearance .count d t) a) (clearance .accepted (clearance .figures d t) (clearance .count d t)) (clearance .refused 7) e)
-  | inr e ↦ result-spent (d .segments) (d .nodes) (d .exemptions) t a words p (leb-false _ _ e) ∙ sym (cond-false (leb (clearance .count d t) a) (clearance .accepted (clearance .figures d t) (clearance .count d t)) (clearance .refused 7) e)
-]
+unfolding settle allPairs
+settles d t a words p = result-settles (d .segments) (d .nodes) (d .exemptions) t a words p
 
 apart : (g : Figures) (n : ℕ) → clearance .accepted g n ≡ clearance .refused 7 → ⊥
 apart g n z = let f : _≡_ {A = ℕ} 0 7 = ap (λ (r : ℕ × EdgeNodeClearance). r .0) z in omega arith

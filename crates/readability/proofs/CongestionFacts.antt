@@ -1,23 +1,19 @@
 -- The facts of the three congestion calls. Assumes nothing.
 use mathlib.Core.Path.{_≡_, refl, sym, ap, subst, _∙_}
-use mathlib.Core.Logic.{inl, inr}
 use mathlib.Core.Bool.{Bool, cond}
 use mathlib.Core.List.{List}
 use Prim.Native.Nat.{ℕ}
 use native.Mathlib.Omega.{arith}
-use borrow.Author.Tests.{leb-true, leb-false}
 use lib.Dec.{leb}
 use lib.Ieee.{Float}
 use Rattle.laws.specs.Lists.{All, pairs}
-use Rattle.laws.specs.Charged.{Charged}
-use Rattle.laws.proofs.Tests.{decide, cond-true, cond-false}
+use Rattle.laws.specs.Charged.{Charged, settle}
 use Rattle.laws.proofs.ListLaws.{mem-all, mem-pairs}
 use Rattle.floats.specs.Values.{plusZero, gapOf}
 use Rattle.floats.proofs.Gaps.{Good, zero-good}
 use Rattle.floats.proofs.Units.{gap-units}
 use Rattle.drawing.specs.declared.gap.Gap.{Gap}
 use Rattle.drawing.specs.declared.refusal.Refusal.{Refusal}
-use Rattle.drawing.specs.declared.refusal.Refusal.the-variants.{WorkLimitExceeded}
 use Rattle.drawing.specs.declared.refusal.Check.the-variants.{Passed, Refused as Stopped}
 use Rattle.drawing.specs.Entries.{SegmentColumns, segments}
 use Rattle.drawing.specs.Refusals.{numberOf, firstOf}
@@ -31,7 +27,7 @@ use Rattle.congestion.specs.Answer.{reportOf, densityAnswer, withoutDensity, pr
 use Rattle.clearance.proofs.Distances.{all-chosen}
 use Rattle.congestion.proofs.Fitness.{fit-list}
 use Rattle.congestion.proofs.SweepTheorem.{all-pairs-order, sweep-is-all-pairs}
-use Rattle.congestion.proofs.Answers.{Demand3, density-settles, profile-settles, congestion-earlier, congestion-reached}
+use Rattle.congestion.proofs.Answers.{Settles, result-settles, density-settles, profile-settles, congestion-earlier, congestion-reached}
 use Rattle.readability.specs.Measures.{visitsReach, Reported, ofCongestion, density, profile, congestion}
 use Rattle.readability.proofs.Numbers.{good-reported, least-reported, units-good}
 use Rattle.readability.proofs.FirstMet.{Rising}
@@ -48,10 +44,6 @@ rises s cutoff words = (omega arith, omega arith, (omega arith, omega arith, (om
 refused-result : (r : Refusal) → resultOf (Refused r) ≡ (numberOf r, zeros)
 unfolding resultOf
 refused-result r = refl
-
-spent-result : resultOf (Refused WorkLimitExceeded) ≡ (7, zeros)
-unfolding resultOf numberOf
-spent-result = refl
 
 reported : (r : CongestionReport) → resultOf (Report r) ≡ (0, r)
 unfolding resultOf
@@ -100,15 +92,11 @@ module _ (part : Charges → Charges) (A : Type 0) (reach : A → ℕ → Bool) 
   }
 
 -- a call with an allowance
-module _ (part : Charges → Charges) (answers : SegmentColumns → Float → ℕ → ℕ → CongestionAnswer) (costs : (c : Charges) → part c .cost ≡ c .cost) (parts : (c : Charges) → All Reported (floatsOf (c .value)) → All Reported (floatsOf (part c .value))) (d : Demand3 answers (λ cutoff l. part (allPairs cutoff l))) where
+module _ (part : Charges → Charges) (answers : SegmentColumns → Float → ℕ → ℕ → CongestionAnswer) (costs : (c : Charges) → part c .cost ≡ c .cost) (parts : (c : Charges) → All Reported (floatsOf (c .value)) → All Reported (floatsOf (part c .value))) (d : Settles answers (λ cutoff l. part (allPairs cutoff l))) where
   settled : (s : SegmentColumns) (cutoff : Float) (a words : ℕ) → firstOf (congestionConditions s cutoff words) ≡ Passed
       → resultOf (answers s cutoff a words) ≡ cond (leb (part (allPairs cutoff (segments s)) .cost) a) (0, reportOf (part (allPairs cutoff (segments s)) .value) (part (allPairs cutoff (segments s)) .cost)) (7, zeros)
-  settled s cutoff a words p =
-      let c = part (allPairs cutoff (segments s)) in
-      elim (decide (leb (c .cost) a)) [
-        | inl e ↦ ap resultOf (d .reached s cutoff a words p (leb-true _ _ e)) ∙ reported _ ∙ sym (cond-true (leb (c .cost) a) (0, reportOf (c .value) (c .cost)) (7, zeros) e)
-        | inr e ↦ ap resultOf (d .spent s cutoff a words p (leb-false _ _ e)) ∙ spent-result ∙ sym (cond-false (leb (c .cost) a) (0, reportOf (c .value) (c .cost)) (7, zeros) e)
-      ]
+  unfolding settle
+  settled s cutoff a words p = ap resultOf (d .behind s cutoff a words p) ∙ result-settles a (part (allPairs cutoff (segments s)))
 
   bounded : Facts (ofCongestion part ℕ visitsReach answers)
   bounded = facts part ℕ visitsReach answers costs parts (λ s cutoff a words r e. d .earlier s cutoff a words r e)

@@ -1,14 +1,11 @@
 -- The facts of separation. Assumes nothing.
-use mathlib.Core.Path.{_≡_, sym, ap, _∙_}
-use mathlib.Core.Logic.{inl, inr}
+use mathlib.Core.Path.{_≡_, ap}
 use mathlib.Core.Bool.{cond}
 use Prim.Native.Nat.{ℕ}
 use native.Mathlib.Omega.{arith}
-use borrow.Author.Tests.{leb-true, leb-false}
 use lib.Dec.{leb}
 use Rattle.laws.specs.Lists.{All}
-use Rattle.laws.specs.Charged.{Charged}
-use Rattle.laws.proofs.Tests.{decide, cond-true, cond-false}
+use Rattle.laws.specs.Charged.{Charged, settle}
 use Rattle.laws.proofs.ListLaws.{all-append}
 use Rattle.drawing.specs.declared.refusal.Refusal.{Refusal}
 use Rattle.drawing.specs.declared.refusal.Check.the-variants.{Refused}
@@ -22,7 +19,7 @@ use Rattle.separation.specs.Answer as answering
 use Rattle.separation.proofs.Running.{kept-good}
 use Rattle.separation.proofs.WalkFigures.{gaps-good}
 use Rattle.separation.proofs.AnyOrder.{all-pairs-any, walk-all-pairs}
-use Rattle.separation.proofs.Answers.{passed-fit, result-reached, result-spent}
+use Rattle.separation.proofs.Answers.{passed-fit, result-settles}
 use Rattle.readability.specs.Measures.{Reported, present, separation}
 use Rattle.readability.proofs.Numbers.{least-reported}
 use Rattle.readability.proofs.FirstMet.{Rising}
@@ -39,10 +36,8 @@ refuses s none a words r e = rw e
 
 settles : (s : SegmentColumns) (none : Unit {0}) (a words : ℕ) → Passes separation s none words
     → separation .result (separation .answer s none a words) ≡ cond (leb (separation .count s none) a) (separation .accepted (separation .figures s none) (separation .count s none)) (separation .refused 7)
-settles s none a words p = elim (decide (leb (separation .count s none) a)) [
-  | inl e ↦ result-reached s words p a (leb-true _ _ e) ∙ sym (cond-true (leb (separation .count s none) a) (separation .accepted (separation .figures s none) (separation .count s none)) (separation .refused 7) e)
-  | inr e ↦ result-spent s words p a (leb-false _ _ e) ∙ sym (cond-false (leb (separation .count s none) a) (separation .accepted (separation .figures s none) (separation .count s none)) (separation .refused 7) e)
-]
+unfolding settle answering.allPairs
+settles s none a words p = result-settles s words p a
 
 apart : (f : Figures) (n : ℕ) → separation .accepted f n ≡ separation .refused 7 → ⊥
 apart f n e = let z : _≡_ {A = ℕ} 0 7 = ap (λ (r : ℕ × ParallelSeparation). r .0) e in omega arith

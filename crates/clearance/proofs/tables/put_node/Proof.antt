@@ -1,7 +1,6 @@
 -- `clearance::tables::put_node` meets its contract: the words stand in the order of the axis. Assumes nothing.
 use borrow.Author.Needs.{needs}
 use Rattle.clearance.proofs.TableLaws.{across-row, down-row}
-use borrow.Author.Needs.{needs}
 use Rattle.clearance.proofs.tables.put_node.Statement.{statement}
 use Rattle.clearance.proofs.tables.put_node.Tie as tie
 

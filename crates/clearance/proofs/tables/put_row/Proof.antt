@@ -2,7 +2,6 @@
 use borrow.Author.Needs.{needs}
 use lib.ListN.{length-set}
 use Rattle.clearance.proofs.TableLaws.{five-stores}
-use borrow.Author.Needs.{needs}
 use Rattle.clearance.proofs.tables.put_row.Statement.{statement}
 use Rattle.clearance.proofs.tables.put_row.Tie as tie
 
