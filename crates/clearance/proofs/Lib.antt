@@ -18,6 +18,7 @@ pub mod TableLaws
 pub mod Prepared
 pub mod ExemptLaws
 pub mod ExemptIds
+pub mod LeastFloats
 pub mod StoredWalk
 pub mod WalkRuns
 pub mod PairInput

@@ -8,7 +8,7 @@ use native.Mathlib.Omega.{arith}
 use borrow.Author.Tests.{ltb-false}
 use borrow.Rule.Slice.PartMut.{midOf, putMid}
 use lib.Dec.{T}
-use lib.Ieee.{Float, binary64, fits}
+use lib.Ieee.{Float, nan, binary64, fits}
 use lib.ListN.{length, take, drop, length-append, length-drop}
 use lib.Seq.{drop-at, take-append-le, length-take-le, drop-drop, take-take}
 use Rattle.laws.specs.Lists.{All}
@@ -19,7 +19,7 @@ use Rattle.laws.proofs.Tests.{le-or-lt}
 use Rattle.laws.proofs.Runs.{within-enough, within-short, within-free}
 use Rattle.sorting.specs.Sorted.{upTo}
 use Rattle.sorting.proofs.Entries.{length-upTo, upTo-placed}
-use Rattle.drawing.specs.declared.gap.Gap.the-variants.{Absent}
+use Rattle.drawing.specs.declared.gap.Gap.{Gap}
 use Rattle.drawing.specs.declared.refusal.Check.{Check}
 use Rattle.drawing.specs.declared.refusal.Check.the-variants.{Refused as Stopped}
 use Rattle.drawing.specs.declared.refusal.Refusal.{Refusal}
@@ -45,7 +45,7 @@ use Rattle.clearance.specs.LeafOrder.{indexedAt}
 use Rattle.clearance.specs.Tables.{SegmentsOrdered}
 use Rattle.clearance.specs.Stored.{storedTree, Grown}
 use Rattle.clearance.specs.Exempting.{Holds, Gathered}
-use Rattle.clearance.specs.Walking.{walkedOf, Part, Held, InTurns, allWalks, Remains, Answers}
+use Rattle.clearance.specs.Walking.{gapOfFloat, soFar, outcomeOf, Part, Held, InTurns, allWalks, Remains, Answers}
 use Rattle.clearance.specs.Answer.{accepted, answer}
 use Rattle.boxes.proofs.Fit.{FitSegment, FitNode}
 use Rattle.clearance.proofs.Answers.{Lent, passes, fit-call}
@@ -99,12 +99,12 @@ no-tree : (ns : List Node) → length ns ≡ 0 → treeOf ns ≡ bare
 unfolding treeOf build
 no-tree ns h = ap (λ (k : ℕ). build k (map indexed (nodesInOrder ns))) h
 
-pub walked-none : (ex : List Exemption) (t : Float) (ss : List Segment) (n : NodeColumns) → NodesAgree n → length (n .id) ≡ 0 → (allowance : ℕ)
-    → Went (record { least = Absent; violations = 0; left = allowance }) ≡ walkedOf (within allowance (walkAll ex t ss (nodes n)))
-unfolding walkedOf walkAll
-walked-none ex t ss n a h allowance =
+pub walked-none : (ex : List Exemption) (t : Float) (ss : List Segment) (n : NodeColumns) → NodesAgree n → length (n .id) ≡ 0 → (allowance : ℕ) (least : Float) → least ≡ nan
+    → outcomeOf (Went (record { least = least; violations = 0; left = allowance })) ≡ within allowance (walkAll ex t ss (nodes n))
+unfolding gapOfFloat outcomeOf walkAll
+walked-none ex t ss n a h allowance least e =
     let tree = no-tree (nodes n) (length-nodes n a ∙ h) in
-    sym (ap walkedOf (ap (within allowance) (ap (λ (z : Tree). runs (λ g s. walk ex t s z g) noFigures (segmentsInOrder ss)) tree ∙ runs-bare ex t noFigures (segmentsInOrder ss)) ∙ within-free allowance noFigures))
+    rw e (sym (ap (within allowance) (ap (λ (z : Tree). runs (λ g s. walk ex t s z g) noFigures (segmentsInOrder ss)) tree ∙ runs-bare ex t noFigures (segmentsInOrder ss)) ∙ within-free allowance noFigures))
 
 -- ---- the tree in the scratch is the definition's, with the union of the children's boxes at each branch
 nodes-placed : (n : NodeColumns) → NodesAgree n → map (indexedAt n) (upTo (length (n .id))) ≡ map indexed (nodes n)
@@ -168,41 +168,36 @@ module _ (s : SegmentColumns) (n : NodeColumns) (e : ExemptionColumns) (words : 
     }
 
     pub walked-all : (t : Float) (packed p₀ : List ℕ) → Gathered e p₀ packed → All FitSegment (segments s) → All FitNode (nodes n) → Grown n g → (allowance : ℕ) (r : Walked)
-        → ((ex : List Exemption) → Holds packed ex → length ex ≡ length (e .net) → r ≡ walkedOf (within allowance (allWalks ex t (midOf (6 * length (s .net) + 11 * length (n .id)) (length s₂ - (6 * length (s .net) + 11 * length (n .id))) s₂) (length (n .id)) (midOf 0 (length s₂ - 0) s₂) s)))
-        → r ≡ walkedOf (within allowance (walkAll (exemptions e) t (segments s) (nodes n)))
+        → ((ex : List Exemption) → Holds packed ex → length ex ≡ length (e .net) → outcomeOf r ≡ within allowance (allWalks ex t (midOf (6 * length (s .net) + 11 * length (n .id)) (length s₂ - (6 * length (s .net) + 11 * length (n .id))) s₂) (length (n .id)) (midOf 0 (length s₂ - 0) s₂) s))
+        → outcomeOf r ≡ within allowance (walkAll (exemptions e) t (segments s) (nodes n))
     walked-all t packed p₀ gathered fs f w allowance r h =
         let ex = exemptions e in
         let tree = ap (λ (l : List ℕ). storedTree m l 0 m) tree-words ∙ grown-tree n g (z .nodes) f w in
         let line = ap (map (segmentAt s)) turns ∙ ord .ordered in
         h ex (gathered .holds) (gathered .count)
-        ∙ (λ i. walkedOf (within allowance (runs (λ a b. walk ex t b (tree i) a) noFigures (line i))))
-        ∙ ap (λ (c : Charged Figures). walkedOf (within allowance c)) (walk-all-rejoined ex t (nodes n) f (segments s) fs)
+        ∙ (λ i. within allowance (runs (λ a b. walk ex t b (tree i) a) noFigures (line i)))
+        ∙ ap (within allowance) (walk-all-rejoined ex t (nodes n) f (segments s) fs)
 
 pub held-of : (e : ExemptionColumns) (p₀ packed : List ℕ) → Gathered e p₀ packed → Held packed (length (e .net))
 held-of e p₀ packed g = record { ex = exemptions e; holds = g .holds; count = g .count }
 
 -- ---- the answer of what the walks came to
 pub answers-spent : (r : Walked) (allowance : ℕ) → r ≡ Spent → Answers r allowance (Refused WorkLimitExceeded)
-unfolding walkedOf reply
-answers-spent r allowance h spent e = refl
-answers-spent r allowance h (left g m) e = let x : Spent ≡ Went (record { least = g .least; violations = g .violations; left = m }) = sym h ∙ e in let z : _≡_ {A = ℕ} 0 1 = cc in absurd (omega arith)
+unfolding outcomeOf reply
+answers-spent r allowance h = rw h
 
-pub answers-went : (r : Walked) (allowance : ℕ) (w : Walking) → r ≡ Went w → Answers r allowance (Report (record { «minimum_clearance» = w .least; violations = w .violations; visits = allowance - w .left }))
-unfolding walkedOf reply accepted
-answers-went r allowance w h spent e = let x : Went w ≡ Spent = sym h ∙ e in let z : _≡_ {A = ℕ} 0 1 = cc in absurd (omega arith)
-answers-went r allowance w h (left g m) e =
-    let x : Went w ≡ Went (record { least = g .least; violations = g .violations; left = m }) = sym h ∙ e in
-    let y : w ≡ record { least = g .least; violations = g .violations; left = m } = cc in
-    ap (λ (v : Walking). Report (record { «minimum_clearance» = v .least; violations = v .violations; visits = allowance - v .left })) y
+pub answers-went : (r : Walked) (allowance : ℕ) (w : Walking) → r ≡ Went w → (g : Gap) → g ≡ gapOfFloat (w .least) → Answers r allowance (Report (record { «minimum_clearance» = g; violations = w .violations; visits = allowance - w .left }))
+unfolding outcomeOf reply accepted
+answers-went r allowance w h g e = rw (h, e)
 
-pub remains : (c : Charged Figures) (allowance : ℕ) (r : Walked) → r ≡ walkedOf (within allowance c) → Remains r allowance
-unfolding walkedOf
+pub remains : (c : Charged Figures) (allowance : ℕ) (r : Walked) → outcomeOf r ≡ within allowance c → Remains r allowance
+unfolding outcomeOf
 remains c allowance r e w h = elim (le-or-lt (c .cost) allowance) [
   | inl q ↦
-      let x : Went w ≡ Went (record { least = c .value .least; violations = c .value .violations; left = allowance - c .cost }) = sym h ∙ e ∙ ap walkedOf (within-enough allowance c q) in
-      let y : w ≡ record { least = c .value .least; violations = c .value .violations; left = allowance - c .cost } = cc in
-      omega (arith, ap (λ (v : Walking). v .left) y)
-  | inr q ↦ let x : Went w ≡ Spent = sym h ∙ e ∙ ap walkedOf (within-short allowance c q) in let z : _≡_ {A = ℕ} 0 1 = cc in absurd (omega arith)
+      let x : left (soFar w) (w .left) ≡ left (c .value) (allowance - c .cost) = ap outcomeOf (sym h) ∙ e ∙ within-enough allowance c q in
+      let y : w .left ≡ allowance - c .cost = cc in
+      omega arith
+  | inr q ↦ let x : left (soFar w) (w .left) ≡ spent = ap outcomeOf (sym h) ∙ e ∙ within-short allowance c q in let z : _≡_ {A = ℕ} 0 1 = cc in absurd (omega arith)
 ]
 
 -- ---- the call
@@ -210,9 +205,9 @@ pub refused-answer : (s : SegmentColumns) (n : NodeColumns) (e : ExemptionColumn
 unfolding answer
 refused-answer s n e t allowance words c r h g = sym (rw (sym h ∙ g))
 
-pub passed-answer : (s : SegmentColumns) (n : NodeColumns) (e : ExemptionColumns) (t : Float) (allowance words : ℕ) → passes s n e t words → Lent s n t → (w : Walked) → w ≡ walkedOf (within allowance (walkAll (exemptions e) t (segments s) (nodes n)))
+pub passed-answer : (s : SegmentColumns) (n : NodeColumns) (e : ExemptionColumns) (t : Float) (allowance words : ℕ) → passes s n e t words → Lent s n t → (w : Walked) → outcomeOf w ≡ within allowance (walkAll (exemptions e) t (segments s) (nodes n))
     → (a : ClearanceAnswer) → Answers w allowance a → a ≡ answer s n e t allowance words
 unfolding answer
 passed-answer s n e t allowance words p lent w h a k =
     let f = fit-call s n e t words lent p in
-    rw p (k (within allowance (walkAll (exemptions e) t (segments s) (nodes n))) h ∙ reply-within (exemptions e) t (segments s) (nodes n) (f .threshold-fit) (f .segments-fit) (f .nodes-fit) allowance)
+    rw p (k ∙ ap (reply accepted (Refused WorkLimitExceeded) allowance) h ∙ reply-within (exemptions e) t (segments s) (nodes n) (f .threshold-fit) (f .segments-fit) (f .nodes-fit) allowance)

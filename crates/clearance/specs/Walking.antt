@@ -1,8 +1,10 @@
 -- What the walk of one segment is handed and hands on. Only private contracts cite this.
 use mathlib.Core.Path.{_≡_}
+use mathlib.Core.Bool.{not}
 use mathlib.Core.List.{List, map}
 use Prim.Native.Nat.{ℕ, _+_, _*_, _^_, _≤_, _<_}
-use lib.Ieee.{Float}
+use lib.Dec.{T}
+use lib.Ieee.{Float, nan, inf, fin, isNan}
 use lib.ListN.{length, take}
 use Rattle.laws.specs.Lists.{All}
 use Rattle.laws.specs.Charged.{Charged, Outcome, spent, left, within, runs, reply}
@@ -10,6 +12,8 @@ use Rattle.drawing.specs.Entries.{Segment, Exemption, SegmentColumns}
 use Rattle.drawing.specs.Lengths.{SegmentsAgree}
 use Rattle.drawing.proofs.EntryLaws.{segmentAt}
 use Rattle.boxes.specs.declared.aabb.Aabb.{Aabb}
+use Rattle.drawing.specs.declared.gap.Gap.{Gap}
+use Rattle.drawing.specs.declared.gap.Gap.the-variants.{Absent, Present}
 use Rattle.drawing.specs.declared.refusal.Refusal.the-variants.{WorkLimitExceeded}
 use Rattle.clearance.specs.declared.report.ClearanceAnswer.{ClearanceAnswer}
 use Rattle.clearance.specs.declared.report.ClearanceAnswer.the-variants.{Refused}
@@ -25,14 +29,24 @@ use Rattle.clearance.specs.Walk.{walk, noFigures}
 use Rattle.clearance.specs.Answer.{accepted}
 use Rattle.clearance.specs.Exempting.{Holds, Listed}
 
+-- a float that is no NaN
+abbrev pub Number : Float → Type 0
+Number x = T (not (isNan x))
+
+-- the least distance that a state holds: a NaN stands for none
+unfoldable pub gapOfFloat : Float → Gap
+gapOfFloat nan = Absent
+gapOfFloat (inf s) = Present (inf s)
+gapOfFloat (fin s m e) = Present (fin s m e)
+
 -- the figures that a state holds
 abbrev pub soFar : Walking → Figures
-soFar w = record { least = w .least; violations = w .violations }
+soFar w = record { least = gapOfFloat (w .least); violations = w .violations }
 
--- what a run within the allowance comes to, as the code answers it
-unfoldable pub walkedOf : Outcome Figures → Walked
-walkedOf spent = Spent
-walkedOf (left g m) = Went (record { least = g .least; violations = g .violations; left = m })
+-- what a run within the allowance came to, from what the code answers
+unfoldable pub outcomeOf : Walked → Outcome Figures
+outcomeOf Spent = spent
+outcomeOf (Went w) = left (soFar w) (w .left)
 
 -- there are n leaves from leaf i on, at least one
 pub record Part (w : List ℕ) (i n : ℕ) : Type 0 where
@@ -60,7 +74,7 @@ pub record Exempting (packed : List ℕ) (net : ℕ) (range : Range) : Type 0 wh
 -- what the walk over them answers, for every segment with the box p
 abbrev pub Walks : List Exemption → Float → List ℕ → ℕ → ℕ → Aabb → ℕ → Walking → Walked → Type 0
 Walks ex threshold w i n p net state r =
-    (s : Segment) → segmentBox s ≡ p → s .net ≡ net → (k : ℕ) → n ≤ k → r ≡ walkedOf (within (state .left) (walk ex threshold s (storedTree k w i n) (soFar state)))
+    (s : Segment) → segmentBox s ≡ p → s .net ≡ net → (k : ℕ) → n ≤ k → outcomeOf r ≡ within (state .left) (walk ex threshold s (storedTree k w i n) (soFar state))
 
 -- words hold k exemptions
 pub record Held (packed : List ℕ) (k : ℕ) : Type 0 where
@@ -84,4 +98,4 @@ Remains r allowance = (w : Walking) → r ≡ Went w → w .left ≤ allowance
 
 -- the answer of a call whose checks passed and whose walks came to r
 abbrev pub Answers : Walked → ℕ → ClearanceAnswer → Type 0
-Answers r allowance a = (o : Outcome Figures) → r ≡ walkedOf o → a ≡ reply accepted (Refused WorkLimitExceeded) allowance o
+Answers r allowance a = a ≡ reply accepted (Refused WorkLimitExceeded) allowance (outcomeOf r)

@@ -7,7 +7,7 @@ ghost use Rattle.drawing.specs.Refusals.{firstOf, scratchAfter};
 ghost use Rattle.drawing.specs.Entries.{segmentColumns, nodeColumns, exemptionColumns, segments, nodes, exemptions};
 ghost use Rattle.drawing.specs.Checks.{clearanceConditions};
 ghost use Rattle.clearance.specs.Walk.{walkAll};
-ghost use Rattle.clearance.specs.Walking.{walkedOf, Remains, Answers};
+ghost use Rattle.clearance.specs.Walking.{gapOfFloat, outcomeOf, Remains, Answers};
 ghost use Rattle.clearance.specs.Answer.{answer};
 use crate::exempt::gather;
 use crate::prepare::prepare_nodes;
@@ -16,6 +16,7 @@ use crate::report::EdgeNodeClearance;
 use crate::tables::order_segments;
 use crate::walk::Walked;
 use crate::walk::Walking;
+use crate::walk::no_distance;
 use crate::walk_all::walk_all;
 use drawing::Check;
 use drawing::Gap;
@@ -42,12 +43,12 @@ fn walk_drawing(
     scratch: &mut [u64],
 ) -> Walked
     requires { ⌜ firstOf (clearanceConditions (segmentColumns (now net) (now orientation) (now fixed) (now start) (now end)) (nodeColumns (now id) (now x) (now y) (now width) (now height)) (exemptionColumns (now «exempt_net») (now «exempt_node»)) threshold (length (now scratch))) ≡ Passed ⌝ }
-    ensures { λ r. ⌜ r ≡ walkedOf (within allowance (walkAll (exemptions (exemptionColumns (now («exempt_net» .entry)) (now («exempt_node» .entry)))) threshold (segments (segmentColumns (now (net .entry)) (now (orientation .entry)) (now (fixed .entry)) (now (start .entry)) (now (end .entry)))) (nodes (nodeColumns (now (id .entry)) (now (x .entry)) (now (y .entry)) (now (width .entry)) (now (height .entry)))))) ⌝ }
+    ensures { λ r. ⌜ outcomeOf r ≡ within allowance (walkAll (exemptions (exemptionColumns (now («exempt_net» .entry)) (now («exempt_node» .entry)))) threshold (segments (segmentColumns (now (net .entry)) (now (orientation .entry)) (now (fixed .entry)) (now (start .entry)) (now (end .entry)))) (nodes (nodeColumns (now (id .entry)) (now (x .entry)) (now (y .entry)) (now (width .entry)) (now (height .entry))))) ⌝ }
 {
     let m = id.len();
     if m == 0 {
         return Walked::Went(Walking {
-            least: Gap::Absent,
+            least: no_distance(),
             violations: 0,
             left: allowance,
         });
@@ -73,6 +74,16 @@ fn walk_drawing(
     )
 }
 
+// The least distance that the walks kept as a float. Only a NaN differs from itself.
+fn gap_of_float(least: f64) -> Gap
+    ensures { λ r. ⌜ r ≡ gapOfFloat least ⌝ }
+{
+    if least != least {
+        return Gap::Absent;
+    }
+    Gap::Present(least)
+}
+
 // The visits used are those that are no longer left.
 fn answer_of(walked: Walked, allowance: usize) -> ClearanceAnswer
     requires { ⌜ Remains walked allowance ⌝ }
@@ -81,7 +92,7 @@ fn answer_of(walked: Walked, allowance: usize) -> ClearanceAnswer
     let Walked::Went(state) = walked else {
         return ClearanceAnswer::Refused(Refusal::WorkLimitExceeded);
     };
-    let least = state.least;
+    let least = gap_of_float(state.least);
     let visits = allowance - state.left;
     ClearanceAnswer::Report(EdgeNodeClearance {
         minimum_clearance: least,

@@ -2,25 +2,27 @@
 ghost use mathlib.Core.Path.{_≡_};
 ghost use mathlib.Core.List.{List};
 ghost use Prim.Native.Nat.{ℕ, _+_, _*_, _^_, _≤_, _<_};
+ghost use lib.Ieee.{nan};
 ghost use Rattle.laws.specs.Charged.{within, free, visit};
+ghost use Rattle.drawing.specs.declared.gap.Gap.the-variants.{Present};
 ghost use Rattle.drawing.specs.Entries.{Exemption};
+ghost use Rattle.drawing.specs.Gaps.{lesserGap};
 ghost use Rattle.clearance.specs.Figures.{exempt};
 ghost use Rattle.clearance.specs.Tree.{boundsOf};
 ghost use Rattle.clearance.specs.Stored.{leafAt, storedTree};
 ghost use Rattle.clearance.specs.Walk.{contributes, withPair};
-ghost use Rattle.clearance.specs.Walking.{soFar, walkedOf, Part, Walkable, Exempting, Walks};
+ghost use Rattle.clearance.specs.Walking.{Number, gapOfFloat, soFar, outcomeOf, Part, Walkable, Exempting, Walks};
 ghost use Rattle.clearance.specs.Exempting.{InReach, Listed};
 use crate::exempt::Range;
 use crate::exempt::is_exempt;
 use crate::stored::box_from;
 use boxes::Aabb;
-use drawing::Gap;
-use drawing::minimum_option;
 
-// The figures so far, and how many visits are left.
+// The figures so far, and how many visits are left. The least distance is a NaN where there is none yet: no distance is a NaN, and +infinity may be one.
+// Every step of the walk copies a state that was just written, and a word is read at once only by a read of that word alone. So the least distance is one float, where a `Gap` has a tag of one byte, and it stands between the two numbers, which the compiler would otherwise copy as one.
 pub(crate) struct Walking {
-    pub least: Gap,
     pub violations: usize,
+    pub least: f64,
     pub left: usize,
 }
 
@@ -28,6 +30,13 @@ pub(crate) struct Walking {
 pub(crate) enum Walked {
     Spent,
     Went(Walking),
+}
+
+// No distance yet.
+pub(crate) fn no_distance() -> f64
+    ensures { λ r. ⌜ r ≡ nan ⌝ }
+{
+    0.0 / 0.0
 }
 
 // The box around the n leaves from leaf i on.
@@ -42,18 +51,24 @@ pub(crate) fn bounds_of(words: &[u64], i: usize, n: usize) -> Aabb
     }
 }
 
-// Whether a part whose box is at this distance may still change the figures.
-fn clearance_subtree_can_contribute(lower: f64, threshold: f64, least: Gap) -> bool
-    ensures { λ r. ⌜ r ≡ contributes lower threshold least ⌝ }
+// Whether a part whose box is at this distance may still change the figures. A NaN is at most nothing.
+fn clearance_subtree_can_contribute(lower: f64, threshold: f64, least: f64) -> bool
+    requires { ⌜ Number lower ⌝ }
+    ensures { λ r. ⌜ r ≡ contributes lower threshold (gapOfFloat least) ⌝ }
 {
-    match least {
-        Gap::Absent => true,
-        Gap::Present(minimum) => if lower < threshold {
-            true
-        } else {
-            lower < minimum
-        },
+    if lower < threshold {
+        true
+    } else {
+        !(least <= lower)
     }
+}
+
+// The least distance so far with one more.
+fn least_with(least: f64, distance: f64) -> f64
+    requires { ⌜ Number distance ⌝ }
+    ensures { λ r. ⌜ gapOfFloat r ≡ lesserGap (gapOfFloat least) (Present distance) ⌝ }
+{
+    if least <= distance { least } else { distance }
 }
 
 // Whether a leaf's id is exempt for the net of the range. Ids have 32 bits, and a word may have more.
@@ -80,8 +95,9 @@ fn visit_leaf(
 ) -> Walked
     requires { ⌜ Part (now words) i 1 ⌝ }
     requires { ⌜ InReach (now packed) range ⌝ }
+    requires { ⌜ Number distance ⌝ }
     requires { ⌜ state .violations + state .left < 2 ^ 64 ⌝ }
-    ensures { λ r. ⌜ ((ex : List Exemption) (net : ℕ) → Listed (now (packed .entry)) ex net range → r ≡ walkedOf (within (state .left) (visit (free (withPair (exempt ex net (leafAt (now (words .entry)) i .id)) threshold distance (soFar state)))))) ⌝ }
+    ensures { λ r. ⌜ ((ex : List Exemption) (net : ℕ) → Listed (now (packed .entry)) ex net range → outcomeOf r ≡ within (state .left) (visit (free (withPair (exempt ex net (leafAt (now (words .entry)) i .id)) threshold distance (soFar state))))) ⌝ }
 {
     if state.left == 0 {
         return Walked::Spent;
@@ -95,11 +111,12 @@ fn visit_leaf(
             left: left,
         });
     }
-    let least = minimum_option(least, Gap::Present(distance));
+    let least = least_with(least, distance);
     if distance < threshold {
+        let violations = state.violations + 1;
         Walked::Went(Walking {
             least: least,
-            violations: state.violations + 1,
+            violations: violations,
             left: left,
         })
     } else {
@@ -111,7 +128,21 @@ fn visit_leaf(
     }
 }
 
-// The walk of a segment with the given box, whose net has the exemptions of the range, over the n leaves from leaf i on, whose box is at distance `lower`: the nearer half first, the left one on a tie.
+// The same answer, copied field by field: copied whole it would be read by more than a word at a time (see `Walking`).
+fn handed_on(walked: Walked) -> Walked
+    ensures { λ r. ⌜ r ≡ walked ⌝ }
+{
+    let Walked::Went(state) = walked else {
+        return Walked::Spent;
+    };
+    Walked::Went(Walking {
+        violations: state.violations,
+        least: state.least,
+        left: state.left,
+    })
+}
+
+// The walk of a segment with the given box, whose net has the exemptions of the range, over the n leaves from leaf i on, whose box is at distance `lower`: the nearer half first, the left one on a tie. The state comes by its fields, for the same reason.
 pub(crate) fn visit_segment_candidates(
     words: &[u64],
     i: usize,
@@ -122,13 +153,19 @@ pub(crate) fn visit_segment_candidates(
     threshold: f64,
     packed: &[u64],
     range: Range,
-    state: Walking,
+    violations: usize,
+    least: f64,
+    allowance: usize,
 ) -> Walked
-    requires { ⌜ Walkable (now words) i n lower bounds net state ⌝ }
+    requires { ⌜ Walkable (now words) i n lower bounds net (record { violations = violations; least = least; left = allowance }) ⌝ }
     requires { ⌜ Exempting (now packed) net range ⌝ }
-    ensures { λ r. ⌜ ((ex : List Exemption) → Listed (now (packed .entry)) ex net range → Walks ex threshold (now (words .entry)) i n bounds net state r) ⌝ }
+    ensures { λ r. ⌜ ((ex : List Exemption) → Listed (now (packed .entry)) ex net range → Walks ex threshold (now (words .entry)) i n bounds net (record { violations = violations; least = least; left = allowance }) r) ⌝ }
 {
-    let least = state.least;
+    let state = Walking {
+        violations: violations,
+        least: least,
+        left: allowance,
+    };
     if !clearance_subtree_can_contribute(lower, threshold, least) {
         return Walked::Went(state);
     }
@@ -150,12 +187,14 @@ pub(crate) fn visit_segment_candidates(
             threshold,
             packed,
             range,
-            state,
+            violations,
+            least,
+            allowance,
         );
         let Walked::Went(next) = first else {
             return Walked::Spent;
         };
-        visit_segment_candidates(
+        let second = visit_segment_candidates(
             words,
             i,
             half,
@@ -165,8 +204,11 @@ pub(crate) fn visit_segment_candidates(
             threshold,
             packed,
             range,
-            next,
-        )
+            next.violations,
+            next.least,
+            next.left,
+        );
+        handed_on(second)
     } else {
         let first = visit_segment_candidates(
             words,
@@ -178,12 +220,14 @@ pub(crate) fn visit_segment_candidates(
             threshold,
             packed,
             range,
-            state,
+            violations,
+            least,
+            allowance,
         );
         let Walked::Went(next) = first else {
             return Walked::Spent;
         };
-        visit_segment_candidates(
+        let second = visit_segment_candidates(
             words,
             middle,
             n - half,
@@ -193,7 +237,10 @@ pub(crate) fn visit_segment_candidates(
             threshold,
             packed,
             range,
-            next,
-        )
+            next.violations,
+            next.least,
+            next.left,
+        );
+        handed_on(second)
     }
 }

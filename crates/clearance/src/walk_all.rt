@@ -8,14 +8,14 @@ ghost use Rattle.drawing.specs.Entries.{Exemption, segmentColumns};
 ghost use Rattle.clearance.specs.Stored.{storedTree};
 ghost use Rattle.clearance.specs.Walk.{walk};
 ghost use Rattle.clearance.specs.Exempting.{Holds};
-ghost use Rattle.clearance.specs.Walking.{soFar, walkedOf, Part, Held, InTurns, allWalks};
+ghost use Rattle.clearance.specs.Walking.{soFar, outcomeOf, Part, Held, InTurns, allWalks};
 use crate::exempt::range_of;
 use crate::walk::Walked;
 use crate::walk::Walking;
 use crate::walk::bounds_of;
+use crate::walk::no_distance;
 use crate::walk::visit_segment_candidates;
 use boxes::Aabb;
-use drawing::Gap;
 
 // The walk of one segment over the m leaves of the tree; the first k words of `packed` are the exemptions.
 fn walk_segment(
@@ -34,7 +34,7 @@ fn walk_segment(
     requires { ⌜ Part (now tree) 0 m ⌝ }
     requires { ⌜ Held (now packed) k ⌝ }
     requires { ⌜ state .violations + state .left < 2 ^ 64 ⌝ }
-    ensures { λ r. ⌜ ((ex : List Exemption) → Holds (now (packed .entry)) ex → length ex ≡ k → r ≡ walkedOf (within (state .left) (walk ex threshold (record { net = net; orientation = orientation; fixed = fixed; start = start; end = end }) (storedTree m (now (tree .entry)) 0 m) (soFar state)))) ⌝ }
+    ensures { λ r. ⌜ ((ex : List Exemption) → Holds (now (packed .entry)) ex → length ex ≡ k → outcomeOf r ≡ within (state .left) (walk ex threshold (record { net = net; orientation = orientation; fixed = fixed; start = start; end = end }) (storedTree m (now (tree .entry)) 0 m) (soFar state))) ⌝ }
 {
     let bounds = Aabb::from_segment(orientation == 1, fixed, start, end);
     let range = range_of(packed, k, net);
@@ -49,7 +49,9 @@ fn walk_segment(
         threshold,
         packed,
         range,
-        state,
+        state.violations,
+        state.least,
+        state.left,
     )
 }
 
@@ -71,10 +73,10 @@ pub(crate) fn walk_all(
     requires { ⌜ Part (now tree) 0 m ⌝ }
     requires { ⌜ InTurns (now order) (segmentColumns (now net) (now orientation) (now fixed) (now start) (now end)) ⌝ }
     requires { ⌜ Held (now packed) k ⌝ }
-    ensures { λ r. ⌜ ((ex : List Exemption) → Holds (now (packed .entry)) ex → length ex ≡ k → r ≡ walkedOf (within allowance (allWalks ex threshold (now (tree .entry)) m (now (order .entry)) (segmentColumns (now (net .entry)) (now (orientation .entry)) (now (fixed .entry)) (now (start .entry)) (now (end .entry)))))) ⌝ }
+    ensures { λ r. ⌜ ((ex : List Exemption) → Holds (now (packed .entry)) ex → length ex ≡ k → outcomeOf r ≡ within allowance (allWalks ex threshold (now (tree .entry)) m (now (order .entry)) (segmentColumns (now (net .entry)) (now (orientation .entry)) (now (fixed .entry)) (now (start .entry)) (now (end .entry))))) ⌝ }
 {
     let mut state = Walking {
-        least: Gap::Absent,
+        least: no_distance(),
         violations: 0,
         left: allowance,
     };

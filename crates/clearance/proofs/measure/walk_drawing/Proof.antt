@@ -11,8 +11,11 @@ use borrow.Author.Needs.{needs}
 use Rattle.clearance.proofs.measure.walk_drawing.Statement.{statement}
 use Rattle.clearance.proofs.measure.walk_drawing.Tie as tie
 
+no-distance-requires : tie.Need-no-distance-requires
+no-distance-requires c κs = search needs
+
 returns : tie.Need-returns
-returns c = let z = sizes (segmentColumns _ _ _ _ _) (nodeColumns _ _ _ _ _) (exemptionColumns _ _) _ _ (c .before .before .before .before .before .before .before .before .before .before .before .before .before .before .pre) in walked-none _ _ _ (nodeColumns _ _ _ _ _) (z .nodes) (c .if1 .taken) _
+returns c = let z = sizes (segmentColumns _ _ _ _ _) (nodeColumns _ _ _ _ _) (exemptionColumns _ _) _ _ (c .before .before .before .before .before .before .before .before .before .before .before .before .before .before .before .pre) in walked-none _ _ _ (nodeColumns _ _ _ _ _) (z .nodes) (c .before .if1 .taken) _ _ (c .no-distance .ensures)
 
 slice-aggregate-gather : tie.Need-slice-aggregate-gather
 slice-aggregate-gather c = search needs
@@ -95,6 +98,7 @@ pub walk-drawing-spec : {M : Type 1} → statement M
 walk-drawing-spec =
     tie.close
     (tie.spec
+    no-distance-requires
     returns
     slice-aggregate-gather
     gather-requires

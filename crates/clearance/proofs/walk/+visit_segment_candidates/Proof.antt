@@ -11,7 +11,7 @@ use borrow.Fn.Kinds.{In}
 use borrow.Fn.PlainCycle.{Measures, is, falls, and}
 use Rattle.drawing.specs.Entries.{Exemption}
 use Rattle.clearance.proofs.ExemptLaws.{in-reach}
-use Rattle.clearance.proofs.StoredWalk.{Halved, near-box, next-room, walks-pruned, walks-leaf, left-walkable, right-walkable, left-first, right-first, walks-stopped, walks-on}
+use Rattle.clearance.proofs.StoredWalk.{Halved, near-box, near-good, next-room, walks-pruned, walks-leaf, left-walkable, right-walkable, left-first, right-first, walks-stopped, walks-on}
 use Rattle.clearance.proofs.walk.visit_segment_candidates.Reads as visit
 use Rattle.clearance.proofs.walk.visit_segment_candidates.Kinds as visit-kinds
 use Rattle.clearance.proofs.walk.+visit_segment_candidates.Lts-visit_segment_candidates as visit-lts
@@ -19,6 +19,7 @@ use Rattle.boxes.proofs.aabb.Aabb.distance.Reads as distance-reads
 use Rattle.clearance.proofs.walk.bounds_of.Reads as bounds-of-reads
 use Rattle.clearance.proofs.walk.clearance_subtree_can_contribute.Reads as contribute-reads
 use Rattle.clearance.proofs.walk.visit_leaf.Reads as visit-leaf-reads
+use Rattle.clearance.proofs.walk.handed_on.Reads as handed-on-reads
 use Rattle.clearance.proofs.walk.+visit_segment_candidates.{statement}
 use Rattle.clearance.proofs.walk.+visit_segment_candidates.Tie.{close}
 
@@ -33,7 +34,7 @@ visit-below t = and 2 visit-kinds.ps (falls 2 visit-kinds.ps _<_ μ-visit t) vis
 
 -- what the calls ask and give
 abbrev claims : ℕ → visit-lts.Claims
-claims t = (contribute-reads.Asked, contribute-reads.Learnt, visit-leaf-reads.Asked, visit-leaf-reads.Learnt, bounds-of-reads.Asked, bounds-of-reads.Learnt, distance-reads.Asked, distance-reads.Learnt, visit-below t, visit.Post)
+claims t = (contribute-reads.Asked, contribute-reads.Learnt, visit-leaf-reads.Asked, visit-leaf-reads.Learnt, bounds-of-reads.Asked, bounds-of-reads.Learnt, distance-reads.Asked, distance-reads.Learnt, visit-below t, visit.Post, handed-on-reads.Asked, handed-on-reads.Learnt)
 
 -- the two distances are known: the part is halved
 abbrev Measured : ℕ → Type 0
@@ -51,7 +52,7 @@ leftward t c = c .before .before .distance .result
 abbrev rightward : (t : ℕ) → Measured t → Float
 rightward t c = c .distance2 .result
 
-halves : (t : ℕ) (c : Measured t) → let a = given t c .args in Halved (a .threshold) (now (a .words)) (a .i) (a .n) (a .lower) (a .bounds) (a .net) (a .state) (leftward t c) (rightward t c)
+halves : (t : ℕ) (c : Measured t) → let a = given t c .args in Halved (a .threshold) (now (a .words)) (a .i) (a .n) (a .lower) (a .bounds) (a .net) (record { violations = a .violations; least = a .least; left = a .allowance }) (leftward t c) (rightward t c)
 halves t c = record {
   ready = given t c .pre .1 .0;
   close = sym (c .before .before .before .before .before .before .clearance-subtree-can-contribute .ensures) ∙ not-false _ (c .before .before .before .before .before .if1 .left);
@@ -61,13 +62,13 @@ halves t c = record {
 }
 
 clearance-subtree-can-contribute-requires : (t : ℕ) → visit-lts.Need-clearance-subtree-can-contribute-requires (claims t) (visit-at t) visit.Post
-clearance-subtree-can-contribute-requires t c κs = search needs
+clearance-subtree-can-contribute-requires t c κs = near-good _ _ _ _ _ (c .before .before .pre .1 .0 .near) .num .1
 
 returns : (t : ℕ) → visit-lts.Need-returns (claims t) (visit-at t) visit.Post
 returns t c ex l = walks-pruned _ _ (c .before .before .before .before .pre .1 .0) (sym (c .before .clearance-subtree-can-contribute .ensures) ∙ not-true _ (c .if1 .taken))
 
 visit-leaf-requires : (t : ℕ) → visit-lts.Need-visit-leaf-requires (claims t) (visit-at t) visit.Post
-visit-leaf-requires t c κs = let l = c .before .before .before .before .before .pre .1 .1 .listed in (search needs, (in-reach _ _ _ _ (l .holds .rising) (l .places), search needs))
+visit-leaf-requires t c κs = let l = c .before .before .before .before .before .pre .1 .1 .listed in (search needs, (in-reach _ _ _ _ (l .holds .rising) (l .places), (near-good _ _ _ _ _ (c .before .before .before .before .before .pre .1 .0 .near) .num .1, search needs)))
 
 returns-2 : (t : ℕ) → visit-lts.Need-returns-2 (claims t) (visit-at t) visit.Post
 returns-2 t c ex l = walks-leaf _ _ (c .before .before .before .before .before .before .pre .1 .0) (sym (c .before .before .before .clearance-subtree-can-contribute .ensures) ∙ not-false _ (c .before .before .if1 .left)) (c .before .if2 .taken) _ (c .visit-leaf .ensures ex _ l)
@@ -126,11 +127,17 @@ returns-4 t c ex l = let q = c .before .before .before .before in let h = halves
 visit-segment-candidates-requires-4 : (t : ℕ) → visit-lts.Need-visit-segment-candidates-requires-4 (claims t) (visit-at t) visit.Post
 visit-segment-candidates-requires-4 t c κs = let q = c .before .before .before .before .before in let h = halves t q in (omega (arith, given t q .pre .0, h .more, h .ready .part .some), (right-walkable h _ (next-room (exempted t q) _ (left-walkable h _ (omega arith)) _ (c .before .before .before .visit-segment-candidates3 .ensures (exempted t q) (given t q .pre .1 .1 .listed)) _ (c .before .first2 .given .1)), given t q .pre .1 .1))
 
+handed-on-requires : (t : ℕ) → visit-lts.Need-handed-on-requires (claims t) (visit-at t) visit.Post
+handed-on-requires t c κs = search needs
+
+handed-on-requires-2 : (t : ℕ) → visit-lts.Need-handed-on-requires-2 (claims t) (visit-at t) visit.Post
+handed-on-requires-2 t c κs = search needs
+
 returns-5 : (t : ℕ) → visit-lts.Need-returns-5 (claims t) (visit-at t) visit.Post
-returns-5 t c ex l = let q = c .before .before .before .before .before .before in let h = halves t q in walks-on (right-first h ex (c .before .before .before .before .before .if3 .taken)) _ _ (c .before .before .before .before .visit-segment-candidates .ensures ex l) _ (c .before .before .first .given .1) _ (c .visit-segment-candidates2 .ensures ex l)
+returns-5 t c ex l = let b = c .before in let q = b .before .before .before .before .before .before in let h = halves t q in walks-on (right-first h ex (b .before .before .before .before .before .if3 .taken)) _ _ (b .before .before .before .before .visit-segment-candidates .ensures ex l) _ (b .before .before .first .given .1) _ _ (c .handed-on .ensures) (b .visit-segment-candidates2 .ensures ex l)
 
 returns-6 : (t : ℕ) → visit-lts.Need-returns-6 (claims t) (visit-at t) visit.Post
-returns-6 t c ex l = let q = c .before .before .before .before .before .before in let h = halves t q in walks-on (left-first h ex (c .before .before .before .before .before .if3 .left)) _ _ (c .before .before .before .before .visit-segment-candidates3 .ensures ex l) _ (c .before .before .first2 .given .1) _ (c .visit-segment-candidates4 .ensures ex l)
+returns-6 t c ex l = let b = c .before in let q = b .before .before .before .before .before .before in let h = halves t q in walks-on (left-first h ex (b .before .before .before .before .before .if3 .left)) _ _ (b .before .before .before .before .visit-segment-candidates3 .ensures ex l) _ (b .before .before .first2 .given .1) _ _ (c .handed-on2 .ensures) (b .visit-segment-candidates4 .ensures ex l)
 
 pub +visit-segment-candidates-spec : {M : Type 1} → statement M
 +visit-segment-candidates-spec = close μ-visit λ t. visit-lts.spec (claims t) (visit-at t) visit.Post
@@ -150,11 +157,13 @@ pub +visit-segment-candidates-spec : {M : Type 1} → statement M
     (enum-told t)
     (returns-3 t)
     (visit-segment-candidates-requires-2 t)
+    (handed-on-requires t)
     (visit-segment-candidates-requires-3 t)
     (enum-known-first-2 t)
     (enum-told-2 t)
     (returns-4 t)
     (sub-visit-segment-candidates-2 t)
     (visit-segment-candidates-requires-4 t)
+    (handed-on-requires-2 t)
     (returns-5 t)
     (returns-6 t)

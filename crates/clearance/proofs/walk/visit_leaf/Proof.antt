@@ -28,17 +28,17 @@ leaf-exempt-requires c κs = search needs
 returns-2 : tie.Need-returns-2
 returns-2 c ex net l = visit-passed _ _ _ _ (c .before .before .before .before .if1 .left) (sym (c .before .leaf-exempt .ensures ex net l) ∙ c .if2 .taken)
 
-minimum-option-requires : tie.Need-minimum-option-requires
-minimum-option-requires c κs = search needs
+least-with-requires : tie.Need-least-with-requires
+least-with-requires c κs = search needs
 
-add-t21 : tie.Need-add-t21
-add-t21 c = search needs
+add-violations : tie.Need-add-violations
+add-violations c = search needs
 
 returns-3 : tie.Need-returns-3
-returns-3 c ex net l = let q = c .before .before .before in visit-below _ _ _ _ (q .before .before .before .before .if1 .left) (sym (q .before .leaf-exempt .ensures ex net l) ∙ q .if2 .left) (c .before .if3 .taken) _ (c .before .before .minimum-option .ensures)
+returns-3 c ex net l = let q = c .before .before .before in visit-below _ _ _ _ (q .before .before .before .before .if1 .left) (sym (q .before .leaf-exempt .ensures ex net l) ∙ q .if2 .left) (c .before .if3 .taken) _ (c .before .before .least-with .ensures)
 
 returns-4 : tie.Need-returns-4
-returns-4 c ex net l = let q = c .before .before in visit-clear _ _ _ _ (q .before .before .before .before .if1 .left) (sym (q .before .leaf-exempt .ensures ex net l) ∙ q .if2 .left) (c .if3 .left) _ (c .before .minimum-option .ensures)
+returns-4 c ex net l = let q = c .before .before in visit-clear _ _ _ _ (q .before .before .before .before .if1 .left) (sym (q .before .leaf-exempt .ensures ex net l) ∙ q .if2 .left) (c .if3 .left) _ (c .before .least-with .ensures)
 
 pub visit-leaf-spec : {M : Type 1} → statement M
 visit-leaf-spec =
@@ -52,7 +52,7 @@ visit-leaf-spec =
     shared-slice-read-leaf-exempt
     leaf-exempt-requires
     returns-2
-    minimum-option-requires
-    add-t21
+    least-with-requires
+    add-violations
     returns-3
     returns-4)

@@ -14,8 +14,11 @@ Inv-loop tree m order net orientation fixed start end threshold packed k allowan
 abbrev μ-loop : tie.MeasureT-loop
 μ-loop tree m order net orientation fixed start end threshold packed k allowance state₀ q₀ state q = length net - q
 
+no-distance-requires : tie.Need-no-distance-requires Inv-loop μ-loop
+no-distance-requires c κs = search needs
+
 loop-holds : tie.Need-loop-holds Inv-loop μ-loop
-loop-holds c = turned-none _ _ _ _ _ _ (segmentColumns _ _ _ _ _) _ (c .before .before .before .before .before .before .before .before .pre .1 .0) (c .before .before .before .before .before .before .before .before .fits .allowance .fits) _ refl refl refl
+loop-holds c = turned-none _ _ _ _ _ _ (segmentColumns _ _ _ _ _) _ (c .before .before .before .before .before .before .before .before .before .pre .1 .0) (c .before .before .before .before .before .before .before .before .before .fits .allowance .fits) _ (c .no-distance .ensures) refl refl
 
 mul-i : tie.Need-mul-i Inv-loop μ-loop
 mul-i c = search needs
@@ -51,7 +54,7 @@ shared-slice-read-walk-segment-5 : tie.Need-shared-slice-read-walk-segment-5 Inv
 shared-slice-read-walk-segment-5 c = let h = turn-small _ (segmentColumns _ _ _ _ _) (c .before .before .before .before .before .before .before .loop .inv .turns) _ (c .before .before .before .before .before .before .loop-test .taken) in omega (arith, h, c .before .before .before .before .before .before .before .loop .inv .turns .agree .end)
 
 walk-segment-requires : tie.Need-walk-segment-requires Inv-loop μ-loop
-walk-segment-requires c κs = (c .before .before .before .before .before .before .before .before .before .before .before .before .before .before .before .before .pre .0, (c .before .before .before .before .before .before .before .before .before .before .before .before .before .before .before .before .pre .1 .1, c .before .before .before .before .before .before .before .loop .inv .room))
+walk-segment-requires c κs = (c .before .before .before .before .before .before .before .before .before .before .before .before .before .before .before .before .before .pre .0, (c .before .before .before .before .before .before .before .before .before .before .before .before .before .before .before .before .before .pre .1 .1, c .before .before .before .before .before .before .before .loop .inv .room))
 
 enum-known-walked : tie.Need-enum-known-walked Inv-loop μ-loop
 enum-known-walked c = search needs
@@ -69,7 +72,7 @@ loop-less : tie.Need-loop-less Inv-loop μ-loop
 loop-less c = search needs
 
 loop-again : tie.Need-loop-again Inv-loop μ-loop
-loop-again c = turned-next _ _ _ _ _ _ (segmentColumns _ _ _ _ _) _ _ _ (c .before .before .before .before .before .before .before .before .before .before .before .loop .inv) (c .before .before .before .before .before .before .before .before .before .before .loop-test .taken) _ (c .before .before .before .walk-segment .ensures) (c .before .before .before .before .before .before .before .before .before .before .before .before .before .before .before .before .before .before .before .before .pre .1 .1) _ (c .before .walked .given .1)
+loop-again c = turned-next _ _ _ _ _ _ (segmentColumns _ _ _ _ _) _ _ _ (c .before .before .before .before .before .before .before .before .before .before .before .loop .inv) (c .before .before .before .before .before .before .before .before .before .before .loop-test .taken) _ (c .before .before .before .walk-segment .ensures) (c .before .before .before .before .before .before .before .before .before .before .before .before .before .before .before .before .before .before .before .before .before .pre .1 .1) _ (c .before .walked .given .1)
 
 returns-2 : tie.Need-returns-2 Inv-loop μ-loop
 returns-2 c = λ ex h e. turned-all _ _ _ _ _ _ (segmentColumns _ _ _ _ _) _ _ _ (c .before .loop .inv) (c .loop-test .left) ex h e
@@ -80,6 +83,7 @@ walk-all-spec =
     (tie.spec
     Inv-loop
     μ-loop
+    no-distance-requires
     loop-holds
     mul-i
     shared-slice-read-i
