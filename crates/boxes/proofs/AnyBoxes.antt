@@ -1,26 +1,19 @@
--- The distance of any two boxes, whatever floats they hold, is a number that is not negative and not -0: `<` compares two such as totalOrder does. Assumes nothing.
-use mathlib.Core.Path.{_≡_, refl, sym, ap, _∙_}
+-- The distance of any two boxes, whatever floats they hold, is a number that is not negative and not -0. Assumes nothing.
+use mathlib.Core.Path.{_≡_, refl}
 use mathlib.Core.Logic.{inl, inr}
-use mathlib.Core.Bool.{Bool, true, false, not, cond}
-use Prim.Native.Nat.{ℕ, _+_, _-_, _*_, _≤_, _<_}
-use native.Mathlib.Nat.{le-of-lt, le-of-eq}
+use mathlib.Core.Bool.{Bool, true, false, not}
+use Prim.Native.Nat.{ℕ, _+_, _-_, _*_}
 use native.Mathlib.Omega.{arith}
-use borrow.Author.Tests.{ltb-true, ltb-false, le-ltb}
-use lib.Ieee.{Float, nan, inf, fin, binary64, up, down, round, sum, add, neg, sub, lt, below, fits, isNan}
-use Rattle.laws.proofs.Tests.{decide, clash, of-true}
-use Rattle.floats.specs.TotalOrder.{keyOf}
-use Rattle.floats.specs.Values.{greaterOf}
-use Rattle.floats.proofs.Rank.{mag, sgn}
-use Rattle.floats.proofs.Rounding.{round-num, round-shape}
-use Rattle.floats.proofs.Gaps.{Good, zero-good, good-one, good-lt}
-use Rattle.floats.proofs.NumberKeys.{key-lt}
+use borrow.Author.Tests.{ltb-true, le-ltb}
+use lib.Ieee.{Float, nan, inf, fin, binary64, up, down, sum, add, neg, sub, lt, below, fits, isNan}
+use Rattle.laws.proofs.Tests.{decide, clash}
+use Rattle.floats.proofs.Rank.{sgn}
+use Rattle.floats.proofs.Gaps.{Good, zero-good, round-good}
+use Rattle.floats.proofs.Extremes.{greater}
 use Rattle.boxes.specs.declared.aabb.Aabb.{Aabb}
 use Rattle.boxes.specs.Boxes.{axisGap, distance}
 
 -- ---- a float less one that is below it
-round-good : (a c : ℕ) → Good (round binary64 false a c)
-round-good a c = record { num = round-num binary64 false a c; plus = round-shape binary64 false a c .0 }
-
 -- of two fractions, the one above less the one below
 sum-good : (s t : Bool) (a b c : ℕ) → below t b s a ≡ true → Good (sum binary64 s a (not t) b c)
 unfolding sum
@@ -58,28 +51,6 @@ axis-good a b c d = elim (decide (lt b c)) [
   | inr e ↦ rw e (elim (decide (lt d a)) [ inl g ↦ rw g (above-good a d g) | inr g ↦ rw g zero-good ])
 ]
 
-pick-good : (b : Bool) (x y : Float) → Good x → Good y → Good (cond b x y)
-pick-good true x y p q = p
-pick-good false x y p q = q
-
-greater-good : (x y : Float) → Good x → Good y → Good (greaterOf x y)
-unfolding greaterOf
-greater-good x y p q = pick-good (lt x y) y x q p
-
 pub any-distance-good : (p q : Aabb) → Good (distance p q)
 unfolding distance
-any-distance-good p q = greater-good _ _ (axis-good (p .left) (p .right) (q .left) (q .right)) (axis-good (p .top) (p .bottom) (q .top) (q .bottom))
-
--- ---- two of them compared
-module _ (x y : Float) (p : Good x) (q : Good y) where
-  pub nearer-key : lt y x ≡ true → keyOf y < keyOf x
-  nearer-key h = key-lt y x (q .num) (p .num) (of-true (lt y x) h)
-
-  pub no-nearer-key : lt y x ≡ false → keyOf x ≤ keyOf y
-  no-nearer-key h = elim (decide (lt x y)) [
-    | inl e ↦ le-of-lt (key-lt x y (p .num) (q .num) (of-true (lt x y) e))
-    | inr e ↦ le-of-eq (ap keyOf (good-one x y p q (same (mag binary64 x) (mag binary64 y) (ltb-false _ _ (sym (good-lt x y p q) ∙ e)) (ltb-false _ _ (sym (good-lt y x q p) ∙ h)))))
-  ]
-    where
-      same : (m n : ℕ) → n ≤ m → m ≤ n → m ≡ n
-      same m n h k = omega arith
+any-distance-good p q = greater .good _ _ (axis-good (p .left) (p .right) (q .left) (q .right)) (axis-good (p .top) (p .bottom) (q .top) (q .bottom))

@@ -1,24 +1,24 @@
 -- Boxes of fit entries, and: the distance to a box is not larger than the distance to a box inside it, so boxes that lie in each other are equally far away. Assumes nothing.
 use mathlib.Core.Path.{_≡_, sym, ap, _∙_}
 use mathlib.Core.Logic.{inl, inr}
-use mathlib.Core.Bool.{Bool, true, false, cond}
+use mathlib.Core.Bool.{Bool, true, false}
 use Prim.Native.Nat.{ℕ, _-_, _≤_, _<_, min, max}
 use native.Mathlib.Nat.{le-refl, le-trans, le-antisymm, le-of-lt}
 use native.Mathlib.Omega.{arith}
 use lib.Dec.{eqb}
 use lib.Ieee.{Float, binary64, sub, lt}
 use borrow.Author.Tests.{ltb-false}
-use Rattle.laws.proofs.Tests.{decide, of-true, cond-true, cond-false}
+use Rattle.laws.proofs.Tests.{decide, of-true}
 use Rattle.floats.specs.Values.{lesserOf, greaterOf}
 use Rattle.floats.proofs.Rank.{mag, rank, Num, Fin, fin-num, lt-rank, lt→, distance as apart}
 use Rattle.floats.proofs.Rounding.{rnd, rnd-mono, rnd-zero}
 use Rattle.floats.proofs.Difference.{sub-mag}
 use Rattle.floats.proofs.Gaps.{Good, zero-good, zero-mag, sub-good, good-one}
-use Rattle.floats.proofs.Extremes.{greater}
+use Rattle.floats.proofs.Extremes.{greater, picked, lesser-rank, greater-rank}
 use Rattle.drawing.specs.Entries.{Segment, Node}
+use Rattle.drawing.proofs.Fit.{FitSegment, FitNode, Line, line-of, across-of, down-of}
 use Rattle.boxes.specs.declared.aabb.Aabb.{Aabb}
 use Rattle.boxes.specs.Boxes.{fromNode, fromSegment, nodeBox, segmentBox, union, axisGap, distance}
-use Rattle.boxes.proofs.Fit.{FitSegment, FitNode, Line, line-of, across-of, down-of}
 use Rattle.boxes.proofs.Growth.{grows}
 
 -- the place of a float in the order of the values
@@ -33,32 +33,20 @@ below : (x y : Float) → Fin binary64 x → Fin binary64 y → lt x y ≡ true 
 below x y p q e = lt→ binary64 x y (fin-num binary64 x p) (fin-num binary64 y q) (of-true (lt x y) e)
 
 -- ---- the lesser and the greater of two
-picked : (b : Bool) (x y : Float) → Fin binary64 x → Fin binary64 y → Fin binary64 (cond b y x)
-picked true x y p q = q
-picked false x y p q = p
-
 module _ (x y : Float) (p : Fin binary64 x) (q : Fin binary64 y) where
   lesser-fin : Fin binary64 (lesserOf x y)
   unfolding lesserOf
-  lesser-fin = picked (lt y x) x y p q
+  lesser-fin = picked (Fin binary64) (lt y x) x y p q
 
   greater-fin : Fin binary64 (greaterOf x y)
   unfolding greaterOf
-  greater-fin = picked (lt x y) x y p q
+  greater-fin = picked (Fin binary64) (lt x y) x y p q
 
-  pub lesser-at : at (lesserOf x y) ≡ min (at x) (at y)
-  unfolding lesserOf
-  lesser-at = elim (decide (lt y x)) [
-    | inl e ↦ let h = below y x q p e in ap at (cond-true (lt y x) y x e) ∙ omega arith
-    | inr e ↦ let h = not-below y x (fin-num binary64 y q) (fin-num binary64 x p) e in ap at (cond-false (lt y x) y x e) ∙ omega arith
-  ]
+  lesser-at : at (lesserOf x y) ≡ min (at x) (at y)
+  lesser-at = lesser-rank x y (fin-num binary64 x p) (fin-num binary64 y q)
 
-  pub greater-at : at (greaterOf x y) ≡ max (at x) (at y)
-  unfolding greaterOf
-  greater-at = elim (decide (lt x y)) [
-    | inl e ↦ let h = below x y p q e in ap at (cond-true (lt x y) y x e) ∙ omega arith
-    | inr e ↦ let h = not-below x y (fin-num binary64 x p) (fin-num binary64 y q) e in ap at (cond-false (lt x y) y x e) ∙ omega arith
-  ]
+  greater-at : at (greaterOf x y) ≡ max (at x) (at y)
+  greater-at = greater-rank x y (fin-num binary64 x p) (fin-num binary64 y q)
 
 -- ---- along one axis: from a to b, both finite
 pub record Span (a b : Float) : Type 0 where
@@ -158,14 +146,17 @@ pub fit-segment : (s : Segment) → FitSegment s → FitBox (segmentBox s)
 unfolding segmentBox fromSegment
 fit-segment s p = go (eqb (s .orientation) 1)
   where
-    l : Line (s .fixed) (s .start) (s .end)
-    l = line-of s p
+    l : Line s
+    l = line-of s (p .passes)
 
     along : Span (s .start) (s .end)
-    along = record { low = l .start-fin; high = l .end-fin; rising = le-of-lt (lt→ binary64 (s .start) (s .end) (fin-num binary64 (s .start) (l .start-fin)) (fin-num binary64 (s .end) (l .end-fin)) (l .rising)) }
+    along =
+        let a : Fin binary64 (s .start) = (p .held .start, l .start) in
+        let b : Fin binary64 (s .end) = (p .held .end, l .end) in
+        record { low = a; high = b; rising = le-of-lt (lt→ binary64 (s .start) (s .end) (fin-num binary64 (s .start) a) (fin-num binary64 (s .end) b) (l .rising)) }
 
     crossing : Span (s .fixed) (s .fixed)
-    crossing = record { low = l .fixed-fin; high = l .fixed-fin; rising = le-refl (at (s .fixed)) }
+    crossing = record { low = (p .held .fixed, l .fixed); high = (p .held .fixed, l .fixed); rising = le-refl (at (s .fixed)) }
 
     go : (b : Bool) → FitBox (fromSegment b (s .fixed) (s .start) (s .end))
     go true = record { across = along; down = crossing }

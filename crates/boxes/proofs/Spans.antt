@@ -15,9 +15,9 @@ use Rattle.floats.proofs.Rounding.{round-shape, rnd, rnd-pos}
 use Rattle.floats.proofs.Difference.{sign-of, plus-sign, sub-round, sub-num, sub-rank, shift-down}
 use Rattle.floats.proofs.Gaps.{Good}
 use Rattle.drawing.specs.Entries.{Node}
+use Rattle.drawing.proofs.Fit.{FitNode, across-of, down-of}
 use Rattle.boxes.specs.declared.aabb.Aabb.{Aabb}
 use Rattle.boxes.specs.Boxes.{fromNode, nodeBox, union}
-use Rattle.boxes.proofs.Fit.{FitNode, across-of, down-of}
 use Rattle.boxes.proofs.BoxLaws.{Span, FitBox, fit-node, fit-union}
 
 -- no -0: where the value is not below zero the sign is plus

@@ -19,7 +19,7 @@ use Rattle.clearance.specs.Figures.{Figures, distances, figures}
 use Rattle.clearance.specs.Tree.{Tree, treeOf}
 use Rattle.clearance.specs.Walk.{walk, walkAll, visitCount}
 use Rattle.clearance.specs.Answer.{allPairs}
-use Rattle.boxes.proofs.Fit.{FitSegment, FitNode, FitThreshold, threshold-num}
+use Rattle.drawing.proofs.Fit.{FitSegment, FitNode, FitThreshold, threshold-num}
 use Rattle.clearance.proofs.TreeLaws.{leaves, Sound, sound-fit, tree-leaves, tree-sound}
 use Rattle.clearance.proofs.Distances.{distancesOf, good-distances, distancesAll, good-distances-all, perm-distances-all, distances-all, distances-perm}
 use Rattle.clearance.proofs.WalkFigures.{sofar, under, onwards, onwards-none, onwards-more, walk-figures}

@@ -15,10 +15,10 @@ use Rattle.drawing.specs.Conditions.{unfitSegment, unfitNode}
 use Rattle.drawing.specs.Checks.{listConditions, entryConditions, clearanceConditions}
 use Rattle.drawing.proofs.FirstRefusal.{passed-head}
 use Rattle.drawing.proofs.ListOrders.{SegmentHeld, NodeHeld}
+use Rattle.drawing.proofs.Fit.{FitSegment, FitNode, FitThreshold}
 use Rattle.clearance.specs.declared.report.ClearanceAnswer.the-variants.{Refused}
 use Rattle.clearance.specs.Figures.{Figures}
 use Rattle.clearance.specs.Answer.{reportOf, accepted, allPairs, answer, zeros, resultOf}
-use Rattle.boxes.proofs.Fit.{FitSegment, FitNode, FitThreshold}
 
 -- what every call knows of its floats: binary64 holds them
 pub record Lent (s : SegmentColumns) (n : NodeColumns) (t : Float) : Type 0 where

@@ -19,7 +19,7 @@ use Rattle.clearance.specs.Figures.{Figures, exempt, figures}
 use Rattle.clearance.specs.Tree.{Tree, bare, leaf, branch, boundsOf, indexed, build, treeOf}
 use Rattle.clearance.specs.Walk.{contributes, withPair, walk, noFigures, walkAll, visitCount}
 use Rattle.clearance.specs.Answer.{allPairs}
-use Rattle.boxes.proofs.Fit.{FitSegment, FitNode}
+use Rattle.drawing.proofs.Fit.{FitSegment, FitNode}
 use Rattle.clearance.proofs.Distances.{exempt-perm, distances-good, distances-perm}
 
 -- the walk looks at exemptions only through `exempt`

@@ -7,20 +7,16 @@ use lib.Dec.{eqb}
 use lib.Ieee.{Float}
 use Rattle.laws.specs.Lists.{All, put, chosen, beside, cross}
 use Rattle.laws.specs.Perm.{Perm, none}
-use Rattle.laws.proofs.ListLaws.{all-mem, mem-all, all-append, mem-chosen, chosen-append}
+use Rattle.laws.proofs.ListLaws.{all-mem, mem-all, all-append, all-chosen, chosen-append}
 use Rattle.laws.proofs.Perms.{perm-both, perm-some, perm-chosen, perm-cross}
 use Rattle.floats.proofs.Gaps.{Good}
 use Rattle.drawing.specs.Entries.{Segment, Node, Exemption}
 use Rattle.boxes.specs.Boxes.{nodeBox, segmentBox, distance}
 use Rattle.clearance.specs.Figures.{exempt, distances}
 use Rattle.clearance.specs.Tree.{IndexedNode, indexed}
-use Rattle.boxes.proofs.Fit.{FitSegment, FitNode}
+use Rattle.drawing.proofs.Fit.{FitSegment, FitNode}
 use Rattle.boxes.proofs.BoxLaws.{fit-segment, distance-good}
 use Rattle.clearance.proofs.TreeLaws.{FitIndexed, indexed-fit}
-
--- what holds of h of each entry holds of the chosen ones
-pub all-chosen : {A C : Type 0} (P : C → Type 0) (p : A → Bool) (h : A → C) (l : List A) → All (λ x. P (h x)) l → All P (chosen p h l)
-all-chosen P p h l k = mem-all P (chosen p h l) (λ z m. let r = mem-chosen p h z l m in subst P (sym (r .3)) (all-mem (λ x. P (h x)) l k (r .0) (r .1)))
 
 -- the test and the distance of the definition
 abbrev notExempt : List Exemption → Segment × Node → Bool

@@ -1,23 +1,24 @@
 -- Exemptions as words in ascending order: how they are gathered, found by halving and looked up. Assumes nothing.
 use mathlib.Core.Path.{_≡_, refl, sym, ap, _∙_, subst}
 use mathlib.Core.Logic.{inl, inr}
-use mathlib.Core.Bool.{Bool, true, false, _&&_, _||_}
+use mathlib.Core.Bool.{Bool, true, false, _&&_}
 use mathlib.Core.List.{List, [], _∷_, map}
 use Prim.Native.Nat.{ℕ, zero, suc, _+_, _-_, _*_, _/_, _%_, _^_, _≤_, _<_}
-use native.Mathlib.Nat.{not-suc-le-zero, le-of-suc-le-suc, le-of-eq, zero-add, add-zero, mul-zero, mul-one}
+use native.Mathlib.Nat.{not-suc-le-zero, le-of-suc-le-suc, le-refl, zero-add, add-zero, mul-zero, mul-one}
 use native.Mathlib.Omega.{arith}
 use borrow.Author.Tests.{leb-true, le-leb, eqb-true, eqb-false, eq-eqb}
 use lib.Dec.{leb, eqb}
 use lib.ListN.{length, getD, take, drop, set, length-map}
-use lib.Seq.{take-all, take-length, getD-take, length-take-le, paste, take-paste, drop-paste}
-use Rattle.laws.specs.Lists.{Mem, All, some-of}
+use lib.Seq.{take-all, getD-take, length-take-le, paste, take-paste, drop-paste}
+use Rattle.laws.specs.Lists.{All, some-of}
 use Rattle.laws.specs.Perm.{via}
 use Rattle.laws.specs.Sort.{Sorted}
 use Rattle.laws.proofs.Tests.{decide, clash, and-left, and-right, and-both, le-or-lt}
-use Rattle.laws.proofs.ListLaws.{all-mem, some-mem, none-all}
-use Rattle.laws.proofs.Places.{first-at, at-first}
+use Rattle.laws.proofs.ListLaws.{all-mem, some-mem, none-all, some-map}
+use Rattle.laws.proofs.Places.{at-all, first-at, at-first}
 use Rattle.laws.proofs.Perms.{perm-eq, perm-map, perm-some}
 use Rattle.laws.proofs.Sorting.{sort-sorted}
+use Rattle.laws.proofs.SortedLists.{sorted-at}
 use Rattle.laws.proofs.Columns.{Written, written-none, written-next, written-all}
 use Rattle.sorting.specs.Sorted.{before, sortable, sorted}
 use Rattle.sorting.proofs.RowOrder.{before-order, compare-start, compare-end}
@@ -29,28 +30,6 @@ use Rattle.drawing.proofs.EntryLaws.{length-exemptions}
 use Rattle.clearance.specs.declared.exempt.Range.{Range}
 use Rattle.clearance.specs.Figures.{exempt}
 use Rattle.clearance.specs.Exempting.{word, unpacked, wordAt, nodeOf, Ascending, Rising, Gathered, Bound, Own, InReach, Listed}
-
--- ---- lists by their places
--- what holds at every place holds of each entry
-pub all-places : {A : Type 0} (P : A → Type 0) (d : A) (l : List A) → ((i : ℕ) → i < length l → P (getD l i d)) → All P l
-all-places P d l h = subst (All P) (take-length l) (at-first P d (length l) l (omega arith) h)
-
-mem-at : {A : Type 0} (l : List A) (k : ℕ) (d : A) → k < length l → Mem (getD l k d) l
-mem-at [] k d h = absurd (not-suc-le-zero h)
-mem-at (x ∷ l) zero d h = inl refl
-mem-at (x ∷ l) (suc k) d h = inr (mem-at l k d (le-of-suc-le-suc h))
-
--- of a list in order, the entry at a place may stand before those at later places
-sorted-at : {A : Type 0} (le : A → A → Bool) (d : A) (l : List A) → Sorted le l → (i j : ℕ) → i < j → j < length l → le (getD l i d) (getD l j d) ≡ true
-sorted-at le d [] s i j h k = absurd (not-suc-le-zero k)
-sorted-at le d (x ∷ l) s i zero h k = absurd (not-suc-le-zero h)
-sorted-at le d (x ∷ l) s zero (suc j) h k = s .0 (getD l j d) (mem-at l j d (le-of-suc-le-suc k))
-sorted-at le d (x ∷ l) s (suc i) (suc j) h k = sorted-at le d l (s .1) i j (le-of-suc-le-suc h) (le-of-suc-le-suc k)
-
-some-map : {A B : Type 0} (p : B → Bool) (f : A → B) (l : List A) → some-of p (map f l) ≡ some-of (λ x. p (f x)) l
-unfolding some-of
-some-map p f [] = refl
-some-map p f (x ∷ l) = ap (λ (b : Bool). p (f x) || b) (some-map p f l)
 
 -- ---- the search by halving: the place that is looked for is one of the n from `at` on, or the one behind them
 pub record Halving (key : ℕ → ℕ) (a b v at n : ℕ) : Type 0 where
@@ -234,14 +213,9 @@ module _ (s : List ℕ) (n : ℕ) (h : n ≤ length s) where
       in-order : Sorted (before (drop n s) 0) (take n t)
       in-order = subst (Sorted (before (drop n s) 0)) (sym (sorted-column s n n 0 fits)) (sort-sorted (before (drop n s) 0) (before-order (drop n s) 0) (take n s))
 
-      strict : (i j : ℕ) → i < j → j < n → getD t i 0 ≤ getD t j 0
-      strict i j p q = leb-true (getD t i 0) (getD t j 0) (by-word s n (getD t i 0) (getD t j 0) h ∙ (λ x. before (drop n s) 0 (sym (getD-take n t i 0 (omega arith)) x) (sym (getD-take n t j 0 q) x)) ∙ sorted-at (before (drop n s) 0) 0 (take n t) in-order i j p (omega (arith, length-take-le n t (omega (arith, sorted-length s n n 0)))))
-
       order : (i j : ℕ) → i ≤ j → j < n → getD t i 0 ≤ getD t j 0
-      order i j p q = elim (le-or-lt j i) [
-        | inl g ↦ let e : i ≡ j = omega arith in le-of-eq (ap (λ (x : ℕ). getD t x 0) e)
-        | inr g ↦ strict i j g q
-      ]
+      order i j p q = subst (λ (x : ℕ). x ≤ getD t j 0) (getD-take n t i 0 (omega arith)) (subst (λ (x : ℕ). getD (take n t) i 0 ≤ x) (getD-take n t j 0 q)
+          (sorted-at (before (drop n s) 0) _≤_ le-refl (λ x y e. leb-true x y (by-word s n x y h ∙ e)) 0 (take n t) in-order i j p (omega (arith, length-take-le n t (omega (arith, sorted-length s n n 0))))))
 
 -- what is unpacked is what was packed
 unpacked-packed : (l : List Exemption) → All (λ e. e .node < 4294967296) l → map unpacked (map packed l) ≡ l
@@ -256,7 +230,7 @@ unpacked-packed (e ∷ l) h = λ i. one (h .0) i ∷ unpacked-packed l (h .1) i
 
 module _ (c : ExemptionColumns) (a : ExemptionsAgree c) (small : (i : ℕ) → getD (c .node) i 0 < 4294967296) where
   all-small : All (λ e. e .node < 4294967296) (exemptions c)
-  all-small = all-places (λ e. e .node < 4294967296) (exemptionAt c 0) (exemptions c)
+  all-small = at-all (λ e. e .node < 4294967296) (exemptionAt c 0) (exemptions c)
       (λ i h. subst (λ (e : Exemption). e .node < 4294967296) (sym (exemptions-get (c .net) (c .node) (a .node) (exemptionAt c 0) i (omega (arith, length-exemptions c a)))) (small i))
 
   pub gathered : (s₀ s s′ : List ℕ) (i : ℕ) → Packing c s₀ s i → length (c .net) ≤ i → s′ ≡ sorted s (length (c .net)) (length (c .net)) 0 → Gathered c s₀ s′

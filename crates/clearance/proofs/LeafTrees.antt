@@ -11,53 +11,19 @@ use Rattle.laws.specs.Lists.{All}
 use Rattle.laws.proofs.ListLaws.{all-mem, all-first, all-second}
 use Rattle.laws.proofs.Perms.{perm-length, perm-all, perm-sym, perm-map}
 use Rattle.sorting.proofs.Entries.{sorted-entries}
-use Rattle.floats.proofs.NumberKeys.{key-of-one}
 use Rattle.drawing.specs.Entries.{NodeColumns}
 use Rattle.clearance.specs.Tree.{IndexedNode, indexedRow, indexedInOrder, Tree, build}
 use Rattle.clearance.specs.LeafOrder.{indexedAt, boxFrom, horizontalPart, along, leafOrder, treeOver}
 use Rattle.clearance.proofs.TreeLaws.{FitIndexed}
 use Rattle.clearance.proofs.UnionTrees.{joined, rejoined}
 use Rattle.clearance.proofs.LeafOrders.{order-short, order-long, order-perm, along-perm}
+use Rattle.clearance.proofs.NodeOrder.{row-one}
+use Rattle.clearance.proofs.TableLaws.{node-wide}
 
 -- the two tables hold the rows of the nodes along either axis
 pub record Tabled (c : NodeColumns) (kx ky : List ℕ) : Type 0 where
   pub across : (i : ℕ) → i < length (c .id) → take 5 (drop (i * 5) kx) ≡ indexedRow true (indexedAt c i)
   pub down : (i : ℕ) → i < length (c .id) → take 5 (drop (i * 5) ky) ≡ indexedRow false (indexedAt c i)
-
--- ---- a row along an axis tells the node
-abbrev head : List ℕ → ℕ
-head [] = 0
-head (x ∷ l) = x
-
-abbrev tail : List ℕ → List ℕ
-tail [] = []
-tail (x ∷ l) = l
-
-abbrev word : ℕ → List ℕ → ℕ
-word zero l = head l
-word (suc k) l = word k (tail l)
-
-row-length : (h : Bool) (n : IndexedNode) → length (indexedRow h n) ≡ 5
-unfolding indexedRow
-row-length true n = refl
-row-length false n = refl
-
-row-one : (h : Bool) (m n : IndexedNode) → FitIndexed m → FitIndexed n → indexedRow h m ≡ indexedRow h n → m ≡ n
-unfolding indexedRow
-row-one true m n p q e =
-    let a = key-of-one (m .bounds .left) (n .bounds .left) (p .across .low .0) (q .across .low .0) (ap (word 0) e) in
-    let b = key-of-one (m .bounds .right) (n .bounds .right) (p .across .high .0) (q .across .high .0) (ap (word 1) e) in
-    let c = key-of-one (m .bounds .top) (n .bounds .top) (p .down .low .0) (q .down .low .0) (ap (word 2) e) in
-    let d = key-of-one (m .bounds .bottom) (n .bounds .bottom) (p .down .high .0) (q .down .high .0) (ap (word 3) e) in
-    let f = ap (word 4) e in
-    λ i. record { id = f i; bounds = record { left = a i; top = c i; right = b i; bottom = d i } }
-row-one false m n p q e =
-    let a = key-of-one (m .bounds .left) (n .bounds .left) (p .across .low .0) (q .across .low .0) (ap (word 2) e) in
-    let b = key-of-one (m .bounds .right) (n .bounds .right) (p .across .high .0) (q .across .high .0) (ap (word 3) e) in
-    let c = key-of-one (m .bounds .top) (n .bounds .top) (p .down .low .0) (q .down .low .0) (ap (word 0) e) in
-    let d = key-of-one (m .bounds .bottom) (n .bounds .bottom) (p .down .high .0) (q .down .high .0) (ap (word 1) e) in
-    let f = ap (word 4) e in
-    λ i. record { id = f i; bounds = record { left = a i; top = c i; right = b i; bottom = d i } }
 
 -- ---- parts of a mapped list
 map-take : {A B : Type 0} (f : A → B) (h : ℕ) (l : List A) → take h (map f l) ≡ map f (take h l)
@@ -102,7 +68,7 @@ module _ (c : NodeColumns) (kx ky : List ℕ) (tabled : Tabled c kx ky) where
   unfolding along indexedInOrder
   along-nodes l p q =
       let h = horizontalPart c l in
-      sorted-entries (cond h kx ky) 5 l (indexedAt c) (indexedRow h) (row-length h) (λ i m. table-row h i (all-mem (λ i. i < length (c .id)) l p i m)) FitIndexed (row-one h) q
+      sorted-entries (cond h kx ky) 5 l (indexedAt c) (indexedRow h) (node-wide h) (λ i m. table-row h i (all-mem (λ i. i < length (c .id)) l p i m)) FitIndexed (row-one h) q
 
   -- the halves of a list of places, as nodes
   module _ (l : List ℕ) (p : Small l) (q : Fitting l) where

@@ -27,7 +27,7 @@ use Rattle.drawing.specs.Orders.{nodesInOrder}
 use Rattle.drawing.proofs.ListOrders.{nodes-in-order-perm}
 use Rattle.boxes.specs.declared.aabb.Aabb.{Aabb}
 use Rattle.clearance.specs.Tree.{IndexedNode, indexed, indexedRow, indexedInOrder, horizontalWider, hull, build, treeOf}
-use Rattle.boxes.proofs.Fit.{FitNode}
+use Rattle.drawing.proofs.Fit.{FitNode}
 use Rattle.boxes.proofs.BoxLaws.{at, Span, Alike}
 use Rattle.boxes.proofs.Spans.{Whole, whole-node, whole-union, width-good, height-good}
 use Rattle.clearance.proofs.TreeLaws.{FitIndexed, around-alike, around-perm, hull-around}
@@ -73,7 +73,7 @@ held-one m n p q a b c d e =
     let u = key-of-one (m .bounds .bottom) (n .bounds .bottom) (p .down .high .0) (q .down .high .0) d in
     λ i. record { id = e i; bounds = record { left = l i; top = t i; right = r i; bottom = u i } }
 
-row-one : (horizontal : Bool) (m n : IndexedNode) → FitIndexed m → FitIndexed n → indexedRow horizontal m ≡ indexedRow horizontal n → m ≡ n
+pub row-one : (horizontal : Bool) (m n : IndexedNode) → FitIndexed m → FitIndexed n → indexedRow horizontal m ≡ indexedRow horizontal n → m ≡ n
 unfolding indexedRow
 row-one true m n p q e = held-one m n p q (cc) (cc) (cc) (cc) (cc)
 row-one false m n p q e = held-one m n p q (cc) (cc) (cc) (cc) (cc)

@@ -10,19 +10,19 @@ use lib.Ieee.{Float, binary64, nan, fits}
 use lib.ListN.{length, getD}
 use Rattle.laws.specs.Lists.{All, some-of}
 use Rattle.laws.proofs.ListLaws.{all-mem, mem-all, none-all}
+use Rattle.laws.proofs.Places.{at-all}
 use Rattle.drawing.specs.declared.refusal.Refusal.{Refusal}
 use Rattle.drawing.specs.declared.refusal.Check.the-variants.{Passed}
-use Rattle.drawing.specs.Entries.{Segment, Node, SegmentColumns, NodeColumns, ExemptionColumns, segments, nodes}
+use Rattle.drawing.specs.Entries.{Segment, Node, SegmentColumns, NodeColumns, ExemptionColumns, segments, nodes, segmentAt, nodeAt}
 use Rattle.drawing.specs.Lengths.{SegmentsAgree, NodesAgree, ExemptionsAgree}
 use Rattle.drawing.specs.Refusals.{firstOf}
 use Rattle.drawing.specs.Conditions.{differ, unfitSegment, unfitNode}
 use Rattle.drawing.specs.Checks.{exemptionsDiffer, listConditions, entryConditions, tightPairConditions}
-use Rattle.drawing.proofs.EntryLaws.{segmentAt, nodeAt, length-segments, segments-at, length-nodes, nodes-at}
+use Rattle.drawing.proofs.EntryLaws.{length-segments, segments-at, length-nodes, nodes-at}
 use Rattle.drawing.proofs.FirstRefusal.{ListsPass, lists-pass, passed-head, first-no}
 use Rattle.drawing.proofs.ListOrders.{SegmentHeld, NodeHeld}
 use Rattle.clearance.specs.Exempting.{Rising, Gathered}
-use Rattle.boxes.proofs.Fit.{FitSegment, FitNode}
-use Rattle.clearance.proofs.ExemptLaws.{all-places}
+use Rattle.drawing.proofs.Fit.{FitSegment, FitNode}
 
 -- conditions that all pass do so in two parts
 passed-both : (l m : List (Bool × Refusal)) → firstOf (l ++ m) ≡ Passed → (firstOf l ≡ Passed) × (firstOf m ≡ Passed)
@@ -54,11 +54,11 @@ pub record FloatsLent (s : SegmentColumns) (n : NodeColumns) : Type 0 where
 
 module _ (s : SegmentColumns) (n : NodeColumns) (l : FloatsLent s n) where
   segments-held : SegmentsAgree s → All SegmentHeld (segments s)
-  segments-held a = all-places SegmentHeld (segmentAt s 0) (segments s) (λ i b.
+  segments-held a = at-all SegmentHeld (segmentAt s 0) (segments s) (λ i b.
       subst SegmentHeld (sym (segments-at s a (segmentAt s 0) i (omega (arith, length-segments s a)))) (record { fixed = l .fixed i; start = l .start i; end = l .end i }))
 
   nodes-held : NodesAgree n → All NodeHeld (nodes n)
-  nodes-held a = all-places NodeHeld (nodeAt n 0) (nodes n) (λ i b.
+  nodes-held a = at-all NodeHeld (nodeAt n 0) (nodes n) (λ i b.
       subst NodeHeld (sym (nodes-at n a (nodeAt n 0) i (omega (arith, length-nodes n a)))) (record { x = l .x i; y = l .y i; width = l .width i; height = l .height i }))
 
 -- entries of which none is unfit

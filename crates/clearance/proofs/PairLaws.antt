@@ -17,13 +17,13 @@ use Rattle.drawing.specs.declared.gap.Gap.{Gap}
 use Rattle.drawing.specs.declared.gap.Gap.the-variants.{Absent, Present}
 use Rattle.drawing.specs.declared.refusal.Refusal.{Refusal}
 use Rattle.drawing.specs.declared.refusal.Check.the-variants.{Passed, Refused as Stopped}
-use Rattle.drawing.specs.Entries.{Segment, Node, Exemption, SegmentColumns, NodeColumns, ExemptionColumns, segments, nodes, exemptions}
+use Rattle.drawing.specs.Entries.{Segment, Node, Exemption, SegmentColumns, NodeColumns, ExemptionColumns, segments, nodes, exemptions, segmentAt, nodeAt}
 use Rattle.drawing.specs.Refusals.{firstOf}
 use Rattle.drawing.specs.Checks.{tightPairConditions}
 use Rattle.drawing.specs.Lengths.{SegmentsAgree, NodesAgree}
 use Rattle.drawing.specs.Gaps.{leastGap, lesserGap}
 use Rattle.drawing.proofs.GapLaws.{least-none, least-one, least-join}
-use Rattle.drawing.proofs.EntryLaws.{segmentAt, nodeAt, length-segments, segments-at, length-nodes, nodes-at}
+use Rattle.drawing.proofs.EntryLaws.{length-segments, segments-at, length-nodes, nodes-at}
 use Rattle.boxes.specs.declared.aabb.Aabb.{Aabb}
 use Rattle.clearance.specs.declared.exempt.Range.{Range}
 use Rattle.clearance.specs.declared.tight_pair.Best.{Best}
@@ -35,7 +35,7 @@ use Rattle.clearance.specs.Tree.{indexed}
 use Rattle.clearance.specs.Exempting.{Holds, Gathered, Own, Listed}
 use Rattle.clearance.specs.Looking.{nearer, noPair, withPair, inTurn, lookNodes, lookSegments}
 use Rattle.clearance.specs.TightPair.{Tight, found, answer, Answered}
-use Rattle.boxes.proofs.Fit.{FitSegment, FitNode}
+use Rattle.drawing.proofs.Fit.{FitSegment, FitNode}
 use Rattle.boxes.proofs.BoxLaws.{fit-node, fit-segment, distance-good}
 use Rattle.clearance.proofs.TreeLaws.{indexed-fit}
 use Rattle.clearance.proofs.Distances.{distancesOf, good-distances, distancesAll, distances-all}

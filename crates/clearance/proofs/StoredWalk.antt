@@ -27,7 +27,8 @@ use Rattle.clearance.specs.Tree.{Tree, leaf, branch, boundsOf}
 use Rattle.clearance.specs.Stored.{boxAt, leafAt, splitAt, storedTree}
 use Rattle.clearance.specs.Walk.{contributes, withPair, walk}
 use Rattle.clearance.specs.Walking.{gapOfFloat, soFar, outcomeOf, Near, Walkable, Walks}
-use Rattle.boxes.proofs.AnyBoxes.{any-distance-good, nearer-key, no-nearer-key}
+use Rattle.floats.proofs.NumberKeys.{nearer-key, no-nearer-key}
+use Rattle.boxes.proofs.AnyBoxes.{any-distance-good}
 use Rattle.clearance.proofs.Visits.{walk-violations}
 use Rattle.clearance.proofs.WalkSteps.{lower, walk-pruned, walk-leaf, walk-left-first, walk-right-first}
 

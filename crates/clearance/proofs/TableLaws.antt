@@ -18,10 +18,10 @@ use Rattle.sorting.specs.Sorted.{upTo, sortable, sorted, before}
 use Rattle.sorting.proofs.Entries.{sorted-length, sorted-rest, sorted-column, sorted-entries, upTo-below, upTo-placed, upTo-sortable, length-upTo}
 use Rattle.sorting.proofs.Tables.{row-front, row-there}
 use Rattle.floats.specs.TotalOrder.{keyOf}
-use Rattle.drawing.specs.Entries.{Segment, SegmentColumns, NodeColumns, segments}
+use Rattle.drawing.specs.Entries.{Segment, SegmentColumns, NodeColumns, segments, segmentAt, nodeAt}
 use Rattle.drawing.specs.Lengths.{SegmentsAgree}
 use Rattle.drawing.specs.Orders.{segmentRow, segmentsInOrder}
-use Rattle.drawing.proofs.EntryLaws.{segmentAt, nodeAt, length-segments, segments-at}
+use Rattle.drawing.proofs.EntryLaws.{length-segments, segments-at}
 use Rattle.drawing.proofs.ListOrders.{SegmentHeld, segment-row-one}
 use Rattle.boxes.specs.declared.aabb.Aabb.{Aabb}
 use Rattle.boxes.specs.Boxes.{fromNode, nodeBox}
@@ -85,7 +85,7 @@ module _ (s q : List ℕ) (at id : ℕ) (b : Aabb) (left right top bottom : ℕ)
   unfolding indexedRow
   down-row horizontal h e = e ∙ (λ i. paste s at (t i ∷ d i ∷ l i ∷ r i ∷ id ∷ []) 5) ∙ ap (λ (z : Bool). paste s at (indexedRow z (record { id = id; bounds = b })) 5) (sym h)
 
-node-wide : (horizontal : Bool) (n : IndexedNode) → length (indexedRow horizontal n) ≡ 5
+pub node-wide : (horizontal : Bool) (n : IndexedNode) → length (indexedRow horizontal n) ≡ 5
 unfolding indexedRow
 node-wide true n = refl
 node-wide false n = refl

@@ -20,7 +20,7 @@ use Rattle.drawing.proofs.ListOrders.{nodes-in-order-perm}
 use Rattle.boxes.specs.declared.aabb.Aabb.{Aabb}
 use Rattle.boxes.specs.Boxes.{union}
 use Rattle.clearance.specs.Tree.{IndexedNode, indexed, indexedRow, indexedInOrder, horizontalWider, hull, Tree, bare, leaf, branch, boundsOf, build, treeOf}
-use Rattle.boxes.proofs.Fit.{FitNode}
+use Rattle.drawing.proofs.Fit.{FitNode}
 use Rattle.boxes.proofs.BoxLaws.{at, Span, FitBox, Within, within-self, within-trans, fit-node, fit-union, union-first, union-second, union-least, Alike}
 
 abbrev pub FitIndexed : IndexedNode → Type 0

@@ -10,8 +10,7 @@ use lib.Seq.{length-take-le, drop-cons, getD-take}
 use Rattle.laws.specs.Charged.{Charged, within, runs, onward}
 use Rattle.laws.proofs.Runs.{within-none, within-next}
 use Rattle.laws.proofs.Places.{first-at}
-use Rattle.drawing.specs.Entries.{Segment, Exemption, SegmentColumns}
-use Rattle.drawing.proofs.EntryLaws.{segmentAt}
+use Rattle.drawing.specs.Entries.{Segment, Exemption, SegmentColumns, segmentAt}
 use Rattle.boxes.specs.declared.aabb.Aabb.{Aabb}
 use Rattle.clearance.specs.declared.exempt.Range.{Range}
 use Rattle.clearance.specs.declared.walk.Walking.{Walking}

@@ -25,12 +25,12 @@ use Rattle.drawing.specs.declared.refusal.Check.the-variants.{Refused as Stoppe
 use Rattle.drawing.specs.declared.refusal.Refusal.{Refusal}
 use Rattle.drawing.specs.declared.refusal.Refusal.the-variants.{WorkLimitExceeded}
 use Rattle.drawing.specs.Refusals.{firstOf}
-use Rattle.drawing.specs.Entries.{Segment, Node, Exemption, SegmentColumns, NodeColumns, ExemptionColumns, segments, nodes, exemptions}
+use Rattle.drawing.specs.Entries.{Segment, Node, Exemption, SegmentColumns, NodeColumns, ExemptionColumns, segments, nodes, exemptions, segmentAt, nodeAt}
 use Rattle.drawing.specs.Lengths.{SegmentsAgree, NodesAgree, ExemptionsAgree}
 use Rattle.drawing.specs.Conditions.{shortScratch}
 use Rattle.drawing.specs.Checks.{listConditions, clearanceConditions}
 use Rattle.drawing.specs.Orders.{segmentsInOrder, nodesInOrder}
-use Rattle.drawing.proofs.EntryLaws.{segmentAt, nodeAt, length-nodes, nodes-at}
+use Rattle.drawing.proofs.EntryLaws.{length-nodes, nodes-at}
 use Rattle.drawing.proofs.FirstRefusal.{passed-head, few, segments-agree, nodes-agree}
 use Rattle.drawing.proofs.ListOrders.{NodeHeld}
 use Rattle.clearance.specs.declared.walk.Walking.{Walking}
@@ -47,7 +47,7 @@ use Rattle.clearance.specs.Stored.{storedTree, Grown}
 use Rattle.clearance.specs.Exempting.{Holds, Gathered}
 use Rattle.clearance.specs.Walking.{gapOfFloat, soFar, outcomeOf, Part, Held, InTurns, allWalks, Remains, Answers}
 use Rattle.clearance.specs.Answer.{accepted, answer}
-use Rattle.boxes.proofs.Fit.{FitSegment, FitNode}
+use Rattle.drawing.proofs.Fit.{FitSegment, FitNode}
 use Rattle.clearance.proofs.Answers.{Lent, passes, fit-call}
 use Rattle.clearance.proofs.WithinAllowance.{reply-within}
 use Rattle.clearance.proofs.TreeLaws.{FitIndexed, indexed-fit}

@@ -11,7 +11,7 @@ use Rattle.drawing.specs.Entries.{Segment, Node, Exemption}
 use Rattle.clearance.specs.declared.report.ClearanceAnswer.the-variants.{Refused}
 use Rattle.clearance.specs.Walk.{walkAll}
 use Rattle.clearance.specs.Answer.{accepted, allPairs}
-use Rattle.boxes.proofs.Fit.{FitSegment, FitNode, FitThreshold}
+use Rattle.drawing.proofs.Fit.{FitSegment, FitNode, FitThreshold}
 use Rattle.clearance.proofs.AllPairs.{walk-all-pairs}
 
 -- for fit lists the walk of all segments that stops so gives the answer behind the checks

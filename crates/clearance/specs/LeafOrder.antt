@@ -7,9 +7,8 @@ use lib.ListN.{length, take, drop}
 use Rattle.laws.specs.Lists.{All}
 use Rattle.laws.specs.Sort.{sortBy}
 use Rattle.sorting.specs.Sorted.{before}
-use Rattle.drawing.specs.Entries.{NodeColumns}
+use Rattle.drawing.specs.Entries.{NodeColumns, nodeAt}
 use Rattle.drawing.specs.Lengths.{NodesAgree}
-use Rattle.drawing.proofs.EntryLaws.{nodeAt}
 use Rattle.boxes.specs.declared.aabb.Aabb.{Aabb}
 use Rattle.boxes.specs.Boxes.{union}
 use Rattle.clearance.specs.Tree.{IndexedNode, indexed, hull, horizontalWider, Tree, bare, leaf, branch, boundsOf}

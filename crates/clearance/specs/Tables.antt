@@ -5,9 +5,8 @@ use mathlib.Core.List.{List, map}
 use Prim.Native.Nat.{ℕ, _+_, _*_, _<_}
 use lib.ListN.{length, take, drop}
 use Rattle.laws.specs.Lists.{All}
-use Rattle.drawing.specs.Entries.{SegmentColumns, NodeColumns, segments}
+use Rattle.drawing.specs.Entries.{SegmentColumns, NodeColumns, segments, segmentAt}
 use Rattle.drawing.specs.Orders.{segmentRow, segmentsInOrder}
-use Rattle.drawing.proofs.EntryLaws.{segmentAt}
 use Rattle.clearance.specs.Tree.{indexedRow}
 use Rattle.clearance.specs.LeafOrder.{indexedAt}
 

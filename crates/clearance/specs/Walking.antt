@@ -8,9 +8,8 @@ use lib.Ieee.{Float, nan, inf, fin, isNan}
 use lib.ListN.{length, take}
 use Rattle.laws.specs.Lists.{All}
 use Rattle.laws.specs.Charged.{Charged, Outcome, spent, left, within, runs, reply}
-use Rattle.drawing.specs.Entries.{Segment, Exemption, SegmentColumns}
+use Rattle.drawing.specs.Entries.{Segment, Exemption, SegmentColumns, segmentAt}
 use Rattle.drawing.specs.Lengths.{SegmentsAgree}
-use Rattle.drawing.proofs.EntryLaws.{segmentAt}
 use Rattle.boxes.specs.declared.aabb.Aabb.{Aabb}
 use Rattle.drawing.specs.declared.gap.Gap.{Gap}
 use Rattle.drawing.specs.declared.gap.Gap.the-variants.{Absent, Present}

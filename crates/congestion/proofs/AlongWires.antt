@@ -1,10 +1,10 @@
 -- One orientation, from rows in order to the tables, with the words behind them cleared: the sweep may begin. Assumes nothing.
 use mathlib.Core.Path.{_≡_, refl, sym, ap, _∙_, subst}
 use mathlib.Core.Logic.{inl, inr}
-use mathlib.Core.List.{List, [], _∷_, map}
+use mathlib.Core.List.{List, [], map}
 use mathlib.Core.Bool.{Bool, true, false, Bool·beq}
-use Prim.Native.Nat.{ℕ, zero, suc, _+_, _-_, _*_, _≤_, _<_}
-use native.Mathlib.Nat.{mul-le-mul-right, le-refl}
+use Prim.Native.Nat.{ℕ, _+_, _-_, _*_, _≤_, _<_}
+use native.Mathlib.Nat.{le-refl}
 use native.Mathlib.Omega.{arith}
 use borrow.Author.Tests.{lt-ltb, le-ltb}
 use borrow.Rule.Slice.PartMut.{midOf, putMid, mid-len, take-put, same-len-mid}
@@ -18,8 +18,9 @@ use Rattle.laws.specs.Sort.{Sorted}
 use Rattle.laws.specs.Charged.{within, free}
 use Rattle.laws.proofs.Tests.{clash, le-or-lt, cond-true, cond-false}
 use Rattle.laws.proofs.ListLaws.{mem-map}
-use Rattle.laws.proofs.Parts.{drop-past}
+use Rattle.laws.proofs.Places.{at-mem}
 use Rattle.laws.proofs.RowLaws.{row-more}
+use Rattle.laws.proofs.SortedLists.{sorted-at}
 use Rattle.laws.proofs.Runs.{within-free}
 use Rattle.drawing.specs.Entries.{SegmentColumns, segments}
 use Rattle.drawing.specs.declared.gap.Gap.the-variants.{Absent}
@@ -27,11 +28,11 @@ use Rattle.rows.specs.Rows.{Row, words, rowsInOrder}
 use Rattle.rows.specs.Rows as rows
 use Rattle.rows.specs.Placed.{rowCount, rowsPlaced, rowsSpread, eventsPlaced}
 use Rattle.rows.specs.Tables.{noRow, rowFrom, eventFrom, column}
-use Rattle.rows.proofs.ColumnParts.{getD-map, at-mem, column-at, column-same}
+use Rattle.rows.proofs.ColumnParts.{getD-map, column-at, column-same}
 use Rattle.rows.proofs.Oriented.{oriented-sorted}
 use Rattle.rows.proofs.LentRows.{rows-count, rows-few, rows-behind, rows-kept}
 use Rattle.rows.proofs.SpreadTables.{Spread, rows-spread}
-use Rattle.rows.proofs.EventTables.{EventsOrdered, events-placed}
+use Rattle.rows.proofs.EventTables.{EventsOrdered, later-column, events-placed}
 use Rattle.congestion.specs.declared.run.Swept.{Swept}
 use Rattle.congestion.specs.declared.run.Swept.the-variants.{Went}
 use Rattle.congestion.specs.Wires.{Wire, cutoffOf}
@@ -49,11 +50,7 @@ unfolding words
 line-le a b e = elim (le-or-lt (a .line) (b .line)) [ inl h ↦ h | inr h ↦ clash (rowsInOrder a b) e (row-more (a .line) (b .line) _ _ h) ]
 
 lines-rise : (l : List Row) → Sorted rowsInOrder l → (i k : ℕ) → i ≤ k → k < length l → rowFrom l i .line ≤ rowFrom l k .line
-lines-rise [] s i k h b = absurd (omega arith)
-lines-rise (r ∷ l) s zero zero h b = le-refl (r .line)
-lines-rise (r ∷ l) s zero (suc k) h b = line-le r (rowFrom l k) (s .0 (rowFrom l k) (at-mem l k noRow (omega arith)))
-lines-rise (r ∷ l) s (suc i) zero h b = absurd (omega arith)
-lines-rise (r ∷ l) s (suc i) (suc k) h b = lines-rise l (s .1) i k (omega arith) (omega arith)
+lines-rise l s = sorted-at rowsInOrder (λ a b. a .line ≤ b .line) (λ r. le-refl (r .line)) line-le noRow l s
 
 -- ---- the tables, step by step: spread over columns, the events in order, the ranges
 module _ (h : Bool) (l : List Row) (sorted : Sorted rowsInOrder l) (proper : (r : Row) → Mem r l → Proper r) (s₁ s₂ : List ℕ) (spread : Spread l s₁) (ordered : EventsOrdered (length l) s₁ s₂) where
@@ -63,18 +60,15 @@ module _ (h : Bool) (l : List Row) (sorted : Sorted rowsInOrder l) (proper : (r 
   abbrev L : List Wire
   L = map (wireOfRow h) l
 
-  later : (k : ℕ) → 2 ≤ k → column n k s₂ ≡ column n k s₁
-  later k b = ap (take n) (drop-past (2 * n) (k * n) s₂ s₁ (ordered .rest) (mul-le-mul-right n b))
-
   key-at : (j : ℕ) → j < n → getD s₂ (4 * n + j) 0 ≡ rowFrom l j .line
-  key-at j b = sym (column-at n 4 s₂ j b) ∙ ap (λ (c : List ℕ). getD c j 0) (later 4 (omega arith) ∙ spread .keys) ∙ getD-map (λ (r : Row). r .line) l j noRow 0 b
+  key-at j b = sym (column-at n 4 s₂ j b) ∙ ap (λ (c : List ℕ). getD c j 0) (later-column n s₁ s₂ ordered 4 (omega arith) ∙ spread .keys) ∙ getD-map (λ (r : Row). r .line) l j noRow 0 b
 
   rangeable : 8 * n ≤ length s₂ → Rangeable s₂ n
   rangeable room = record { room = room; ascending = λ i k a b. let p = lines-rise l sorted i k a b in omega (arith, key-at i (omega arith), key-at k b) }
 
   module _ (s₃ : List ℕ) (cutoff : Float) (cut : Cutoff cutoff) (only : RangesOnly n s₂ s₃) (fills : FillsRanges s₂ s₃ n cutoff) where
     kept : (k : ℕ) → 2 ≤ k → k * n + n ≤ 6 * n → column n k s₃ ≡ column n k s₁
-    kept k a b = column-same n k (6 * n) s₃ s₂ b (only .front) ∙ later k a
+    kept k a b = column-same n k (6 * n) s₃ s₂ b (only .front) ∙ later-column n s₁ s₂ ordered k a
 
     front : take (2 * n) s₃ ≡ take (2 * n) s₂
     front = sym (take-take (2 * n) (6 * n) s₃ (omega arith)) ∙ ap (take (2 * n)) (only .front) ∙ take-take (2 * n) (6 * n) s₂ (omega arith)

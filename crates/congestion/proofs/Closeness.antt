@@ -22,7 +22,7 @@ use Rattle.congestion.specs.Figures.{apart, close, pairOverlap}
 use Rattle.congestion.specs.Rounded.{closeFloats, runningSum, roundedOverlap}
 use Rattle.congestion.proofs.LeastGap.{grid-gap}
 use Rattle.congestion.proofs.RoundedSums.{greater-unit, lesser-unit, overlap-exact}
-use Rattle.congestion.proofs.Fitness.{FitSegment, FitList}
+use Rattle.congestion.proofs.Fitness.{GridSegment, FitList}
 
 -- a length is not below a cutoff of 0 or less
 not-below : (x y : Float) (a b : ℕ) → HasValue x false a 64 → HasValue y true b 64 → lt x y ≡ false
@@ -67,7 +67,7 @@ same-byte zero (suc (suc b)) p q = absurd (omega arith)
 same-byte (suc zero) (suc (suc b)) p q = absurd (omega arith)
 same-byte (suc (suc a)) b p q = absurd (omega arith)
 
-pub close-floats : (cutoff : Float) (s t : Segment) → FitSegment s → FitSegment t → T (onGrid cutoff) → closeFloats cutoff s t ≡ close (cutoffOf cutoff) (wireOf s) (wireOf t)
+pub close-floats : (cutoff : Float) (s t : Segment) → GridSegment s → GridSegment t → T (onGrid cutoff) → closeFloats cutoff s t ≡ close (cutoffOf cutoff) (wireOf s) (wireOf t)
 unfolding closeFloats
 close-floats cutoff s t p q g =
     let a = grid-gap (s .fixed) (t .fixed) (p .fixed) (q .fixed) in

@@ -4,11 +4,10 @@ use mathlib.Core.List.{List, [], _∷_, map}
 use mathlib.Core.Bool.{false, not, _||_}
 use Prim.Native.Nat.{ℕ, _≤_, _<_}
 use native.Mathlib.Nat.{le-trans, le-of-eq}
-use lib.Dec.{T, ltb, ltb→lt}
-use lib.Ieee.{Float, lt}
-use lib.Ieee.Scale.{finite}
+use lib.Dec.{T, ltb→lt}
+use lib.Ieee.{Float}
 use lib.ListN.{length, length-map}
-use borrow.Author.Tests.{ltb-false, not-false}
+use borrow.Author.Tests.{not-false}
 use Rattle.laws.specs.Lists.{Mem, some-of}
 use Rattle.laws.proofs.Tests.{of-true, neither-left, neither-right}
 use Rattle.laws.proofs.ListLaws.{all-mem, none-all, mem-map}
@@ -17,13 +16,14 @@ use Rattle.floats.specs.Grid.{onGrid, steps, unit}
 use Rattle.floats.proofs.Units.{lt-units}
 use Rattle.drawing.specs.Entries.{Segment, SegmentColumns, segments}
 use Rattle.drawing.specs.Refusals.{firstOf}
-use Rattle.drawing.specs.Conditions.{unfitLine, unfitSegment, unfitCutoff, offGridLine, offGridSegment, offGridCutoff}
+use Rattle.drawing.specs.Conditions.{unfitSegment, unfitCutoff, offGridLine, offGridSegment, offGridCutoff}
 use Rattle.drawing.specs.Checks.{separationConditions, congestionConditions}
 use Rattle.drawing.specs.Lengths.{SegmentsAgree}
 use Rattle.drawing.specs.declared.refusal.Refusal.the-variants.{InvalidInput, OffGrid}
 use Rattle.drawing.specs.declared.refusal.Check.{Check}
 use Rattle.drawing.specs.declared.refusal.Check.the-variants.{Passed, Refused}
 use Rattle.drawing.proofs.EntryLaws.{length-segments}
+use Rattle.drawing.proofs.Fit.{line-of}
 use Rattle.drawing.proofs.FirstRefusal.{then, first-append, passed-head, few, separation-agree}
 use Rattle.congestion.specs.Wires.{Wire, wireOf}
 use Rattle.congestion.proofs.Beginning.{Sound}
@@ -39,7 +39,7 @@ unfolding onGrid unit steps canonicalZero
 zero-stands = record { grid = tt; plain = refl; is = refl }
 
 -- a segment on the grid whose start is below its end
-pub record FitSegment (s : Segment) : Type 0 where
+pub record GridSegment (s : Segment) : Type 0 where
   pub byte : s .orientation ≤ 1
   pub fixed : T (onGrid (s .fixed))
   pub start : T (onGrid (s .start))
@@ -48,7 +48,7 @@ pub record FitSegment (s : Segment) : Type 0 where
 
 pub record FitList (l : List Segment) : Type 0 where
   pub few : length l ≤ 4096
-  pub each : (s : Segment) → Mem s l → FitSegment s
+  pub each : (s : Segment) → Mem s l → GridSegment s
 
 pub sound-wires : (l : List Segment) → FitList l → Sound (map wireOf l)
 sound-wires l f = record {
@@ -57,25 +57,21 @@ sound-wires l f = record {
 }
 
 -- ---- a drawing that meets no refusal before 7
-fit-segment : (s : Segment) → unfitSegment s ≡ false → offGridSegment s ≡ false → FitSegment s
-unfolding unfitSegment unfitLine offGridSegment offGridLine
+fit-segment : (s : Segment) → unfitSegment s ≡ false → offGridSegment s ≡ false → GridSegment s
+unfolding offGridSegment offGridLine
 fit-segment s e g =
     let p = not (onGrid (s .fixed)) in
     let q = not (onGrid (s .start)) in
     let g0 = neither-left (p || q) (not (onGrid (s .end))) g in
     let b = of-true (onGrid (s .start)) (not-false (onGrid (s .start)) (neither-right p q g0)) in
     let d = of-true (onGrid (s .end)) (not-false (onGrid (s .end)) (neither-right (p || q) (not (onGrid (s .end))) g)) in
-    let o = ltb 1 (s .orientation) in
-    let x = o || not (finite (s .fixed)) in
-    let y = x || not (finite (s .start)) in
-    let z = y || not (finite (s .end)) in
-    let e0 = neither-left x (not (finite (s .start))) (neither-left y (not (finite (s .end))) (neither-left z (not (lt (s .start) (s .end))) e)) in
+    let l = line-of s e in
     record {
-      byte = ltb-false 1 (s .orientation) (neither-left o (not (finite (s .fixed))) e0);
+      byte = l .turned;
       fixed = of-true (onGrid (s .fixed)) (not-false (onGrid (s .fixed)) (neither-left p q g0));
       start = b;
       end = d;
-      rises = ltb→lt (unit (s .start)) (unit (s .end)) (subst T (lt-units (s .start) (s .end) b d) (of-true (lt (s .start) (s .end)) (not-false (lt (s .start) (s .end)) (neither-right z (not (lt (s .start) (s .end))) e))));
+      rises = ltb→lt (unit (s .start)) (unit (s .end)) (subst T (lt-units (s .start) (s .end) b d) (l .rising));
     }
 
 both-passed : (a b : Check) → then a b ≡ Passed → (a ≡ Passed) × (b ≡ Passed)

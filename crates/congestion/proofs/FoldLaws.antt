@@ -1,7 +1,7 @@
 -- Folds over chosen entries and over pairs, and least numbers: what the figures of this crate need besides the laws of folds. Assumes nothing.
-use mathlib.Core.Path.{_≡_, refl, sym, ap, ap₂, _∙_}
+use mathlib.Core.Path.{_≡_, refl, sym, ap, _∙_}
 use mathlib.Core.Logic.{inl, inr}
-use mathlib.Core.List.{List, [], _∷_, _++_, map, map-append}
+use mathlib.Core.List.{List, [], _∷_, map}
 use mathlib.Core.Option.{Option, none, some}
 use mathlib.Core.Bool.{Bool, true, false, not, _||_, cond}
 use Prim.Native.Nat.{ℕ, _+_, _*_}
@@ -74,19 +74,6 @@ beside-map x (y ∷ l) = ap (_∷_ (x, y)) (beside-map x l)
 pub fold-pairs : {M A : Type 0} {_⊕_ : M → M → M} {u : M} (L : Monoid _⊕_ u) (f : A × A → M) (x : A) (l : List A) → fold _⊕_ u f (pairs (x ∷ l)) ≡ _⊕_ (fold _⊕_ u (λ y. f (x, y)) l) (fold _⊕_ u f (pairs l))
 unfolding pairs
 fold-pairs {A = A} {_⊕_ = _⊕_} {u = u} L f x l = fold-append L f (beside x l) (pairs l) ∙ ap (λ z. _⊕_ z (fold _⊕_ u f (pairs l))) (ap (fold _⊕_ u f) (beside-map x l) ∙ fold-map L f (λ y. (x, y)) l)
-
--- both entries of a pair under g
-abbrev pub both : {A B : Type 0} → (A → B) → A × A → B × B
-both g p = (g (p .0), g (p .1))
-
-pub pairs-map : {A B : Type 0} (g : A → B) (l : List A) → pairs (map g l) ≡ map (both g) (pairs l)
-unfolding pairs
-pairs-map g [] = refl
-pairs-map {A} {B} g (x ∷ l) = ap₂ _++_ (row x l) (pairs-map g l) ∙ sym (map-append (both g) (beside x l) (pairs l))
-  where
-    row : (x : A) (l : List A) → beside (g x) (map g l) ≡ map (both g) (beside x l)
-    row x [] = refl
-    row x (y ∷ l) = ap (_∷_ (g x, g y)) (row x l)
 
 -- a fold over pairs that does not see which entry comes first is the same for every order of the list
 pub pairs-perm : {M A : Type 0} {_⊕_ : M → M → M} {u : M} (L : Monoid _⊕_ u) (f : A × A → M) → ((x y : A) → f (x, y) ≡ f (y, x)) → {l m : List A} → Perm l m → fold _⊕_ u f (pairs l) ≡ fold _⊕_ u f (pairs m)

@@ -12,7 +12,7 @@ use lib.Ieee.{Float, lt}
 use Rattle.laws.specs.Lists.{Mem, put, chosen, fold, pairs}
 use Rattle.laws.specs.Least.{lesser, least}
 use Rattle.laws.proofs.Tests.{same-or-not}
-use Rattle.laws.proofs.ListLaws.{mem-pairs}
+use Rattle.laws.proofs.ListLaws.{mem-pairs, both, pairs-map}
 use Rattle.laws.proofs.Folds.{fold-same, fold-map}
 use Rattle.floats.specs.Values.{plusZero, gapOf}
 use Rattle.floats.specs.Grid.{onGrid, unit, ofUnits}
@@ -25,7 +25,7 @@ use Rattle.congestion.specs.Figures.{apart, closeOther}
 use Rattle.congestion.specs.Profile.{gapped, leastNonzero}
 use Rattle.congestion.specs.Sweep.{nonzero, gap, gapOfUnits}
 use Rattle.congestion.specs.Tables.{Held}
-use Rattle.congestion.proofs.FoldLaws.{fewest, both, pairs-map}
+use Rattle.congestion.proofs.FoldLaws.{fewest}
 use Rattle.congestion.proofs.Oriented.{leastUnits}
 
 pub held-lesser : (a b : Option ℕ) → Held a → Held b → Held (lesser ltb a b)

@@ -12,7 +12,7 @@ use borrow.Author.Tests.{ltb-true, ltb-false}
 use Rattle.laws.specs.Lists.{Mem, chosen, fold, sum, pairs}
 use Rattle.laws.specs.Perm.{Perm, via}
 use Rattle.laws.proofs.Tests.{decide, and-left, and-right}
-use Rattle.laws.proofs.ListLaws.{mem-pairs, mem-map, map-same}
+use Rattle.laws.proofs.ListLaws.{mem-pairs, mem-map, map-same, both, pairs-map}
 use Rattle.laws.proofs.Perms.{perm-refl, perm-sym, perm-eq, perm-mem}
 use Rattle.laws.proofs.Folds.{plus, fold-same, fold-map, fold-perm}
 use Rattle.floats.specs.Values.{plusZero, canonicalZero, lesserOf, greaterOf}
@@ -24,7 +24,7 @@ use Rattle.congestion.specs.Wires.{Wire, wireOf}
 use Rattle.congestion.specs.Cells.{extent}
 use Rattle.congestion.specs.Figures.{near, overlaps, overlap, close, other, closeOther, total, pairOverlap}
 use Rattle.congestion.specs.Rounded.{runningSum, span, roundedTotal}
-use Rattle.congestion.proofs.FoldLaws.{fold-chosen, chosen-under, both, pairs-map}
+use Rattle.congestion.proofs.FoldLaws.{fold-chosen, chosen-under}
 use Rattle.congestion.proofs.Orientations.{overlap-sum}
 use Rattle.congestion.proofs.Fitness.{FitList, sound-wires}
 use Rattle.congestion.proofs.Bounds.{Small, total-small, overlap-small}

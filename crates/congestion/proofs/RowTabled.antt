@@ -14,6 +14,7 @@ use Rattle.laws.specs.Rows.{rowLe}
 use Rattle.laws.specs.Sort.{sortBy, insertBy}
 use Rattle.laws.proofs.Tests.{decide, clash, le-or-lt, cond-true, cond-false}
 use Rattle.laws.proofs.ListLaws.{all-mem, map-same}
+use Rattle.laws.proofs.Places.{at-mem}
 use Rattle.laws.proofs.Perms.{perm-mem}
 use Rattle.laws.proofs.Sorting.{sort-perm}
 use Rattle.floats.specs.Values.{canonicalZero}
@@ -28,13 +29,13 @@ use Rattle.rows.specs.Rows.{fixedOf, startOf, endOf, Row, rowOf, eventsFrom, mo
 use Rattle.rows.specs.Rows as rows
 use Rattle.rows.specs.Tables.{noRow, rowFrom, eventFrom, column}
 use Rattle.rows.proofs.SpreadTables.{Spread}
-use Rattle.rows.proofs.ColumnParts.{getD-map, at-mem, column-at}
+use Rattle.rows.proofs.ColumnParts.{getD-map, column-at}
 use Rattle.congestion.specs.Wires.{Wire}
 use Rattle.congestion.specs.Sweep.{Event, numbered, events, inOrder, eventRow}
 use Rattle.congestion.specs.Tables.{noWire, itemAt, eventAt, Key, Tabled}
 use Rattle.congestion.specs.Ranges.{Ranged}
 use Rattle.congestion.specs.Measuring.{wireOfRow, Coordinate, Proper}
-use Rattle.congestion.proofs.Fitness.{FitSegment}
+use Rattle.congestion.proofs.Fitness.{GridSegment}
 use Rattle.congestion.proofs.RowWires.{canonical-fits, key-unit}
 
 -- ---- a key of a coordinate on the grid
@@ -98,7 +99,7 @@ module _ {A B : Type 0} (le : A → A → Bool) (leq : B → B → Bool) (g : A 
       ∙ ap (insertBy leq (g x)) (sort-map l (λ a b m n. h a b (inr m) (inr n)))
 
 -- ---- the events of rows and of their wires
-pub row-proper : (s : Segment) → SegmentHeld s → FitSegment s → Proper (rowOf s)
+pub row-proper : (s : Segment) → SegmentHeld s → GridSegment s → Proper (rowOf s)
 unfolding rowOf fixedOf startOf endOf
 row-proper s h f = record {
   line = coordinate-of (s .fixed) (h .fixed) (f .fixed);

@@ -19,11 +19,11 @@ use Rattle.drawing.specs.declared.refusal.Refusal.{Refusal}
 use Rattle.drawing.specs.declared.refusal.Refusal.the-variants.{WorkLimitExceeded}
 use Rattle.drawing.specs.declared.refusal.Check.{Check}
 use Rattle.drawing.specs.declared.refusal.Check.the-variants as Checked
-use Rattle.drawing.specs.Entries.{Segment, SegmentColumns, segments}
+use Rattle.drawing.specs.Entries.{Segment, SegmentColumns, segments, segmentAt}
 use Rattle.drawing.specs.Lengths.{SegmentsAgree}
 use Rattle.drawing.specs.Checks.{congestionConditions}
 use Rattle.drawing.specs.Refusals.{firstOf, checked}
-use Rattle.drawing.proofs.EntryLaws.{segmentAt, length-segments, segments-at}
+use Rattle.drawing.proofs.EntryLaws.{length-segments, segments-at}
 use Rattle.congestion.specs.declared.report.ParallelCongestion.{ParallelCongestion}
 use Rattle.congestion.specs.declared.report.CongestionAnswer.{CongestionAnswer}
 use Rattle.congestion.specs.declared.report.CongestionAnswer.the-variants.{Report, Refused}

@@ -6,15 +6,8 @@ use native.Mathlib.Nat.{not-suc-le-zero, le-of-suc-le-suc}
 use native.Mathlib.Omega.{arith}
 use lib.Ieee.{Float, nan}
 use lib.ListN.{length, getD}
-use Rattle.drawing.specs.Entries.{Segment, Node, SegmentColumns, NodeColumns, ExemptionColumns, segmentsOf, nodesOf, exemptionsOf, segments, nodes, exemptions}
+use Rattle.drawing.specs.Entries.{Segment, Node, SegmentColumns, NodeColumns, ExemptionColumns, segmentsOf, nodesOf, exemptionsOf, segments, nodes, exemptions, nodeAt, segmentAt}
 use Rattle.drawing.specs.Lengths.{SegmentsAgree, NodesAgree, ExemptionsAgree}
-
--- the entry at place i, as code reads it: past a column's end stand 0 and nan
-abbrev pub segmentAt : SegmentColumns → ℕ → Segment
-segmentAt c i = record { net = getD (c .net) i 0; orientation = getD (c .orientation) i 0; fixed = getD (c .fixed) i nan; start = getD (c .start) i nan; end = getD (c .end) i nan }
-
-abbrev pub nodeAt : NodeColumns → ℕ → Node
-nodeAt c i = record { id = getD (c .id) i 0; x = getD (c .x) i nan; y = getD (c .y) i nan; width = getD (c .width) i nan; height = getD (c .height) i nan }
 
 same : {m n : ℕ} → suc m ≡ suc n → m ≡ n
 same e = omega arith

@@ -5,5 +5,6 @@ pub mod FirstRefusal
 pub mod AnyOrder
 pub mod ColumnLaws
 pub mod ListOrders
+pub mod Fit
 pub mod GapLaws
 pub mod Examples

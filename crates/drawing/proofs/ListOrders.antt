@@ -12,10 +12,10 @@ use Rattle.laws.proofs.Places.{at-all}
 use Rattle.laws.proofs.RowLaws.{row-antisym, by-rows}
 use Rattle.laws.proofs.Sorting.{sort-same, sort-perm}
 use Rattle.floats.proofs.NumberKeys.{key-of-one}
-use Rattle.drawing.specs.Entries.{Segment, Node, SegmentColumns, segments}
+use Rattle.drawing.specs.Entries.{Segment, Node, SegmentColumns, segments, segmentAt}
 use Rattle.drawing.specs.Lengths.{SegmentsAgree}
 use Rattle.drawing.specs.Orders.{segmentRow, nodeRow, segmentsInOrder, nodesInOrder}
-use Rattle.drawing.proofs.EntryLaws.{segmentAt, length-segments, segments-at}
+use Rattle.drawing.proofs.EntryLaws.{length-segments, segments-at}
 
 -- the floats of an entry are binary64's, as those of every lent column are
 pub record SegmentHeld (s : Segment) : Type 0 where

@@ -7,9 +7,9 @@ use native.Mathlib.Omega.{arith}
 use lib.ListN.{length, getD, drop}
 use Rattle.laws.specs.Lists.{some-of}
 use Rattle.laws.proofs.ListLaws.{scan-hit, scan-next, scan-end}
-use Rattle.drawing.specs.Entries.{Segment, Node, SegmentColumns, NodeColumns, segments, nodes}
+use Rattle.drawing.specs.Entries.{Segment, Node, SegmentColumns, NodeColumns, segments, nodes, segmentAt, nodeAt}
 use Rattle.drawing.specs.Lengths.{SegmentsAgree, NodesAgree}
-use Rattle.drawing.proofs.EntryLaws.{segmentAt, nodeAt, length-segments, segments-at, length-nodes, nodes-at}
+use Rattle.drawing.proofs.EntryLaws.{length-segments, segments-at, length-nodes, nodes-at}
 
 -- of the n entries l, the first i do not pass p
 pub record Scanned {A : Type 0} (p : A → Bool) (l : List A) (n i : ℕ) : Type 0 where

@@ -8,6 +8,7 @@ use native.Mathlib.Omega.{arith}
 use lib.ListN.{length, getD, drop}
 use lib.Seq.{drop-drop}
 use Rattle.laws.specs.Lists.{some-of}
+use Rattle.laws.proofs.ListLaws.{some-map}
 use Rattle.file.specs.Places.{places}
 
 pub length-places : (w n : ℕ) (l : List ℕ) → length (places w n l) ≡ n
@@ -32,11 +33,6 @@ places-from o w (suc n) l = ap (λ (m : List (List ℕ)). drop o l ∷ m) (ap (p
 -- a value that stands at an offset of each entry
 pub map-from : {A : Type 0} (f : List ℕ → A) (o w n : ℕ) (l : List ℕ) → map f (places w n (drop o l)) ≡ map (λ r. f (drop o r)) (places w n l)
 map-from f o w n l = ap (map f) (places-from o w n l) ∙ map-map f (drop o) (places w n l)
-
-some-map : {A B : Type 0} (p : B → Bool) (f : A → B) (l : List A) → some-of p (map f l) ≡ some-of (λ x. p (f x)) l
-unfolding some-of
-some-map p f [] = refl
-some-map p f (x ∷ l) = rw (some-map p f l)
 
 pub some-from : (p : List ℕ → Bool) (o w n : ℕ) (l : List ℕ) → some-of p (places w n (drop o l)) ≡ some-of (λ r. p (drop o r)) (places w n l)
 some-from p o w n l = ap (some-of p) (places-from o w n l) ∙ some-map p (drop o) (places w n l)

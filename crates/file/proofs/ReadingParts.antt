@@ -17,7 +17,7 @@ use Rattle.file.specs.declared.reading.Counted.{Counted}
 use Rattle.file.specs.declared.reading.Counted.the-variants.{Entries, Refused}
 use Rattle.file.specs.declared.reading.Header.{Header}
 use Rattle.file.specs.declared.reading.Reading.the-variants as answers
-use Rattle.file.specs.Reading.{Read, got, refused, number, version, counted, segment, node, exemption, settings, Drawing, parts, ended, read}
+use Rattle.file.specs.Reading.{got, refused, number, version, counted, segment, node, exemption, Drawing, parts, ended, read}
 use Rattle.file.specs.Places.{places, countOf, Room}
 use Rattle.file.specs.Columns.{headerOf, readingOf}
 use Rattle.file.proofs.Fixed.{then-got, then-refused, fixed-number}

@@ -1,12 +1,15 @@
--- `lesserOf` and `greaterOf` of numbers that are not negative: the least and the greatest magnitude, in any order and grouping. Assumes nothing.
+-- `lesserOf` and `greaterOf` of two numbers: the least and the greatest rank; of numbers that are not negative: the least and the greatest magnitude, in any order and grouping. Assumes nothing.
 use mathlib.Core.Path.{_≡_, sym, ap, _∙_, subst}
+use mathlib.Core.Logic.{inl, inr}
 use mathlib.Core.Bool.{Bool, true, false, not, cond}
 use Prim.Native.Nat.{ℕ, _≤_, _<_, min, max}
 use native.Mathlib.Omega.{arith}
+use borrow.Author.Tests.{ltb-true, ltb-false}
 use lib.Dec.{T, ltb, ltb→lt, nltb→le}
 use lib.Ieee.{Float, binary64, lt}
+use Rattle.laws.proofs.Tests.{decide, cond-true, cond-false}
 use Rattle.floats.specs.Values.{lesserOf, greaterOf}
-use Rattle.floats.proofs.Rank.{mag}
+use Rattle.floats.proofs.Rank.{mag, rank, Num, lt-rank}
 use Rattle.floats.proofs.Gaps.{Good, good-one, good-lt}
 
 -- an operation on such numbers that is `on` of the magnitudes, with the laws that it has as an operation on floats
@@ -33,9 +36,9 @@ module _ (op : Float → Float → Float) (on : ℕ → ℕ → ℕ) (op-good : 
   }
 
 -- what a comparison picks
-picked-good : (b : Bool) (x y : Float) → Good x → Good y → Good (cond b y x)
-picked-good true x y p q = q
-picked-good false x y p q = p
+pub picked : (P : Float → Type 0) (b : Bool) (x y : Float) → P x → P y → P (cond b y x)
+picked P true x y p q = q
+picked P false x y p q = p
 
 picked-mag : (b : Bool) (x y : Float) (m n r : ℕ) → b ≡ ltb m n → (m < n → mag binary64 y ≡ r) → (n ≤ m → mag binary64 x ≡ r) → mag binary64 (cond b y x) ≡ r
 picked-mag b x y m n r e h k = go b (λ t. h (ltb→lt m n (subst T e t))) (λ t. k (nltb→le m n (subst (λ (c : Bool). T (not c)) e t)))
@@ -47,13 +50,29 @@ picked-mag b x y m n r e h k = go b (λ t. h (ltb→lt m n (subst T e t))) (λ t
 pub lesser : Extreme lesserOf min
 unfolding lesserOf
 lesser =
-    by-magnitude lesserOf min (λ x y p q. picked-good (lt y x) x y p q)
+    by-magnitude lesserOf min (λ x y p q. picked Good (lt y x) x y p q)
     (λ x y p q. picked-mag (lt y x) x y (mag binary64 y) (mag binary64 x) (min (mag binary64 x) (mag binary64 y)) (good-lt y x q p) (λ h. omega arith) (λ h. omega arith))
     (λ m n. omega arith) (λ m n k. omega arith) (λ m. omega arith)
 
 pub greater : Extreme greaterOf max
 unfolding greaterOf
 greater =
-    by-magnitude greaterOf max (λ x y p q. picked-good (lt x y) x y p q)
+    by-magnitude greaterOf max (λ x y p q. picked Good (lt x y) x y p q)
     (λ x y p q. picked-mag (lt x y) x y (mag binary64 x) (mag binary64 y) (max (mag binary64 x) (mag binary64 y)) (good-lt x y p q) (λ h. omega arith) (λ h. omega arith))
     (λ m n. omega arith) (λ m n k. omega arith) (λ m. omega arith)
+
+-- ---- of any two numbers, by ranks
+module _ (x y : Float) (p : Num binary64 x) (q : Num binary64 y) where
+  pub lesser-rank : rank binary64 (lesserOf x y) ≡ min (rank binary64 x) (rank binary64 y)
+  unfolding lesserOf
+  lesser-rank = elim (decide (lt y x)) [
+    | inl t ↦ let h = ltb-true (rank binary64 y) (rank binary64 x) (sym (lt-rank binary64 y x q p) ∙ t) in rw (cond-true (lt y x) y x t) (omega arith)
+    | inr f ↦ let h = ltb-false (rank binary64 y) (rank binary64 x) (sym (lt-rank binary64 y x q p) ∙ f) in rw (cond-false (lt y x) y x f) (omega arith)
+  ]
+
+  pub greater-rank : rank binary64 (greaterOf x y) ≡ max (rank binary64 x) (rank binary64 y)
+  unfolding greaterOf
+  greater-rank = elim (decide (lt x y)) [
+    | inl t ↦ let h = ltb-true (rank binary64 x) (rank binary64 y) (sym (lt-rank binary64 x y p q) ∙ t) in rw (cond-true (lt x y) y x t) (omega arith)
+    | inr f ↦ let h = ltb-false (rank binary64 x) (rank binary64 y) (sym (lt-rank binary64 x y p q) ∙ f) in rw (cond-false (lt x y) y x f) (omega arith)
+  ]

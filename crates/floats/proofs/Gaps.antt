@@ -57,7 +57,7 @@ abs-mag (inf s) = refl
 abs-mag (fin s m e) = refl
 
 -- ---- a rounded number with its sign dropped
-round-good : (a c : ℕ) → Good (round binary64 false a c)
+pub round-good : (a c : ℕ) → Good (round binary64 false a c)
 round-good a c = record { num = round-num binary64 false a c; plus = round-shape binary64 false a c .0 }
 
 pub abs-round : (s : Bool) (a c : ℕ) → absOf (round binary64 s a c) ≡ round binary64 false a c

@@ -5,6 +5,7 @@ use mathlib.Core.Bool.{Bool, true, false, not, cond}
 use Prim.Native.Nat.{ℕ, suc, _+_, _-_, _*_, _/_, _^_, _≤_, _<_, zero-le}
 use native.Mathlib.Nat.{le-trans, le-of-eq, le-of-lt, lt-of-le-of-lt, lt-irrefl, eq-or-lt-of-le, suc-mul, mul-comm, mul-le-mul-right, pow-succ', le-div-iff-mul-le, mul-lt-mul-of-pos-left, lt-suc-self}
 use native.Mathlib.Omega.{arith}
+use borrow.Author.Tests.{ltb-true, ltb-false}
 use lib.Dec.{T, ltb, ltb→lt, lt→ltb, T-not}
 use lib.Arith.{lt-of-le-ne}
 use lib.Pow.{pow-add, pow-pos, shr-mono}
@@ -20,6 +21,7 @@ use Rattle.floats.proofs.Rank.{mag, sgn, at, rank, rank-is, Num, mag-le
 use Rattle.floats.proofs.Bits.{mbits, over-bits, toBits-num, bits-one}
 use Rattle.floats.proofs.Zeros.{canonical-one}
 use Rattle.floats.proofs.Keys.{key-low, key-high, key-small, pattern-of-key}
+use Rattle.floats.proofs.Gaps.{Good, good-one, good-rank}
 
 -- ---- the bits of a magnitude grow with it
 twice-hid : (p : ℕ) → 0 < p → 2 ^ p ≡ 2 * 2 ^ (p - 1)
@@ -119,3 +121,17 @@ module _ (x y : Float) (p : Num binary64 x) (q : Num binary64 y) where
 
   pub canonical-key : canonicalZero x ≡ x → canonicalZero y ≡ y → lt x y ≡ ltb (keyOf x) (keyOf y)
   canonical-key c d = same-order (λ e. ap keyOf (sym c ∙ canonical-one binary64 x y p q e ∙ d))
+
+-- and for two numbers that are not negative and not -0
+module _ (x y : Float) (p : Good x) (q : Good y) where
+  good-key : lt y x ≡ ltb (keyOf y) (keyOf x)
+  good-key = same-order y x (q .num) (p .num) (λ e. ap keyOf (good-one y x q p (less (overflow binary64) (mag binary64 y) (mag binary64 x) (sym (good-rank y q) ∙ e ∙ good-rank x p))))
+    where
+      less : (B m n : ℕ) → B + m ≡ B + n → m ≡ n
+      less B m n h = omega arith
+
+  pub nearer-key : lt y x ≡ true → keyOf y < keyOf x
+  nearer-key h = ltb-true (keyOf y) (keyOf x) (sym good-key ∙ h)
+
+  pub no-nearer-key : lt y x ≡ false → keyOf x ≤ keyOf y
+  no-nearer-key h = ltb-false (keyOf y) (keyOf x) (sym good-key ∙ h)

@@ -1,7 +1,7 @@
 -- Membership and tests over lists. Assumes nothing.
-use mathlib.Core.Path.{_≡_, refl, sym, ap, _∙_, subst}
+use mathlib.Core.Path.{_≡_, refl, sym, ap, ap₂, _∙_, subst}
 use mathlib.Core.Logic.{_⊎_, inl, inr}
-use mathlib.Core.List.{List, [], _∷_, _++_, map}
+use mathlib.Core.List.{List, [], _∷_, _++_, map, map-append}
 use mathlib.Core.Bool.{Bool, true, false}
 use Prim.Native.Nat.{ℕ, suc, _+_, _*_, _≤_, _<_}
 use native.Mathlib.Nat.{zero-mul, suc-mul}
@@ -87,6 +87,11 @@ module _ {A : Type 0} where
   mem-some p x (y ∷ l) (inl e) t = or-left (p y) (some-of p l) (ap p (sym e) ∙ t)
   mem-some p x (y ∷ l) (inr m) t = or-right (p y) (some-of p l) (mem-some p x l m t)
 
+pub some-map : {A B : Type 0} (p : B → Bool) (f : A → B) (l : List A) → some-of p (map f l) ≡ some-of (λ x. p (f x)) l
+unfolding some-of
+some-map p f [] = refl
+some-map p f (x ∷ l) = rw (some-map p f l)
+
 -- ---- a scan for an entry that passes: what is left to look at after i entries
 module _ {A : Type 0} (p : A → Bool) (l : List A) (i : ℕ) where
   pub scan-hit : (d : A) → i < length l → p (getD l i d) ≡ true → some-of p (drop i l) ≡ true
@@ -130,6 +135,10 @@ module _ {A C : Type 0} (p : A → Bool) (h : A → C) where
       go : (b : Bool) → chosen p h (l ++ r) ≡ chosen p h l ++ chosen p h r → put b (h x) (chosen p h (l ++ r)) ≡ put b (h x) (chosen p h l) ++ chosen p h r
       go true e = ap (λ (t : List C). h x ∷ t) e
       go false e = e
+
+-- what holds of h of each entry holds of the chosen ones
+pub all-chosen : {A C : Type 0} (P : C → Type 0) (p : A → Bool) (h : A → C) (l : List A) → All (λ x. P (h x)) l → All P (chosen p h l)
+all-chosen P p h l k = mem-all P (chosen p h l) (λ z m. let r = mem-chosen p h z l m in subst P (sym (r .3)) (all-mem (λ x. P (h x)) l k (r .0) (r .1)))
 
 module _ {A B : Type 0} (f : A → B) where
   pub mem-map : (l : List A) (y : B) → Mem y (map f l) → (x : A) × Mem x l × (y ≡ f x)
@@ -185,3 +194,16 @@ module _ {A : Type 0} where
     | inl a ↦ inl (append-right (x, y) (beside z l) (pairs l) a)
     | inr b ↦ inr (append-right (y, x) (beside z l) (pairs l) b)
   ]
+
+-- both entries of a pair under g
+abbrev pub both : {A B : Type 0} → (A → B) → A × A → B × B
+both g p = (g (p .0), g (p .1))
+
+pub pairs-map : {A B : Type 0} (g : A → B) (l : List A) → pairs (map g l) ≡ map (both g) (pairs l)
+unfolding pairs
+pairs-map g [] = refl
+pairs-map {A} {B} g (x ∷ l) = ap₂ _++_ (row x l) (pairs-map g l) ∙ sym (map-append (both g) (beside x l) (pairs l))
+  where
+    row : (x : A) (l : List A) → beside (g x) (map g l) ≡ map (both g) (beside x l)
+    row x [] = refl
+    row x (y ∷ l) = ap (_∷_ (g x, g y)) (row x l)

@@ -8,7 +8,7 @@ use lib.Dec.{leb}
 use lib.Ieee.{Float}
 use Rattle.laws.specs.Lists.{All, pairs}
 use Rattle.laws.specs.Charged.{Charged, settle}
-use Rattle.laws.proofs.ListLaws.{mem-all, mem-pairs}
+use Rattle.laws.proofs.ListLaws.{mem-all, mem-pairs, all-chosen}
 use Rattle.floats.specs.Values.{plusZero, gapOf}
 use Rattle.floats.proofs.Gaps.{Good, zero-good}
 use Rattle.floats.proofs.Units.{gap-units}
@@ -24,7 +24,6 @@ use Rattle.congestion.specs.declared.report.CongestionAnswer.{CongestionAnswer}
 use Rattle.congestion.specs.declared.report.CongestionAnswer.the-variants.{Report, Refused}
 use Rattle.congestion.specs.Profile.{lengths, leastNonzero, allPairs}
 use Rattle.congestion.specs.Answer.{reportOf, densityAnswer, withoutDensity, profileAnswer, congestionAnswer, zeros, resultOf}
-use Rattle.clearance.proofs.Distances.{all-chosen}
 use Rattle.congestion.proofs.Fitness.{fit-list}
 use Rattle.congestion.proofs.SweepTheorem.{all-pairs-order, sweep-is-all-pairs}
 use Rattle.congestion.proofs.Answers.{Settles, result-settles, density-settles, profile-settles, congestion-earlier, congestion-reached}

@@ -10,7 +10,7 @@ use lib.Ieee.{Float, round, lt}
 use lib.ListN.{length}
 use Rattle.laws.specs.Lists.{Mem, bit, count, pairs}
 use Rattle.laws.proofs.Tests.{cond-true, cond-false}
-use Rattle.laws.proofs.ListLaws.{mem-pairs}
+use Rattle.laws.proofs.ListLaws.{mem-pairs, both, pairs-map}
 use Rattle.laws.proofs.Folds.{plus, fold-same, fold-map}
 use Rattle.floats.specs.Values.{plusZero}
 use Rattle.floats.specs.Grid.{onGrid, ofUnits}
@@ -22,7 +22,6 @@ use Rattle.congestion.specs.Wires.{Wire, wireOf, cutoffOf}
 use Rattle.congestion.specs.Figures.{close, closePairs, inOrientation, atLeastTwo, visits}
 use Rattle.congestion.specs.Rounded.{closeFloats}
 use Rattle.congestion.specs.Profile.{allPairs}
-use Rattle.congestion.proofs.FoldLaws.{both, pairs-map}
 use Rattle.congestion.proofs.Fitness.{FitList, fit-list, fit-cutoff}
 use Rattle.congestion.proofs.Closeness.{below-cutoff, close-floats}
 use Rattle.readability.specs.Applies.{NoneApplies}

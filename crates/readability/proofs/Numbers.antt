@@ -1,18 +1,17 @@
 -- The floats of a report: gaps that are not negative, and lengths. Assumes nothing.
-use mathlib.Core.Path.{_≡_, ap, subst}
-use mathlib.Core.Bool.{true, false, not}
+use mathlib.Core.Path.{_≡_, ap}
+use mathlib.Core.Bool.{true, not}
 use mathlib.Core.List.{List}
 use mathlib.Core.Option.{Option, none, some}
 use Prim.Native.Nat.{ℕ}
-use lib.Ieee.{Float, nan, inf, fin, binary64, round, lt, isNan}
+use lib.Ieee.{Float, nan, inf, fin, binary64, lt, isNan}
 use Rattle.laws.specs.Lists.{All}
 use Rattle.laws.specs.Least.{least}
 use Rattle.laws.proofs.ListLaws.{all-mem}
 use Rattle.laws.proofs.Leasts.{IsLeast, is-least}
 use Rattle.floats.specs.Grid.{ofUnits}
 use Rattle.floats.proofs.Rank.{mag, sgn}
-use Rattle.floats.proofs.Rounding.{round-num}
-use Rattle.floats.proofs.Gaps.{Good, abs-good, abs-round}
+use Rattle.floats.proofs.Gaps.{Good, round-good}
 use Rattle.drawing.specs.Gaps.{gapFrom, leastGap}
 use Rattle.drawing.proofs.GapLaws.{gaps-ranked}
 use Rattle.readability.specs.Measures.{Reported, unsigned, present}
@@ -37,4 +36,4 @@ least-reported l h = go (least lt l) (is-least gaps-ranked l h)
 
 pub units-good : (n : ℕ) → Good (ofUnits n)
 unfolding ofUnits
-units-good n = subst Good (abs-round false n 64) (abs-good (round binary64 false n 64) (round-num binary64 false n 64))
+units-good n = round-good n 64

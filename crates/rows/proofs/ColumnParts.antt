@@ -7,24 +7,13 @@ use native.Mathlib.Nat.{not-suc-le-zero, le-of-suc-le-suc}
 use native.Mathlib.Omega.{arith}
 use lib.ListN.{length, getD, take, drop, set, length-drop}
 use lib.Seq.{length-take-le, take-take, getD-take, getD-drop, take-set-le, drop-set-lt, drop-set-add}
-use Rattle.laws.specs.Lists.{Mem}
 use Rattle.rows.specs.Rows.{Row}
 use Rattle.rows.specs.Tables.{noRow, rowFrom, column}
 
-module _ {A : Type 0} where
-  pub getD-map : {B : Type 0} (f : A → B) (l : List A) (i : ℕ) (d : A) (b : B) → i < length l → getD (map f l) i b ≡ f (getD l i d)
-  getD-map f [] i d b h = absurd (not-suc-le-zero h)
-  getD-map f (x ∷ l) zero d b h = refl
-  getD-map f (x ∷ l) (suc i) d b h = getD-map f l i d b (le-of-suc-le-suc h)
-
-  pub at-mem : (l : List A) (i : ℕ) (d : A) → i < length l → Mem (getD l i d) l
-  at-mem [] i d h = absurd (not-suc-le-zero h)
-  at-mem (x ∷ l) zero d h = inl refl
-  at-mem (x ∷ l) (suc i) d h = inr (at-mem l i d (le-of-suc-le-suc h))
-
-  pub mem-at : (x : A) (l : List A) (d : A) → Mem x l → (i : ℕ) × (i < length l) × (x ≡ getD l i d)
-  mem-at x (y ∷ l) d (inl e) = (0, omega arith, e)
-  mem-at x (y ∷ l) d (inr m) = let g = mem-at x l d m in (suc (g .0), omega (arith, g .1), g .2)
+pub getD-map : {A B : Type 0} (f : A → B) (l : List A) (i : ℕ) (d : A) (b : B) → i < length l → getD (map f l) i b ≡ f (getD l i d)
+getD-map f [] i d b h = absurd (not-suc-le-zero h)
+getD-map f (x ∷ l) zero d b h = refl
+getD-map f (x ∷ l) (suc i) d b h = getD-map f l i d b (le-of-suc-le-suc h)
 
 pub front-same : (n : ℕ) (s r : List ℕ) → take n s ≡ take n r → (i : ℕ) → i < n → getD s i 0 ≡ getD r i 0
 front-same n s r e i h = sym (getD-take n s i 0 h) ∙ ap (λ (l : List ℕ). getD l i 0) e ∙ getD-take n r i 0 h

@@ -2,6 +2,7 @@
 use mathlib.Core.Path.{_≡_, refl, sym, ap, _∙_, subst}
 use mathlib.Core.List.{List, [], _∷_, _++_, map}
 use Prim.Native.Nat.{ℕ, suc, _+_, _*_, _≤_, _<_}
+use native.Mathlib.Nat.{mul-le-mul-right}
 use native.Mathlib.Omega.{arith}
 use borrow.Author.Tests.{le-leb, lt-leb}
 use lib.Dec.{leb}
@@ -10,6 +11,7 @@ use lib.Seq.{getD-drop}
 use Rattle.laws.specs.Lists.{All}
 use Rattle.laws.specs.Sort.{sortBy}
 use Rattle.laws.proofs.Tests.{cond-true, cond-false}
+use Rattle.laws.proofs.Parts.{drop-past}
 use Rattle.sorting.specs.Sorted.{upTo, sorted}
 use Rattle.sorting.proofs.Entries.{Ordered, all-ordered}
 use Rattle.sorting.proofs.Events.{both, events-ordered}
@@ -43,6 +45,10 @@ pub record EventsOrdered (n : ℕ) (s r : List ℕ) : Type 0 where
   pub rest : drop (2 * n) r ≡ drop (2 * n) s
   pub small : All (λ e. e < 2 * n) (take (2 * n) r)
   pub ordered : (l : List Row) → length l ≡ n → column n 2 s ≡ map (λ r. r .end) l → column n 3 s ≡ map (λ r. r .start) l → map (eventFrom l) (take (2 * n) r) ≡ events l
+
+-- the columns from the keys on are as they were
+pub later-column : (n : ℕ) (s r : List ℕ) → EventsOrdered n s r → (k : ℕ) → 2 ≤ k → column n k r ≡ column n k s
+later-column n s r o k h = ap (take n) (drop-past (2 * n) (k * n) r s (o .rest) (mul-le-mul-right n h))
 
 -- r is s with all numbers in front, and o is r with the numbers in order
 events-are : (s r o : List ℕ) (n : ℕ) → 4 * n ≤ length s → r ≡ upTo (2 * n) ++ drop (2 * n) s → o ≡ sorted r (2 * n) (2 * n) 1 → EventsOrdered n s o

@@ -23,10 +23,10 @@ use Rattle.sorting.proofs.Entries.{Ordered, all-ordered, sorted-entries, upTo-b
 use Rattle.sorting.proofs.Tables.{row-there}
 use Rattle.floats.specs.TotalOrder.{keyOf}
 use Rattle.floats.specs.Values.{canonicalZero}
-use Rattle.drawing.specs.Entries.{Segment, SegmentColumns, segments}
+use Rattle.drawing.specs.Entries.{Segment, SegmentColumns, segments, segmentAt}
 use Rattle.drawing.specs.Checks.{segmentsDiffer}
 use Rattle.drawing.specs.Lengths.{SegmentsAgree}
-use Rattle.drawing.proofs.EntryLaws.{segmentAt, length-segments, segments-at}
+use Rattle.drawing.proofs.EntryLaws.{length-segments, segments-at}
 use Rattle.drawing.proofs.FirstRefusal.{segments-agree}
 use Rattle.drawing.proofs.AnyOrder.{same-segments}
 use Rattle.rows.specs.Rows.{Row, fixedOf, startOf, endOf, rowOf, words, rowsInOrder, oriented}

@@ -1,25 +1,25 @@
 -- Segments that pass check 5: their coordinates are finite and no -0, and pairs that count are rows that meet. Assumes nothing.
 use mathlib.Core.Path.{_≡_, sym, ap, _∙_}
-use mathlib.Core.Logic.{inl, inr}
-use mathlib.Core.Bool.{Bool, true, false, not, _&&_, _||_, cond}
+use mathlib.Core.Bool.{true, false, not, _&&_}
 use mathlib.Core.List.{List, [], _∷_}
 use Prim.Native.Nat.{_≤_, _<_, min, max}
 use native.Mathlib.Omega.{arith}
-use borrow.Author.Tests.{ltb-true, ltb-false, lt-ltb, eqb-true, eqb-false, eq-eqb, ne-eqb, not-true, not-false}
-use lib.Dec.{T, ltb, eqb}
-use lib.Ieee.{Float, binary64, fits, lt}
-use lib.Ieee.Scale.{finite}
+use borrow.Author.Tests.{ltb-true, lt-ltb, eqb-true, eqb-false, eq-eqb, ne-eqb, not-true}
+use lib.Dec.{ltb, eqb}
+use lib.Ieee.{Float, binary64, lt}
 use Rattle.laws.specs.Lists.{All, some-of}
-use Rattle.laws.proofs.Tests.{decide, of-true, neither-left, neither-right, and-left, and-right, and-both, cond-true, cond-false}
+use Rattle.laws.proofs.Tests.{and-left, and-right, and-both}
 use Rattle.laws.proofs.ListLaws.{none-all}
 use Rattle.floats.specs.Values.{canonicalZero, lesserOf, greaterOf}
 use Rattle.floats.specs.TotalOrder.{floatAt}
-use Rattle.floats.proofs.Rank.{rank, Num, fin-num, lt-rank, lt→}
+use Rattle.floats.proofs.Rank.{rank, Num, Fin, fin-num, lt-rank, lt→}
+use Rattle.floats.proofs.Extremes.{picked, lesser-rank, greater-rank}
 use Rattle.floats.proofs.Zeros.{canonical-again, canonical-rank, canonical-fin}
 use Rattle.floats.proofs.NumberKeys.{float-back}
 use Rattle.drawing.specs.Entries.{Segment}
-use Rattle.drawing.specs.Conditions.{unfitLine, unfitSegment}
+use Rattle.drawing.specs.Conditions.{unfitSegment}
 use Rattle.drawing.proofs.ListOrders.{SegmentHeld}
+use Rattle.drawing.proofs.Fit.{line-of}
 use Rattle.rows.specs.Rows.{Row, fixedOf, startOf, endOf, rowOf}
 use Rattle.separation.specs.Figures.{overlapping, counted}
 use Rattle.separation.proofs.Places.{Plain, Placed, placed, key-of-rank, rank-below-key}
@@ -33,29 +33,19 @@ pub record Fit (s : Segment) : Type 0 where
   pub rising : rank binary64 (startOf s) < rank binary64 (endOf s)
 
 -- zeros made +0
-plain-of : (x : Float) → T (fits binary64 x) → not (finite x) ≡ false → Plain (canonicalZero x)
-plain-of x p e = record { fin = canonical-fin binary64 x (p, of-true (finite x) (not-false (finite x) e)); plus = canonical-again x }
+plain-of : (x : Float) → Fin binary64 x → Plain (canonicalZero x)
+plain-of x p = record { fin = canonical-fin binary64 x p; plus = canonical-again x }
 
 pub fit-of : (s : Segment) → SegmentHeld s → unfitSegment s ≡ false → Fit s
-unfolding unfitSegment unfitLine fixedOf startOf endOf
+unfolding fixedOf startOf endOf
 fit-of s p e =
-    let o = ltb 1 (s .orientation) in
-    let a = not (finite (s .fixed)) in
-    let b = not (finite (s .start)) in
-    let c = not (finite (s .end)) in
-    let d = not (lt (s .start) (s .end)) in
-    let e3 = neither-left (o || a || b || c) d e in
-    let e2 = neither-left (o || a || b) c e3 in
-    let e1 = neither-left (o || a) b e2 in
-    let starts = plain-of (s .start) (p .start) (neither-right (o || a) b e2) in
-    let ends = plain-of (s .end) (p .end) (neither-right (o || a || b) c e3) in
-    let number : (x : Float) → T (fits binary64 x) → not (finite x) ≡ false → Num binary64 x = λ x q f. fin-num binary64 x (q, of-true (finite x) (not-false (finite x) f)) in
-    let up = lt→ binary64 (s .start) (s .end) (number (s .start) (p .start) (neither-right (o || a) b e2)) (number (s .end) (p .end) (neither-right (o || a || b) c e3)) (of-true (lt (s .start) (s .end)) (not-false (lt (s .start) (s .end)) (neither-right (o || a || b || c) d e))) in
+    let l = line-of s e in
+    let up = lt→ binary64 (s .start) (s .end) (fin-num binary64 (s .start) (p .start, l .start)) (fin-num binary64 (s .end) (p .end, l .end)) (l .rising) in
     record {
-      turned = ltb-false 1 (s .orientation) (neither-left o a e1);
-      fixed = plain-of (s .fixed) (p .fixed) (neither-right o a e1);
-      start = starts;
-      end = ends;
+      turned = l .turned;
+      fixed = plain-of (s .fixed) (p .fixed, l .fixed);
+      start = plain-of (s .start) (p .start, l .start);
+      end = plain-of (s .end) (p .end, l .end);
       rising = omega (arith, canonical-rank binary64 (s .start) (p .start), canonical-rank binary64 (s .end) (p .end));
     }
 
@@ -79,25 +69,6 @@ pub row-float : (s : Segment) → Fit s → floatAt (rowOf s .line) ≡ fixedOf 
 unfolding rowOf
 row-float s p = float-back (fixedOf s) (p .fixed .fin .0)
 
--- ---- the larger of two numbers, the smaller, by ranks
-greater-rank : (x y : Float) → Num binary64 x → Num binary64 y → rank binary64 (greaterOf x y) ≡ max (rank binary64 x) (rank binary64 y)
-unfolding greaterOf
-greater-rank x y p q = elim (decide (lt x y)) [
-  | inl t ↦ let h = ltb-true (rank binary64 x) (rank binary64 y) (sym (lt-rank binary64 x y p q) ∙ t) in rw (cond-true (lt x y) y x t) (omega arith)
-  | inr f ↦ let h = ltb-false (rank binary64 x) (rank binary64 y) (sym (lt-rank binary64 x y p q) ∙ f) in rw (cond-false (lt x y) y x f) (omega arith)
-]
-
-lesser-rank : (x y : Float) → Num binary64 x → Num binary64 y → rank binary64 (lesserOf x y) ≡ min (rank binary64 x) (rank binary64 y)
-unfolding lesserOf
-lesser-rank x y p q = elim (decide (lt y x)) [
-  | inl t ↦ let h = ltb-true (rank binary64 y) (rank binary64 x) (sym (lt-rank binary64 y x q p) ∙ t) in rw (cond-true (lt y x) y x t) (omega arith)
-  | inr f ↦ let h = ltb-false (rank binary64 y) (rank binary64 x) (sym (lt-rank binary64 y x q p) ∙ f) in rw (cond-false (lt y x) y x f) (omega arith)
-]
-
-picked-num : (b : Bool) (x y : Float) → Num binary64 x → Num binary64 y → Num binary64 (cond b y x)
-picked-num true x y p q = q
-picked-num false x y p q = p
-
 -- ---- a pair that counts is two rows that meet
 module _ (a b : Segment) (p : Fit a) (q : Fit b) where
   overlap-rank : overlapping a b ≡ ltb (max (rank binary64 (startOf a)) (rank binary64 (startOf b))) (min (rank binary64 (endOf a)) (rank binary64 (endOf b)))
@@ -107,7 +78,7 @@ module _ (a b : Segment) (p : Fit a) (q : Fit b) where
       let nb = fin-num binary64 (startOf b) (q .start .fin) in
       let ma = fin-num binary64 (endOf a) (p .end .fin) in
       let mb = fin-num binary64 (endOf b) (q .end .fin) in
-      lt-rank binary64 _ _ (picked-num (lt (startOf a) (startOf b)) (startOf a) (startOf b) na nb) (picked-num (lt (endOf b) (endOf a)) (endOf a) (endOf b) ma mb)
+      lt-rank binary64 _ _ (picked (Num binary64) (lt (startOf a) (startOf b)) (startOf a) (startOf b) na nb) (picked (Num binary64) (lt (endOf b) (endOf a)) (endOf a) (endOf b) ma mb)
       ∙ (λ i. ltb (greater-rank (startOf a) (startOf b) na nb i) (lesser-rank (endOf a) (endOf b) ma mb i))
 
   pub counted→ : counted (a, b) ≡ true → (a .orientation ≡ b .orientation) × Meet (rowOf a) (rowOf b)

@@ -9,7 +9,6 @@ use native.Mathlib.Omega.{arith}
 use lib.ListN.{length, getD}
 use lib.Ieee.{Float, binary64, eq}
 use Rattle.laws.specs.Lists.{Mem, All, chosen, keep}
-use Rattle.laws.specs.Least.{least}
 use Rattle.laws.specs.Charged.{runs}
 use Rattle.laws.specs.Sort.{Sorted}
 use Rattle.laws.proofs.Tests.{is-true}

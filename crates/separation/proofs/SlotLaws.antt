@@ -4,7 +4,7 @@ use mathlib.Core.Logic.{inl, inr}
 use mathlib.Core.Bool.{true}
 use mathlib.Core.List.{List, [], _∷_, _++_, map}
 use Prim.Native.Nat.{ℕ, zero, suc, _+_, _-_, _*_, _^_, _≤_, _<_, suc-le-suc}
-use native.Mathlib.Nat.{not-suc-le-zero, le-of-suc-le-suc}
+use native.Mathlib.Nat.{le-refl, not-suc-le-zero, le-of-suc-le-suc}
 use native.Mathlib.Omega.{arith}
 use borrow.Author.Count.{below-more}
 use borrow.Author.Tests.{leb-true, le-leb, eq-eqb, ne-eqb}
@@ -19,29 +19,22 @@ use Rattle.laws.proofs.Tests.{le-or-lt, same-or-not}
 use Rattle.laws.proofs.ListLaws.{map-mem}
 use Rattle.laws.proofs.Parts.{tail-lent, tail-back, drop-past, getD-past}
 use Rattle.laws.proofs.Perms.{perm-sym, perm-mem}
-use Rattle.laws.proofs.Places.{first-at}
+use Rattle.laws.proofs.Places.{at-mem, mem-at, first-at}
 use Rattle.laws.proofs.Sorting.{sort-sorted}
-use Rattle.laws.proofs.SortedLists.{sorted-map}
+use Rattle.laws.proofs.SortedLists.{sorted-at, sorted-map}
 use Rattle.sorting.specs.Sorted.{before, sortable, sorted}
 use Rattle.sorting.proofs.Entries.{sorted-length, sorted-column, sorted-perm, sorted-rest}
 use Rattle.sorting.proofs.Fitting.{no-rows}
 use Rattle.sorting.proofs.RowOrder.{before-order}
 use Rattle.rows.specs.Rows.{Row}
 use Rattle.rows.specs.Tables.{rowFrom, column}
-use Rattle.rows.proofs.ColumnParts.{getD-map, at-mem, mem-at, front-same, column-length, column-at, row-word}
+use Rattle.rows.proofs.ColumnParts.{getD-map, front-same, column-length, column-at, row-word}
 use Rattle.separation.specs.Lines.{lines, index}
 use Rattle.separation.specs.ActiveNets.{Slots}
 use Rattle.separation.specs.Numbered.{Slottable, slotWord, WordsFilled, placeOf, groupOf, WordsInOrder, slotOf, HandedOut, SlotsAssigned}
 use Rattle.separation.proofs.Lines.{first-word, index-here, index-past, index-lt}
 
 -- ---- the first place of a value in a list in order
-sorted-at : (l : List ℕ) → Sorted leb l → (i j : ℕ) → i ≤ j → j < length l → getD l i 0 ≤ getD l j 0
-sorted-at [] s i j a b = absurd (not-suc-le-zero b)
-sorted-at (x ∷ l) s zero zero a b = omega arith
-sorted-at (x ∷ l) s zero (suc j) a b = leb-true x (getD l j 0) (s .0 (getD l j 0) (at-mem l j 0 (le-of-suc-le-suc b)))
-sorted-at (x ∷ l) s (suc i) zero a b = absurd (not-suc-le-zero a)
-sorted-at (x ∷ l) s (suc i) (suc j) a b = sorted-at l (s .1) i j (le-of-suc-le-suc a) (le-of-suc-le-suc b)
-
 index-at : (l : List ℕ) (k p : ℕ) → k < length l → ((i : ℕ) → i < k → getD l i 0 < p) → p ≤ getD l k 0 → index l p ≡ k
 index-at [] k p b f h = absurd (not-suc-le-zero b)
 index-at (q ∷ l) zero p b f h = index-here q p l h
@@ -154,8 +147,8 @@ slot-first G (suc k) slot last s b z e o =
   where
     below : last ≡ getD G k 0 → (getD G (suc k) 0 ≡ last → ⊥) → (i : ℕ) → i < suc k → getD G i 0 < getD G (suc k) 0
     below was q i h =
-        let a = sorted-at G s i k (omega arith) (omega arith) in
-        let c = sorted-at G s k (suc k) (omega arith) b in
+        let a = sorted-at leb _≤_ le-refl leb-true 0 G s i k (omega arith) (omega arith) in
+        let c = sorted-at leb _≤_ le-refl leb-true 0 G s k (suc k) (omega arith) b in
         omega arith
 
 groups-sorted : (l : List ℕ) → Sorted leb l → Sorted leb (map groupOf l)

@@ -11,10 +11,11 @@ use Rattle.laws.specs.Lists.{Mem}
 use Rattle.laws.specs.Charged.{Charged, Outcome, spent, left, within, free, after, onward}
 use Rattle.laws.proofs.Tests.{le-or-lt}
 use Rattle.laws.proofs.Parts.{tail-lent, tail-back}
+use Rattle.laws.proofs.Places.{at-mem}
 use Rattle.laws.proofs.Runs.{within-after, within-free, within-enough, within-short, onward-spent, onward-left}
 use Rattle.rows.specs.Rows.{Row}
 use Rattle.rows.specs.Tables.{noRow, rowFrom}
-use Rattle.rows.proofs.ColumnParts.{at-mem, front-same, column-same, row-word}
+use Rattle.rows.proofs.ColumnParts.{front-same, column-same, row-word}
 use Rattle.separation.specs.declared.sweep.Sweeping.{Sweeping}
 use Rattle.separation.specs.declared.sweep.Swept.{Swept}
 use Rattle.separation.specs.declared.sweep.Swept.the-variants.{Went, Spent}

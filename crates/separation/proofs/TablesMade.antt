@@ -3,7 +3,7 @@ use mathlib.Core.Path.{_≡_, refl, sym, ap, _∙_, subst}
 use mathlib.Core.Logic.{inl, inr}
 use mathlib.Core.List.{List, [], map}
 use Prim.Native.Nat.{ℕ, zero, suc, _+_, _-_, _*_, _^_, _≤_, _<_}
-use native.Mathlib.Nat.{pow-succ', mul-le-mul-right}
+use native.Mathlib.Nat.{pow-succ'}
 use native.Mathlib.Omega.{arith}
 use borrow.Rule.Slice.PartMut.{midOf, putMid, mid-len, take-put, same-len-mid}
 use lib.ListN.{length, getD, take, drop, replicate, length-replicate, getD-replicate, length-drop, List·getD-append}
@@ -13,13 +13,12 @@ use Rattle.laws.specs.Sort.{Sorted}
 use Rattle.laws.specs.Charged.{within}
 use Rattle.laws.proofs.Tests.{le-or-lt}
 use Rattle.laws.proofs.ListLaws.{mem-all, mem-map}
-use Rattle.laws.proofs.Parts.{drop-past}
 use Rattle.rows.specs.Rows.{Row, rowsInOrder}
 use Rattle.rows.specs.Placed.{rowsSpread, eventsPlaced}
 use Rattle.rows.specs.Tables.{eventFrom, column, RowsOrdered}
 use Rattle.rows.proofs.ColumnParts.{column-same}
 use Rattle.rows.proofs.SpreadTables.{Spread, rows-spread}
-use Rattle.rows.proofs.EventTables.{EventsOrdered, events-placed}
+use Rattle.rows.proofs.EventTables.{EventsOrdered, later-column, events-placed}
 use Rattle.separation.specs.declared.summary.NetSummary.the-variants.{Nothing}
 use Rattle.separation.specs.declared.sweep.Swept.{Swept}
 use Rattle.separation.specs.Lines.{lines, levels}
@@ -39,14 +38,11 @@ module _ (l : List Row) (sorted : Sorted rowsInOrder l) (s₁ s₂ s₃ : List �
   abbrev n : ℕ
   n = length l
 
-  later-column : (k : ℕ) → 2 ≤ k → column n k s₂ ≡ column n k s₁
-  later-column k h = ap (take n) (drop-past (2 * n) (k * n) s₂ s₁ (ordered .rest) (mul-le-mul-right n h))
-
   lines-are : Numbered l s₃ many
-  lines-are = numbered .numbered l refl sorted (later-column 4 (omega arith) ∙ spread .keys)
+  lines-are = numbered .numbered l refl sorted (later-column n s₁ s₂ ordered 4 (omega arith) ∙ spread .keys)
 
   nets-are : column n 5 s₃ ≡ map (λ r. r .net) l
-  nets-are = numbered .nets ∙ later-column 5 (omega arith) ∙ spread .nets
+  nets-are = numbered .nets ∙ later-column n s₁ s₂ ordered 5 (omega arith) ∙ spread .nets
 
   slottable : n ≤ 4096 → 9 * n ≤ length s₃ → ((r : Row) → Mem r l → r .net < 2 ^ 32) → Slottable n s₃
   slottable few room small = record {

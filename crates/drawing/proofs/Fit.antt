@@ -1,17 +1,18 @@
 -- Entries that refusal 5 lets pass: what is known of their numbers. Assumes nothing.
 use mathlib.Core.Path.{_≡_}
 use mathlib.Core.Bool.{false, not, _||_}
+use Prim.Native.Nat.{_≤_}
 use lib.Dec.{T, ltb}
 use lib.Ieee.{Float, binary64, add, lt, fits}
 use lib.Ieee.Fits.{add-fits}
 use lib.Ieee.Scale.{finite}
-use borrow.Author.Tests.{not-false}
+use borrow.Author.Tests.{ltb-false, not-false}
 use Rattle.laws.proofs.Tests.{of-true, neither-left, neither-right}
 use Rattle.floats.specs.Values.{plusZero}
 use Rattle.floats.proofs.Rank.{Num, Fin, fin-num}
 use Rattle.drawing.specs.Entries.{Segment, Node}
 use Rattle.drawing.specs.Conditions.{unfitLine, unfitSegment, unfitExtent, unfitNode, unfitThreshold}
 use Rattle.drawing.proofs.ListOrders.{SegmentHeld, NodeHeld}
 
 -- ---- fit entries: binary64 holds their floats, and the conditions of refusal 5 do not hold of them
 pub record FitSegment (s : Segment) : Type 0 where
@@ -27,33 +28,35 @@ pub record FitThreshold (t : Float) : Type 0 where
   pub passes : unfitThreshold t ≡ false
 
 -- ---- what is known of them
-finite-of : (x : Float) → T (fits binary64 x) → not (finite x) ≡ false → Fin binary64 x
-finite-of x h e = (h, of-true (finite x) (not-false (finite x) e))
+finite-of : (x : Float) → not (finite x) ≡ false → T (finite x)
+finite-of x e = of-true (finite x) (not-false (finite x) e)
 
 below-of : (x y : Float) → not (lt x y) ≡ false → T (lt x y)
 below-of x y e = of-true (lt x y) (not-false (lt x y) e)
 
-pub record Line (fixed start end : Float) : Type 0 where
-  pub fixed-fin : Fin binary64 fixed
-  pub start-fin : Fin binary64 start
-  pub end-fin : Fin binary64 end
-  pub rising : T (lt start end)
+pub record Line (s : Segment) : Type 0 where
+  pub turned : s .orientation ≤ 1
+  pub fixed : T (finite (s .fixed))
+  pub start : T (finite (s .start))
+  pub end : T (finite (s .end))
+  pub rising : T (lt (s .start) (s .end))
 
-pub line-of : (s : Segment) → FitSegment s → Line (s .fixed) (s .start) (s .end)
+pub line-of : (s : Segment) → unfitSegment s ≡ false → Line s
 unfolding unfitSegment unfitLine
-line-of s p =
+line-of s e =
     let a = ltb 1 (s .orientation) in
     let b = a || not (finite (s .fixed)) in
     let c = b || not (finite (s .start)) in
     let d = c || not (finite (s .end)) in
-    let d0 = neither-left d (not (lt (s .start) (s .end))) (p .passes) in
+    let d0 = neither-left d (not (lt (s .start) (s .end))) e in
     let c0 = neither-left c (not (finite (s .end))) d0 in
     let b0 = neither-left b (not (finite (s .start))) c0 in
     record {
-      fixed-fin = finite-of (s .fixed) (p .held .fixed) (neither-right a (not (finite (s .fixed))) b0);
-      start-fin = finite-of (s .start) (p .held .start) (neither-right b (not (finite (s .start))) c0);
-      end-fin = finite-of (s .end) (p .held .end) (neither-right c (not (finite (s .end))) d0);
-      rising = below-of (s .start) (s .end) (neither-right d (not (lt (s .start) (s .end))) (p .passes));
+      turned = ltb-false 1 (s .orientation) (neither-left a (not (finite (s .fixed))) b0);
+      fixed = finite-of (s .fixed) (neither-right a (not (finite (s .fixed))) b0);
+      start = finite-of (s .start) (neither-right b (not (finite (s .start))) c0);
+      end = finite-of (s .end) (neither-right c (not (finite (s .end))) d0);
+      rising = below-of (s .start) (s .end) (neither-right d (not (lt (s .start) (s .end))) e);
     }
 
 -- along one axis of a node's box
@@ -72,10 +75,10 @@ extent-of x w h k e =
     let c0 = neither-left c (not (finite (add binary64 x w))) e in
     let b0 = neither-left b (not (lt plusZero w)) c0 in
     record {
-      corner-fin = finite-of x h (neither-left a (not (finite w)) b0);
-      extent-fin = finite-of w k (neither-right a (not (finite w)) b0);
+      corner-fin = (h, finite-of x (neither-left a (not (finite w)) b0));
+      extent-fin = (k, finite-of w (neither-right a (not (finite w)) b0));
       positive = below-of plusZero w (neither-right b (not (lt plusZero w)) c0);
-      edge-fin = finite-of (add binary64 x w) (add-fits binary64 x w) (neither-right c (not (finite (add binary64 x w))) e);
+      edge-fin = (add-fits binary64 x w, finite-of (add binary64 x w) (neither-right c (not (finite (add binary64 x w))) e));
     }
 
 pub across-of : (n : Node) → FitNode n → Extent (n .x) (n .width)
@@ -88,4 +91,4 @@ down-of n p = extent-of (n .y) (n .height) (p .held .y) (p .held .height) (neith
 
 pub threshold-num : (t : Float) → FitThreshold t → Num binary64 t
 unfolding unfitThreshold
-threshold-num t p = fin-num binary64 t (finite-of t (p .held) (neither-left (not (finite t)) (lt t plusZero) (p .passes)))
+threshold-num t p = fin-num binary64 t (p .held, finite-of t (neither-left (not (finite t)) (lt t plusZero) (p .passes)))
