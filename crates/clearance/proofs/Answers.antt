@@ -18,7 +18,7 @@ use Rattle.drawing.proofs.ListOrders.{SegmentHeld, NodeHeld}
 use Rattle.drawing.proofs.Fit.{FitSegment, FitNode, FitThreshold}
 use Rattle.clearance.specs.declared.report.ClearanceAnswer.the-variants.{Refused}
 use Rattle.clearance.specs.Figures.{Figures}
-use Rattle.clearance.specs.Answer.{reportOf, accepted, allPairs, answer, zeros, resultOf}
+use Rattle.clearance.specs.Answer.{reportOf, accepted, allPairs, clearanceAnswer, zeros, resultOf}
 
 -- what every call knows of its floats: binary64 holds them
 pub record Lent (s : SegmentColumns) (n : NodeColumns) (t : Float) : Type 0 where
@@ -52,8 +52,8 @@ fit-call s n e t words l h =
 
 -- ---- the result of such a call: "A call whose allowance reaches it returns the all-pairs report, whose visits are that count; a call whose allowance does not returns the spent-allowance refusal", which is 7
 pub result-settles : (s : SegmentColumns) (n : NodeColumns) (e : ExemptionColumns) (t : Float) (allowance words : ℕ) → passes s n e t words
-    → resultOf (answer s n e t allowance words) ≡ settle (λ g count. (0, reportOf g count)) (7, zeros) allowance (allPairs (exemptions e) t (segments s) (nodes n))
-unfolding answer settle resultOf accepted numberOf
+    → resultOf (clearanceAnswer s n e t allowance words) ≡ settle (λ g count. (0, reportOf g count)) (7, zeros) allowance (allPairs (exemptions e) t (segments s) (nodes n))
+unfolding clearanceAnswer settle resultOf accepted numberOf
 result-settles s n e t allowance words h = let c = allPairs (exemptions e) t (segments s) (nodes n) in rw h (go (reaches allowance c) (c .value) (c .cost))
   where
     go : (b : Bool) (g : Figures) (count : ℕ) → resultOf (cond b (accepted g count) (Refused WorkLimitExceeded)) ≡ cond b (0, reportOf g count) (7, zeros)

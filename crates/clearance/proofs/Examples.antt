@@ -23,7 +23,7 @@ use Rattle.clearance.specs.Figures.{exempt, distances, figures}
 use Rattle.clearance.specs.Tree.{indexed, indexedRow, indexedInOrder, horizontalWider, hull, boundsOf, build, treeOf}
 use Rattle.clearance.specs.Walk.{contributes, withPair, walk, walkAll, visitCount}
 use Rattle.clearance.specs.declared.report.EdgeNodeClearance.{EdgeNodeClearance}
-use Rattle.clearance.specs.Answer.{reportOf, accepted, allPairs, answer, zeros, resultOf}
+use Rattle.clearance.specs.Answer.{reportOf, accepted, allPairs, clearanceAnswer, zeros, resultOf}
 
 abbrev zero : Float
 zero = ofBits binary64 0
@@ -64,7 +64,7 @@ d-exemptions = exemptionColumns (2 ∷ []) (7 ∷ [])
 
 -- the number and values of the answer; the scratch has 32 (2 + 1) + 64 words
 abbrev measured : SegmentColumns → NodeColumns → ExemptionColumns → Float → ℕ → ℕ × EdgeNodeClearance
-measured s n e threshold allowance = resultOf (answer s n e threshold allowance 160)
+measured s n e threshold allowance = resultOf (clearanceAnswer s n e threshold allowance 160)
 
 abbrev report : Gap → ℕ → ℕ → ℕ × EdgeNodeClearance
 report g v n = (0, reportOf (record { least = g; violations = v }) n)
@@ -73,7 +73,7 @@ report g v n = (0, reportOf (record { least = g; violations = v }) n)
 pub record Marked : Type 0 where
   pub d : measured d-segments d-nodes d-exemptions two 1000 ≡ report (Present one) 1 2
   -- D as the program `sheet` measures it
-  pub d-sheet : answer d-segments d-nodes d-exemptions two 1000 7744 ≡ accepted (record { least = Present one; violations = 1 }) 2
+  pub d-sheet : clearanceAnswer d-segments d-nodes d-exemptions two 1000 7744 ≡ accepted (record { least = Present one; violations = 1 }) 2
   pub d-at-2 : measured d-segments d-nodes d-exemptions two 2 ≡ report (Present one) 1 2
   pub d-at-1 : measured d-segments d-nodes d-exemptions two 1 ≡ (7, zeros)
   -- (g) "distance 2, threshold 2: no violation": D's first segment, and D's node one further away
@@ -84,5 +84,5 @@ pub record Marked : Type 0 where
   pub i : measured (segmentColumns [] [] [] [] []) d-nodes d-exemptions zero 0 ≡ report Absent 0 0
 
 pub marked : Marked
-unfolding ofBits toBits add sub lt some-of chosen fold cross rowLe insertBy sortBy lesser least runs settle key keyOf lesserOf greaterOf segmentsOf nodesOf exemptionsOf gapFrom leastGap lesserGap segmentRow nodeRow segmentsInOrder nodesInOrder numberOf firstOf differ tooMany shortScratch unfitLine unfitSegment unfitExtent unfitNode unfitThreshold segmentsDiffer nodesDiffer exemptionsDiffer listConditions entryConditions clearanceConditions fromNode fromSegment nodeBox segmentBox union axisGap distance exempt distances figures indexed indexedRow indexedInOrder horizontalWider hull boundsOf build treeOf contributes withPair walk walkAll visitCount accepted allPairs answer resultOf
+unfolding ofBits toBits add sub lt some-of chosen fold cross rowLe insertBy sortBy lesser least runs settle key keyOf lesserOf greaterOf segmentsOf nodesOf exemptionsOf gapFrom leastGap lesserGap segmentRow nodeRow segmentsInOrder nodesInOrder numberOf firstOf differ tooMany shortScratch unfitLine unfitSegment unfitExtent unfitNode unfitThreshold segmentsDiffer nodesDiffer exemptionsDiffer listConditions entryConditions clearanceConditions fromNode fromSegment nodeBox segmentBox union axisGap distance exempt distances figures indexed indexedRow indexedInOrder horizontalWider hull boundsOf build treeOf contributes withPair walk walkAll visitCount accepted allPairs clearanceAnswer resultOf
 marked = record { d = refl; d-sheet = refl; d-at-2 = refl; d-at-1 = refl; g = refl; h = refl; i = refl }

@@ -8,7 +8,8 @@ use native.Mathlib.Omega.{arith}
 use borrow.Author.Tests.{ne-eqb, le-leb, lt-leb}
 use lib.Dec.{leb}
 use lib.Ieee.{Float, lt}
-use Rattle.laws.specs.Charged.{Charged, Outcome, spent, left, within, free, visit, onward}
+use Rattle.laws.specs.Charged.{Charged, free, visit}
+use Rattle.laws.specs.Allowance.{Outcome, spent, left, within, onward}
 use Rattle.laws.proofs.Tests.{le-or-lt}
 use Rattle.laws.proofs.Runs.{within-enough, within-short, within-free, visit-spent, visit-paid, within-after}
 use Rattle.laws.specs.Lists.{bit}
@@ -19,6 +20,8 @@ use Rattle.drawing.specs.Gaps.{lesserGap}
 use Rattle.drawing.specs.Entries.{Segment, Exemption}
 use Rattle.boxes.specs.declared.aabb.Aabb.{Aabb}
 use Rattle.clearance.specs.declared.walk.Walking.{Walking}
+use Rattle.clearance.specs.declared.walk.Subtree.{Subtree}
+use Rattle.clearance.specs.declared.walk.Halves.{Halves}
 use Rattle.clearance.specs.declared.walk.Walked.{Walked}
 use Rattle.clearance.specs.declared.walk.Walked.the-variants.{Spent, Went}
 use Rattle.boxes.specs.Boxes.{segmentBox, distance}
@@ -26,7 +29,7 @@ use Rattle.clearance.specs.Figures.{Figures, exempt}
 use Rattle.clearance.specs.Tree.{Tree, leaf, branch, boundsOf}
 use Rattle.clearance.specs.Stored.{boxAt, leafAt, splitAt, storedTree}
 use Rattle.clearance.specs.Walk.{contributes, withPair, walk}
-use Rattle.clearance.specs.Walking.{gapOfFloat, soFar, outcomeOf, Near, Walkable, Walks}
+use Rattle.clearance.specs.Walking.{gapOfFloat, soFar, outcomeOf, Part, Near, Walkable, Smaller, Halved, Walks}
 use Rattle.floats.proofs.NumberKeys.{nearer-key, no-nearer-key}
 use Rattle.boxes.proofs.AnyBoxes.{any-distance-good}
 use Rattle.clearance.proofs.Visits.{walk-violations}
@@ -114,85 +117,76 @@ near-good d p w i n e = subst Good (sym (e n (omega arith))) (any-distance-good 
 known : (s : Segment) (p : Aabb) → segmentBox s ≡ p → (tree : Tree) (d : Float) → d ≡ distance p (boundsOf tree) → lower s tree ≡ d
 known s p on tree d e = ap (λ (q : Aabb). distance q (boundsOf tree)) on ∙ sym e
 
-module _ (ex : List Exemption) (t : Float) {w : List ℕ} {i n : ℕ} {d : Float} {p : Aabb} {net : ℕ} {st : Walking} (ready : Walkable w i n d p net st) where
-  pub next-room : (r : Walked) → Walks ex t w i n p net st r → (v : Walking) → r ≡ Went v → v .violations + v .left ≤ st .violations + st .left
-  next-room r e v h = walk-room ex t (ready .segment) (storedTree n w i n) st r (e (ready .segment) (ready .box) (ready .of) n (omega arith)) v h
+module _ (ex : List Exemption) (t : Float) {w : List ℕ} {i n : ℕ} {d : Float} {p : Aabb} {st : Walking} (ready : Walkable w i n d p st) where
+  pub next-room : (net : ℕ) (r : Walked) → Walks ex t w i n p net st r → (v : Walking) → r ≡ Went v → v .violations + v .left ≤ st .violations + st .left
+  unfolding segmentBox
+  next-room net r e v h =
+      let s : Segment = record { net = net; orientation = ready .segment .orientation; fixed = ready .segment .fixed; start = ready .segment .start; end = ready .segment .end } in
+      walk-room ex t s (storedTree n w i n) st r (e s (ready .box) refl n (omega arith)) v h
 
   reaches : (s : Segment) → segmentBox s ≡ p → (k : ℕ) → n ≤ k → (tree : Tree) → storedTree k w i n ≡ tree → (b : Bool) → contributes d t (gapOfFloat (st .least)) ≡ b → contributes (lower s tree) t (gapOfFloat (st .least)) ≡ b
   reaches s on k h tree e b c = ap (λ (z : Float). contributes z t (gapOfFloat (st .least))) (known s p on tree d (ready .near k h ∙ ap (λ (z : Tree). distance p (boundsOf z)) e)) ∙ c
 
-  pub walks-pruned : contributes d t (gapOfFloat (st .least)) ≡ false → Walks ex t w i n p net st (Went st)
+  pub walks-pruned : contributes d t (gapOfFloat (st .least)) ≡ false → (net : ℕ) → Walks ex t w i n p net st (Went st)
   unfolding outcomeOf
-  walks-pruned far s on of k h = sym (ap (within (st .left)) (walk-pruned ex t s (storedTree k w i n) (soFar st) (reaches s on k h (storedTree k w i n) refl false far)) ∙ within-free (st .left) (soFar st))
+  walks-pruned far net s on of k h = sym (ap (within (st .left)) (walk-pruned ex t s (storedTree k w i n) (soFar st) (reaches s on k h (storedTree k w i n) refl false far)) ∙ within-free (st .left) (soFar st))
 
-  pub walks-leaf : contributes d t (gapOfFloat (st .least)) ≡ true → n ≡ 1 → (r : Walked) → outcomeOf r ≡ within (st .left) (visit (free (withPair (exempt ex net (leafAt w i .id)) t d (soFar st)))) → Walks ex t w i n p net st r
-  unfolding boundsOf
-  walks-leaf close one r e s on of k h =
-      let x = stored-leaf w i n one k h in
-      let y : distance (segmentBox s) (leafAt w i .bounds) ≡ d = known s p on (leaf (leafAt w i)) d (ready .near k h ∙ ap (λ (z : Tree). distance p (boundsOf z)) x) in
-      e ∙ sym (ap (within (st .left))
-      (ap (λ (z : Tree). walk ex t s z (soFar st)) x ∙ walk-leaf ex t s (leafAt w i) (soFar st) (reaches s on k h (leaf (leafAt w i)) x true close)
-      ∙ (λ j. visit (free (withPair (exempt ex (of j) (leafAt w i .id)) t (y j) (soFar st))))))
+  module _ (close : contributes d t (gapOfFloat (st .least)) ≡ true) where
+    pub walks-leaf : n ≡ 1 → (net : ℕ) (r : Walked) → outcomeOf r ≡ within (st .left) (visit (free (withPair (exempt ex net (leafAt w i .id)) t d (soFar st)))) → Walks ex t w i n p net st r
+    unfolding boundsOf
+    walks-leaf one net r e s on of k h =
+        let x = stored-leaf w i n one k h in
+        let y : distance (segmentBox s) (leafAt w i .bounds) ≡ d = known s p on (leaf (leafAt w i)) d (ready .near k h ∙ ap (λ (z : Tree). distance p (boundsOf z)) x) in
+        e ∙ sym (ap (within (st .left))
+        (ap (λ (z : Tree). walk ex t s z (soFar st)) x ∙ walk-leaf ex t s (leafAt w i) (soFar st) (reaches s on k h (leaf (leafAt w i)) x true close)
+        ∙ (λ j. visit (free (withPair (exempt ex (of j) (leafAt w i .id)) t (y j) (soFar st))))))
 
--- ---- a part is halved
-pub record Halved (t : Float) (w : List ℕ) (i n : ℕ) (d : Float) (p : Aabb) (net : ℕ) (st : Walking) (dl dr : Float) : Type 0 where
-  pub ready : Walkable w i n d p net st
-  pub close : contributes d t (gapOfFloat (st .least)) ≡ true
-  pub more : n ≡ 1 → ⊥
-  pub left : Near dl p w i (n / 2)
-  pub right : Near dr p w (i + n / 2) (n - n / 2)
+    module _ {h : Halves} (halved : Halved w i n p h) (net : ℕ) (first : Walked) (e : Walks ex t w (h .nearer .first) (h .nearer .count) p net st first) where
+      -- the walk of the part is that of one half and then of the other
+      turns : (s : Segment) → segmentBox s ≡ p → (k : ℕ) → n ≤ suc k
+          → within (st .left) (walk ex t s (storedTree (suc k) w i n) (soFar st)) ≡ onward (within (st .left) (walk ex t s (storedTree k w (h .nearer .first) (h .nearer .count)) (soFar st))) (λ g m. within m (walk ex t s (storedTree k w (h .farther .first) (h .farther .count)) g))
+      turns s on k q = ap (within (st .left)) (halved .turn ex t s on k q (soFar st) (ap (λ (z : Float). contributes z t (gapOfFloat (st .least))) (sym (ready .near (suc k) q)) ∙ close)) ∙ within-after (st .left) _ (λ g. walk ex t s (storedTree k w (h .farther .first) (h .farther .count)) g)
 
--- its walk is that of one half and then of the other
-pub record InTurn (ex : List Exemption) (t : Float) (w : List ℕ) (i n : ℕ) (p : Aabb) (st : Walking) (ia na ib nb : ℕ) : Type 0 where
-  pub fewer : na < n
-  pub rest : nb < n
-  pub turn : (s : Segment) → segmentBox s ≡ p → (k : ℕ) → n ≤ suc k
-      → within (st .left) (walk ex t s (storedTree (suc k) w i n) (soFar st)) ≡ onward (within (st .left) (walk ex t s (storedTree k w ia na) (soFar st))) (λ g m. within m (walk ex t s (storedTree k w ib nb) g))
+      pub walks-stopped : first ≡ Spent → Walks ex t w i n p net st Spent
+      walks-stopped x s on of zero q = absurd (omega (arith, halved .nearer .fewer))
+      walks-stopped x s on of (suc k) q = onward-stopped _ _ first x (e s on of k (omega (arith, halved .nearer .fewer))) ∙ sym (turns s on k q)
 
-module _ {t : Float} {w : List ℕ} {i n : ℕ} {d : Float} {p : Aabb} {net : ℕ} {st : Walking} {dl dr : Float} (h : Halved t w i n d p net st dl dr) where
-  -- either half may be walked from a state that has as much room
-  pub left-walkable : (v : Walking) → v .violations + v .left ≤ st .violations + st .left → Walkable w i (n / 2) dl p net v
-  left-walkable v q = record { part = record { some = omega (arith, h .more, h .ready .part .some); inside = omega (arith, h .ready .part .inside) }; near = h .left; room = omega (arith, h .ready .room); segment = h .ready .segment; box = h .ready .box; of = h .ready .of }
+      pub walks-on : (v : Walking) → first ≡ Went v → (r second : Walked) → r ≡ second → Walks ex t w (h .farther .first) (h .farther .count) p net v second → Walks ex t w i n p net st r
+      walks-on v x r second y f s on of zero q = absurd (omega (arith, halved .nearer .fewer))
+      walks-on v x r second y f s on of (suc k) q = ap outcomeOf y ∙ f s on of k (omega (arith, halved .farther .fewer)) ∙ onward-went _ _ first v x (e s on of k (omega (arith, halved .nearer .fewer))) ∙ sym (turns s on k q)
 
-  pub right-walkable : (v : Walking) → v .violations + v .left ≤ st .violations + st .left → Walkable w (i + n / 2) (n - n / 2) dr p net v
-  right-walkable v q = record { part = record { some = omega (arith, h .more, h .ready .part .some); inside = omega (arith, h .ready .part .inside) }; near = h .right; room = omega (arith, h .ready .room); segment = h .ready .segment; box = h .ready .box; of = h .ready .of }
+-- a smaller part may be walked from a state that has as much room
+pub half-walkable : {w : List ℕ} {i n : ℕ} {d : Float} {p : Aabb} {st : Walking} → Walkable w i n d p st → {h : Subtree} → Smaller w n p h → (v : Walking) → v .violations + v .left ≤ st .violations + st .left → Walkable w (h .first) (h .count) (h .lower) p v
+half-walkable ready half v q = record { part = half .part; near = half .near; room = omega (arith, ready .room); segment = ready .segment; box = ready .box }
 
-  left-good : Good dl
-  left-good = near-good dl p w i (n / 2) (h .left)
+-- ---- a part is halved: the nearer half first, the left one on a tie
+module _ {w : List ℕ} {i n : ℕ} {p : Aabb} (part : Part w i n) (more : 1 < n) {dl dr : Float} (near-left : Near dl p w i (n / 2)) (near-right : Near dr p w (i + n / 2) (n - n / 2)) where
+  left-half : Smaller w n p (record { first = i; count = n / 2; lower = dl })
+  left-half = record { part = record { some = omega arith; inside = omega (arith, part .inside) }; fewer = omega arith; near = near-left }
 
-  right-good : Good dr
-  right-good = near-good dr p w (i + n / 2) (n - n / 2) (h .right)
+  right-half : Smaller w n p (record { first = i + n / 2; count = n - n / 2; lower = dr })
+  right-half = record { part = record { some = omega arith; inside = omega (arith, part .inside) }; fewer = omega arith; near = near-right }
 
-  module _ (ex : List Exemption) where
-    sides : (s : Segment) → segmentBox s ≡ p → (k : ℕ) → n ≤ suc k → (c : Bool) → leb (keyOf dl) (keyOf dr) ≡ c → leb (keyOf (lower s (storedTree k w i (n / 2)))) (keyOf (lower s (storedTree k w (i + n / 2) (n - n / 2)))) ≡ c
-    sides s on k q c e = rw (known s p on (storedTree k w i (n / 2)) dl (h .left k (omega arith)), known s p on (storedTree k w (i + n / 2) (n - n / 2)) dr (h .right k (omega (arith, h .more)))) e
+  module _ (s : Segment) (on : segmentBox s ≡ p) (k : ℕ) (q : n ≤ suc k) where
+    halved : storedTree (suc k) w i n ≡ branch (splitAt w (i + n / 2)) (storedTree k w i (n / 2)) (storedTree k w (i + n / 2) (n - n / 2))
+    halved = stored-branch w i n (part .some) (λ e. omega arith) k
 
-    halved : (k : ℕ) → storedTree (suc k) w i n ≡ branch (splitAt w (i + n / 2)) (storedTree k w i (n / 2)) (storedTree k w (i + n / 2) (n - n / 2))
-    halved k = stored-branch w i n (h .ready .part .some) (h .more) k
+    sides : (c : Bool) → leb (keyOf dl) (keyOf dr) ≡ c → leb (keyOf (lower s (storedTree k w i (n / 2)))) (keyOf (lower s (storedTree k w (i + n / 2) (n - n / 2)))) ≡ c
+    sides c e = rw (known s p on (storedTree k w i (n / 2)) dl (near-left k (omega arith)), known s p on (storedTree k w (i + n / 2) (n - n / 2)) dr (near-right k (omega arith))) e
 
-    pub left-first : lt dr dl ≡ false → InTurn ex t w i n p st i (n / 2) (i + n / 2) (n - n / 2)
-    left-first z = record {
-      fewer = omega (arith, h .ready .part .some);
-      rest = omega (arith, h .more, h .ready .part .some);
-      turn = λ s on k q.
-          ap (within (st .left)) (ap (λ (u : Tree). walk ex t s u (soFar st)) (halved k) ∙ walk-left-first ex t s _ _ _ (soFar st) (reaches ex t (h .ready) s on (suc k) q _ (halved k) true (h .close)) (sides s on k q true (le-leb _ _ (no-nearer-key dl dr left-good right-good z))))
-          ∙ within-after (st .left) (walk ex t s (storedTree k w i (n / 2)) (soFar st)) (λ g. walk ex t s (storedTree k w (i + n / 2) (n - n / 2)) g);
-    }
+    in-reach : (t : Float) (g : Figures) → contributes (distance p (boundsOf (storedTree (suc k) w i n))) t (g .least) ≡ true → contributes (lower s (branch (splitAt w (i + n / 2)) (storedTree k w i (n / 2)) (storedTree k w (i + n / 2) (n - n / 2)))) t (g .least) ≡ true
+    in-reach t g c = (λ j. contributes (distance (on j) (boundsOf (sym halved j))) t (g .least)) ∙ c
 
-    pub right-first : lt dr dl ≡ true → InTurn ex t w i n p st (i + n / 2) (n - n / 2) i (n / 2)
-    right-first z = record {
-      fewer = omega (arith, h .more, h .ready .part .some);
-      rest = omega (arith, h .ready .part .some);
-      turn = λ s on k q.
-          ap (within (st .left)) (ap (λ (u : Tree). walk ex t s u (soFar st)) (halved k) ∙ walk-right-first ex t s _ _ _ (soFar st) (reaches ex t (h .ready) s on (suc k) q _ (halved k) true (h .close)) (sides s on k q false (lt-leb _ _ (nearer-key dl dr left-good right-good z))))
-          ∙ within-after (st .left) (walk ex t s (storedTree k w (i + n / 2) (n - n / 2)) (soFar st)) (λ g. walk ex t s (storedTree k w i (n / 2)) g);
-    }
+  pub left-first : lt dr dl ≡ false → Halved w i n p (record { nearer = record { first = i; count = n / 2; lower = dl }; farther = record { first = i + n / 2; count = n - n / 2; lower = dr } })
+  left-first z = record {
+    nearer = left-half;
+    farther = right-half;
+    turn = λ ex t s on k q g c. ap (λ (u : Tree). walk ex t s u g) (halved s on k q) ∙ walk-left-first ex t s _ _ _ g (in-reach s on k q t g c) (sides s on k q true (le-leb _ _ (no-nearer-key dl dr (near-good _ _ _ _ _ near-left) (near-good _ _ _ _ _ near-right) z)));
+  }
 
-module _ {ex : List Exemption} {t : Float} {w : List ℕ} {i n : ℕ} {p : Aabb} {st : Walking} {ia na ib nb : ℕ} (o : InTurn ex t w i n p st ia na ib nb) (net : ℕ) (first : Walked) (e : Walks ex t w ia na p net st first) where
-  pub walks-stopped : first ≡ Spent → Walks ex t w i n p net st Spent
-  walks-stopped x s on of zero h = absurd (omega (arith, o .fewer))
-  walks-stopped x s on of (suc k) h = onward-stopped _ _ first x (e s on of k (omega (arith, o .fewer))) ∙ sym (o .turn s on k h)
-
-  pub walks-on : (v : Walking) → first ≡ Went v → (r second : Walked) → r ≡ second → Walks ex t w ib nb p net v second → Walks ex t w i n p net st r
-  walks-on v x r second y f s on of zero h = absurd (omega (arith, o .fewer))
-  walks-on v x r second y f s on of (suc k) h = ap outcomeOf y ∙ f s on of k (omega (arith, o .rest)) ∙ onward-went _ _ first v x (e s on of k (omega (arith, o .fewer))) ∙ sym (o .turn s on k h)
+  pub right-first : lt dr dl ≡ true → Halved w i n p (record { nearer = record { first = i + n / 2; count = n - n / 2; lower = dr }; farther = record { first = i; count = n / 2; lower = dl } })
+  right-first z = record {
+    nearer = right-half;
+    farther = left-half;
+    turn = λ ex t s on k q g c. ap (λ (u : Tree). walk ex t s u g) (halved s on k q) ∙ walk-right-first ex t s _ _ _ g (in-reach s on k q t g c) (sides s on k q false (lt-leb _ _ (nearer-key dl dr (near-good _ _ _ _ _ near-left) (near-good _ _ _ _ _ near-right) z)));
+  }

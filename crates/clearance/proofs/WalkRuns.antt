@@ -7,7 +7,8 @@ use native.Mathlib.Omega.{arith}
 use lib.Ieee.{Float, nan}
 use lib.ListN.{length, getD, take, drop, drop-of-length-le}
 use lib.Seq.{length-take-le, drop-cons, getD-take}
-use Rattle.laws.specs.Charged.{Charged, within, runs, onward}
+use Rattle.laws.specs.Charged.{Charged, runs}
+use Rattle.laws.specs.Allowance.{within, onward}
 use Rattle.laws.proofs.Runs.{within-none, within-next}
 use Rattle.laws.proofs.Places.{first-at}
 use Rattle.drawing.specs.Entries.{Segment, Exemption, SegmentColumns, segmentAt}
@@ -34,8 +35,8 @@ rising-of packed k h = subst (Rising packed) (h .count) (h .holds .rising)
 
 -- one segment may be walked over the whole tree
 pub walkable-whole : (s : Segment) (w : List ℕ) (m : ℕ) (d : Float) (p b : Aabb) (st : Walking) → Part w 0 m → p ≡ segmentBox s → ((k : ℕ) → m ≤ k → b ≡ boundsOf (storedTree k w 0 m)) → d ≡ distance p b → st .violations + st .left < 2 ^ 64
-    → Walkable w 0 m d p (s .net) st
-walkable-whole s w m d p b st part box bounds e room = record { part = part; near = near-box d p b w 0 m e bounds; room = room; segment = s; box = sym box; of = refl }
+    → Walkable w 0 m d p st
+walkable-whole s w m d p b st part box bounds e room = record { part = part; near = near-box d p b w 0 m e bounds; room = room; segment = s; box = sym box }
 
 pub turn-small : (order : List ℕ) (c : SegmentColumns) → InTurns order c → (q : ℕ) → q < length (c .net) → getD order q 0 < length (c .net)
 turn-small order c p q h = first-at (λ i. i < length (c .net)) 0 (length (c .net)) order (p .inside) (p .small) q h

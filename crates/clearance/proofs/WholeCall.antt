@@ -12,7 +12,8 @@ use lib.Ieee.{Float, nan, binary64, fits}
 use lib.ListN.{length, take, drop, length-append, length-drop}
 use lib.Seq.{drop-at, take-append-le, length-take-le, drop-drop, take-take}
 use Rattle.laws.specs.Lists.{All}
-use Rattle.laws.specs.Charged.{Charged, spent, left, within, free, after, runs, reply}
+use Rattle.laws.specs.Charged.{Charged, free, after, runs}
+use Rattle.laws.specs.Allowance.{spent, left, within, reply}
 use Rattle.laws.proofs.Perms.{perm-eq}
 use Rattle.laws.proofs.Parts.{tail-lent, tail-back}
 use Rattle.laws.proofs.Tests.{le-or-lt}
@@ -46,7 +47,7 @@ use Rattle.clearance.specs.Tables.{SegmentsOrdered}
 use Rattle.clearance.specs.Stored.{storedTree, Grown}
 use Rattle.clearance.specs.Exempting.{Holds, Gathered}
 use Rattle.clearance.specs.Walking.{gapOfFloat, soFar, outcomeOf, Part, Held, InTurns, allWalks, Remains, Answers}
-use Rattle.clearance.specs.Answer.{accepted, answer}
+use Rattle.clearance.specs.Answer.{accepted, clearanceAnswer}
 use Rattle.drawing.proofs.Fit.{FitSegment, FitNode}
 use Rattle.clearance.proofs.Answers.{Lent, passes, fit-call}
 use Rattle.clearance.proofs.WithinAllowance.{reply-within}
@@ -201,13 +202,13 @@ remains c allowance r e w h = elim (le-or-lt (c .cost) allowance) [
 ]
 
 -- ---- the call
-pub refused-answer : (s : SegmentColumns) (n : NodeColumns) (e : ExemptionColumns) (t : Float) (allowance words : ℕ) (c : Check) (r : Refusal) → c ≡ firstOf (clearanceConditions s n e t words) → c ≡ Stopped r → Refused r ≡ answer s n e t allowance words
-unfolding answer
+pub refused-answer : (s : SegmentColumns) (n : NodeColumns) (e : ExemptionColumns) (t : Float) (allowance words : ℕ) (c : Check) (r : Refusal) → c ≡ firstOf (clearanceConditions s n e t words) → c ≡ Stopped r → Refused r ≡ clearanceAnswer s n e t allowance words
+unfolding clearanceAnswer
 refused-answer s n e t allowance words c r h g = sym (rw (sym h ∙ g))
 
 pub passed-answer : (s : SegmentColumns) (n : NodeColumns) (e : ExemptionColumns) (t : Float) (allowance words : ℕ) → passes s n e t words → Lent s n t → (w : Walked) → outcomeOf w ≡ within allowance (walkAll (exemptions e) t (segments s) (nodes n))
-    → (a : ClearanceAnswer) → Answers w allowance a → a ≡ answer s n e t allowance words
-unfolding answer
+    → (a : ClearanceAnswer) → Answers w allowance a → a ≡ clearanceAnswer s n e t allowance words
+unfolding clearanceAnswer
 passed-answer s n e t allowance words p lent w h a k =
     let f = fit-call s n e t words lent p in
     rw p (k ∙ ap (reply accepted (Refused WorkLimitExceeded) allowance) h ∙ reply-within (exemptions e) t (segments s) (nodes n) (f .threshold-fit) (f .segments-fit) (f .nodes-fit) allowance)

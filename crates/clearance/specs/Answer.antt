@@ -26,8 +26,8 @@ unfoldable pub allPairs : List Exemption → Float → List Segment → List Nod
 allPairs ex threshold ss ns = record { value = figures ex threshold ss ns; cost = visitCount ex threshold ss ns }
 
 -- the checks in order; then "`WorkLimitExceeded`: the visit count exceeds the allowance", else the all-pairs report
-unfoldable pub answer : SegmentColumns → NodeColumns → ExemptionColumns → Float → ℕ → ℕ → ClearanceAnswer
-answer s n e threshold allowance words =
+unfoldable pub clearanceAnswer : SegmentColumns → NodeColumns → ExemptionColumns → Float → ℕ → ℕ → ClearanceAnswer
+clearanceAnswer s n e threshold allowance words =
     checked Refused (firstOf (clearanceConditions s n e threshold words))
     (settle accepted (Refused WorkLimitExceeded) allowance (allPairs (exemptions e) threshold (segments s) (nodes n)))
 

@@ -1,13 +1,14 @@
 -- What the walk of one segment is handed and hands on. Only private contracts cite this.
 use mathlib.Core.Path.{_≡_}
-use mathlib.Core.Bool.{not}
+use mathlib.Core.Bool.{true, not}
 use mathlib.Core.List.{List, map}
-use Prim.Native.Nat.{ℕ, _+_, _*_, _^_, _≤_, _<_}
+use Prim.Native.Nat.{ℕ, suc, _+_, _*_, _^_, _≤_, _<_}
 use lib.Dec.{T}
 use lib.Ieee.{Float, nan, inf, fin, isNan}
 use lib.ListN.{length, take}
 use Rattle.laws.specs.Lists.{All}
-use Rattle.laws.specs.Charged.{Charged, Outcome, spent, left, within, runs, reply}
+use Rattle.laws.specs.Charged.{Charged, after, runs}
+use Rattle.laws.specs.Allowance.{Outcome, spent, left, within, reply}
 use Rattle.drawing.specs.Entries.{Segment, Exemption, SegmentColumns, segmentAt}
 use Rattle.drawing.specs.Lengths.{SegmentsAgree}
 use Rattle.boxes.specs.declared.aabb.Aabb.{Aabb}
@@ -18,13 +19,15 @@ use Rattle.clearance.specs.declared.report.ClearanceAnswer.{ClearanceAns
 use Rattle.clearance.specs.declared.report.ClearanceAnswer.the-variants.{Refused}
 use Rattle.clearance.specs.declared.exempt.Range.{Range}
 use Rattle.clearance.specs.declared.walk.Walking.{Walking}
+use Rattle.clearance.specs.declared.walk.Subtree.{Subtree}
+use Rattle.clearance.specs.declared.walk.Halves.{Halves}
 use Rattle.clearance.specs.declared.walk.Walked.{Walked}
 use Rattle.clearance.specs.declared.walk.Walked.the-variants.{Spent, Went}
 use Rattle.boxes.specs.Boxes.{segmentBox, distance}
 use Rattle.clearance.specs.Figures.{Figures}
 use Rattle.clearance.specs.Tree.{boundsOf}
 use Rattle.clearance.specs.Stored.{storedTree}
-use Rattle.clearance.specs.Walk.{walk, noFigures}
+use Rattle.clearance.specs.Walk.{contributes, walk, noFigures}
 use Rattle.clearance.specs.Answer.{accepted}
 use Rattle.clearance.specs.Exempting.{Holds, Listed}
 
@@ -57,17 +60,30 @@ abbrev pub Near : Float → Aabb → List ℕ → ℕ → ℕ → Type 0
 Near d p w i n = (k : ℕ) → n ≤ k → d ≡ distance p (boundsOf (storedTree k w i n))
 
 -- they may be walked from a state by a segment with the box p: each visit that is left may still be a violation
-pub record Walkable (w : List ℕ) (i n : ℕ) (d : Float) (p : Aabb) (net : ℕ) (state : Walking) : Type 0 where
+pub record Walkable (w : List ℕ) (i n : ℕ) (d : Float) (p : Aabb) (state : Walking) : Type 0 where
   pub part : Part w i n
   pub near : Near d p w i n
   pub room : state .violations + state .left < 2 ^ 64
   pub segment : Segment
   pub box : segmentBox segment ≡ p
-  pub of : segment .net ≡ net
 
--- the range is that of the net in words that hold some exemptions
-pub record Exempting (packed : List ℕ) (net : ℕ) (range : Range) : Type 0 where
+-- a part with fewer leaves than n, and the distance to its box
+pub record Smaller (w : List ℕ) (n : ℕ) (p : Aabb) (h : Subtree) : Type 0 where
+  pub part : Part w (h .first) (h .count)
+  pub fewer : h .count < n
+  pub near : Near (h .lower) p w (h .first) (h .count)
+
+-- two parts of n leaves: where the n leaves are not pruned, their walk is that of the one and then of the other
+pub record Halved (w : List ℕ) (i n : ℕ) (p : Aabb) (h : Halves) : Type 0 where
+  pub nearer : Smaller w n p (h .nearer)
+  pub farther : Smaller w n p (h .farther)
+  pub turn : (ex : List Exemption) (t : Float) (s : Segment) → segmentBox s ≡ p → (k : ℕ) → n ≤ suc k → (g : Figures) → contributes (distance p (boundsOf (storedTree (suc k) w i n))) t (g .least) ≡ true
+      → walk ex t s (storedTree (suc k) w i n) g ≡ after (walk ex t s (storedTree k w (h .nearer .first) (h .nearer .count)) g) (λ f. walk ex t s (storedTree k w (h .farther .first) (h .farther .count)) f)
+
+-- the range is that of some net in words that hold some exemptions
+pub record Exempting (packed : List ℕ) (range : Range) : Type 0 where
   pub ex : List Exemption
+  pub net : ℕ
   pub listed : Listed packed ex net range
 
 -- what the walk over them answers, for every segment with the box p

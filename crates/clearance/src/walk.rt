@@ -3,7 +3,8 @@ ghost use mathlib.Core.Path.{_≡_};
 ghost use mathlib.Core.List.{List};
 ghost use Prim.Native.Nat.{ℕ, _+_, _*_, _^_, _≤_, _<_};
 ghost use lib.Ieee.{nan};
-ghost use Rattle.laws.specs.Charged.{within, free, visit};
+ghost use Rattle.laws.specs.Charged.{free, visit};
+ghost use Rattle.laws.specs.Allowance.{within};
 ghost use Rattle.drawing.specs.declared.gap.Gap.the-variants.{Present};
 ghost use Rattle.drawing.specs.Entries.{Exemption};
 ghost use Rattle.drawing.specs.Gaps.{lesserGap};
@@ -11,7 +12,7 @@ ghost use Rattle.clearance.specs.Figures.{exempt};
 ghost use Rattle.clearance.specs.Tree.{boundsOf};
 ghost use Rattle.clearance.specs.Stored.{leafAt, storedTree};
 ghost use Rattle.clearance.specs.Walk.{contributes, withPair};
-ghost use Rattle.clearance.specs.Walking.{Number, gapOfFloat, soFar, outcomeOf, Part, Walkable, Exempting, Walks};
+ghost use Rattle.clearance.specs.Walking.{Number, gapOfFloat, soFar, outcomeOf, Part, Halved, Walkable, Exempting, Walks};
 ghost use Rattle.clearance.specs.Exempting.{InReach, Listed};
 use crate::exempt::Range;
 use crate::exempt::is_exempt;
@@ -142,14 +143,57 @@ fn handed_on(walked: Walked) -> Walked
     })
 }
 
-// The walk of a segment with the given box, whose net has the exemptions of the range, over the n leaves from leaf i on, whose box is at distance `lower`: the nearer half first, the left one on a tie. The state comes by its fields, for the same reason.
+// A part of the tree: its first leaf, how many leaves it has, and how far its box is.
+pub(crate) struct Subtree {
+    pub first: usize,
+    pub count: usize,
+    pub lower: f64,
+}
+
+// The two halves of a part, in the order in which they are walked.
+pub(crate) struct Halves {
+    pub nearer: Subtree,
+    pub farther: Subtree,
+}
+
+// The halves of the n leaves from leaf i on, for a segment with the given box: the nearer half first, the left one on a tie.
+fn halve(words: &[u64], i: usize, n: usize, bounds: Aabb) -> Halves
+    requires { ⌜ Part (now words) i n ⌝ }
+    requires { ⌜ 1 < n ⌝ }
+    ensures { λ r. ⌜ Halved (now (words .entry)) i n bounds r ⌝ }
+{
+    let half = n / 2;
+    let middle = i + half;
+    let left = Subtree {
+        first: i,
+        count: half,
+        lower: bounds.distance(bounds_of(words, i, half)),
+    };
+    let right = Subtree {
+        first: middle,
+        count: n - half,
+        lower: bounds.distance(bounds_of(words, middle, n - half)),
+    };
+    if right.lower < left.lower {
+        Halves {
+            nearer: right,
+            farther: left,
+        }
+    } else {
+        Halves {
+            nearer: left,
+            farther: right,
+        }
+    }
+}
+
+// The walk of a segment with the given box, whose net has the exemptions of the range, over the n leaves from leaf i on, whose box is at distance `lower`. The state comes by its fields, for the same reason as it is handed on by them.
 pub(crate) fn visit_segment_candidates(
     words: &[u64],
     i: usize,
     n: usize,
     lower: f64,
     bounds: Aabb,
-    net: u32,
     threshold: f64,
     packed: &[u64],
     range: Range,
@@ -157,9 +201,9 @@ pub(crate) fn visit_segment_candidates(
     least: f64,
     allowance: usize,
 ) -> Walked
-    requires { ⌜ Walkable (now words) i n lower bounds net (record { violations = violations; least = least; left = allowance }) ⌝ }
-    requires { ⌜ Exempting (now packed) net range ⌝ }
-    ensures { λ r. ⌜ ((ex : List Exemption) → Listed (now (packed .entry)) ex net range → Walks ex threshold (now (words .entry)) i n bounds net (record { violations = violations; least = least; left = allowance }) r) ⌝ }
+    requires { ⌜ Walkable (now words) i n lower bounds (record { violations = violations; least = least; left = allowance }) ⌝ }
+    requires { ⌜ Exempting (now packed) range ⌝ }
+    ensures { λ r. ⌜ ((ex : List Exemption) (net : ℕ) → Listed (now (packed .entry)) ex net range → Walks ex threshold (now (words .entry)) i n bounds net (record { violations = violations; least = least; left = allowance }) r) ⌝ }
 {
     let state = Walking {
         violations: violations,
@@ -172,75 +216,35 @@ pub(crate) fn visit_segment_candidates(
     if n == 1 {
         return visit_leaf(words, i, lower, threshold, packed, range, state);
     }
-    let half = n / 2;
-    let middle = i + half;
-    let left = bounds.distance(bounds_of(words, i, half));
-    let right = bounds.distance(bounds_of(words, middle, n - half));
-    if right < left {
-        let first = visit_segment_candidates(
-            words,
-            middle,
-            n - half,
-            right,
-            bounds,
-            net,
-            threshold,
-            packed,
-            range,
-            violations,
-            least,
-            allowance,
-        );
-        let Walked::Went(next) = first else {
-            return Walked::Spent;
-        };
-        let second = visit_segment_candidates(
-            words,
-            i,
-            half,
-            left,
-            bounds,
-            net,
-            threshold,
-            packed,
-            range,
-            next.violations,
-            next.least,
-            next.left,
-        );
-        handed_on(second)
-    } else {
-        let first = visit_segment_candidates(
-            words,
-            i,
-            half,
-            left,
-            bounds,
-            net,
-            threshold,
-            packed,
-            range,
-            violations,
-            least,
-            allowance,
-        );
-        let Walked::Went(next) = first else {
-            return Walked::Spent;
-        };
-        let second = visit_segment_candidates(
-            words,
-            middle,
-            n - half,
-            right,
-            bounds,
-            net,
-            threshold,
-            packed,
-            range,
-            next.violations,
-            next.least,
-            next.left,
-        );
-        handed_on(second)
-    }
+    let halves = halve(words, i, n, bounds);
+    let first = visit_segment_candidates(
+        words,
+        halves.nearer.first,
+        halves.nearer.count,
+        halves.nearer.lower,
+        bounds,
+        threshold,
+        packed,
+        range,
+        violations,
+        least,
+        allowance,
+    );
+    let Walked::Went(next) = first else {
+        return Walked::Spent;
+    };
+    let second = visit_segment_candidates(
+        words,
+        halves.farther.first,
+        halves.farther.count,
+        halves.farther.lower,
+        bounds,
+        threshold,
+        packed,
+        range,
+        next.violations,
+        next.least,
+        next.left,
+    );
+    handed_on(second)
 }

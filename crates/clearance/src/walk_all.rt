@@ -3,7 +3,7 @@ ghost use mathlib.Core.Path.{_≡_};
 ghost use mathlib.Core.List.{List};
 ghost use Prim.Native.Nat.{_+_, _^_, _<_};
 ghost use lib.ListN.{length};
-ghost use Rattle.laws.specs.Charged.{within};
+ghost use Rattle.laws.specs.Allowance.{within};
 ghost use Rattle.drawing.specs.Entries.{Exemption, segmentColumns};
 ghost use Rattle.clearance.specs.Stored.{storedTree};
 ghost use Rattle.clearance.specs.Walk.{walk};
@@ -45,7 +45,6 @@ fn walk_segment(
         m,
         lower,
         bounds,
-        net,
         threshold,
         packed,
         range,

@@ -15,7 +15,8 @@ use lib.ListN.{length, getD, take, replicate, length-map, length-replicate, getD
 use lib.Seq.{take-take, length-take-le, getD-append-add}
 use Rattle.laws.specs.Lists.{Mem, All}
 use Rattle.laws.specs.Sort.{Sorted}
-use Rattle.laws.specs.Charged.{within, free}
+use Rattle.laws.specs.Charged.{free}
+use Rattle.laws.specs.Allowance.{within}
 use Rattle.laws.proofs.Tests.{clash, le-or-lt, cond-true, cond-false}
 use Rattle.laws.proofs.ListLaws.{mem-map}
 use Rattle.laws.proofs.Places.{at-mem}

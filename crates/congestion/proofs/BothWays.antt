@@ -12,7 +12,8 @@ use lib.Ieee.{Float, binary64, add}
 use Rattle.laws.specs.Lists.{All}
 use Rattle.laws.specs.Least.{lesser}
 use Rattle.laws.specs.Perm.{Perm}
-use Rattle.laws.specs.Charged.{Charged, Outcome, spent, left, within, free, after, onward}
+use Rattle.laws.specs.Charged.{Charged, free, after}
+use Rattle.laws.specs.Allowance.{Outcome, spent, left, within, onward}
 use Rattle.laws.proofs.Tests.{le-or-lt, cond-false}
 use Rattle.laws.proofs.ListLaws.{mem-all}
 use Rattle.laws.proofs.Perms.{perm-sym, perm-mem, perm-length}

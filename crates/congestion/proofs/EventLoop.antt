@@ -12,7 +12,8 @@ use lib.Ieee.{Float, binary64, inf, ofBits}
 use lib.ListN.{length, getD, take, drop, length-map, length-drop, drop-of-length-le, List·getD-map}
 use lib.Seq.{drop-cons, getD-take, getD-drop, length-take-le}
 use Rattle.laws.specs.Lists.{Mem}
-use Rattle.laws.specs.Charged.{Charged, Outcome, left, within, runs, onward}
+use Rattle.laws.specs.Charged.{Charged, runs}
+use Rattle.laws.specs.Allowance.{Outcome, left, within, onward}
 use Rattle.laws.proofs.Tests.{le-or-lt}
 use Rattle.laws.proofs.Places.{first-at}
 use Rattle.laws.proofs.ListLaws.{mem-map, map-same}

@@ -19,7 +19,7 @@ use Rattle.drawing.proofs.ListOrders.{segments-in-order-perm}
 use Rattle.congestion.specs.Wires.{wireOf, cutoffOf}
 use Rattle.congestion.specs.Figures.{total, congested, pairOverlap, peak, visits}
 use Rattle.congestion.specs.Profile.{lengths, allPairs}
-use Rattle.congestion.specs.Sweep.{sweep}
+use Rattle.congestion.specs.Sweep.{walkAll}
 use Rattle.congestion.proofs.SweepFigures.{found, zero-cutoff, sweep-finds}
 use Rattle.congestion.proofs.FiguresOrder.{found-order}
 use Rattle.congestion.proofs.LeastGap.{least-gap}
@@ -37,8 +37,8 @@ module _ (cutoff : Float) where
   pub all-pairs-order : {l m : List Segment} → Perm l m → FitList l → allPairs cutoff l ≡ allPairs cutoff m
   all-pairs-order {l} {m} p f = all-pairs-found l f ∙ found-order (cutoffOf cutoff) (perm-map wireOf p) ∙ sym (all-pairs-found m (fit-perm p f))
 
-  pub sweep-is-all-pairs : (l : List Segment) → FitList l → sweep cutoff l ≡ allPairs cutoff l
-  unfolding sweep
+  pub sweep-is-all-pairs : (l : List Segment) → FitList l → walkAll cutoff l ≡ allPairs cutoff l
+  unfolding walkAll
   sweep-is-all-pairs l f =
       let p = segments-in-order-perm l in
       let g = fit-perm (perm-sym p) f in

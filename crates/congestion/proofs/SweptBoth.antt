@@ -11,7 +11,7 @@ use lib.Dec.{T}
 use lib.Ieee.{Float, lt, eq, le}
 use lib.ListN.{length}
 use Rattle.laws.specs.Lists.{All}
-use Rattle.laws.specs.Charged.{within}
+use Rattle.laws.specs.Allowance.{within}
 use Rattle.laws.proofs.Tests.{or-elim, neither-left, neither-right}
 use Rattle.laws.proofs.ListLaws.{all-mem}
 use Rattle.laws.proofs.Runs.{within-free}

@@ -10,7 +10,8 @@ use native.Mathlib.Omega.{arith}
 use lib.Ieee.{Float, binary64, nan, add, sub}
 use lib.ListN.{length, getD, drop, drop-of-length-le}
 use lib.Seq.{drop-cons}
-use Rattle.laws.specs.Charged.{Charged, spent, left, within, reaches, settle, reply}
+use Rattle.laws.specs.Charged.{Charged, reaches, settle}
+use Rattle.laws.specs.Allowance.{spent, left, within, reply}
 use Rattle.laws.proofs.Tests.{le-or-lt}
 use Rattle.laws.proofs.Runs.{within-enough, within-short, settle-reached, settle-within}
 use Rattle.floats.specs.Values.{plusZero, canonicalZero}

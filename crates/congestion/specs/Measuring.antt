@@ -8,7 +8,8 @@ use lib.Ieee.{Float, binary64, fits, add}
 use lib.ListN.{length, drop}
 use Rattle.laws.specs.Lists.{Mem}
 use Rattle.laws.specs.Sort.{Sorted}
-use Rattle.laws.specs.Charged.{Charged, Outcome, spent, left, free, reply}
+use Rattle.laws.specs.Charged.{Charged, free}
+use Rattle.laws.specs.Allowance.{Outcome, spent, left, reply}
 use Rattle.floats.specs.Values.{plusZero, canonicalZero}
 use Rattle.floats.specs.TotalOrder.{keyOf, floatAt}
 use Rattle.floats.specs.Grid.{onGrid, unit}

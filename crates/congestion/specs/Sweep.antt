@@ -184,5 +184,5 @@ sweepWires c l =
     ))))
 
 -- "Each measure walks as if its segments came in the order net, orientation byte, fixed, start, end"
-unfoldable pub sweep : Float → List Segment → Charged (ParallelCongestion × Gap)
-sweep cutoff l = sweepWires (cutoffOf cutoff) (map wireOf (segmentsInOrder l))
+unfoldable pub walkAll : Float → List Segment → Charged (ParallelCongestion × Gap)
+walkAll cutoff l = sweepWires (cutoffOf cutoff) (map wireOf (segmentsInOrder l))

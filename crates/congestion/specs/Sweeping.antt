@@ -8,7 +8,7 @@ use lib.Dec.{eqb}
 use lib.Ieee.{Float, binary64, inf, add, sub, mul, ofInt, lt}
 use lib.ListN.{length, getD, take, drop, set}
 use Rattle.laws.specs.Lists.{Mem, bit, count}
-use Rattle.laws.specs.Charged.{Outcome, spent, left}
+use Rattle.laws.specs.Allowance.{Outcome, spent, left}
 use Rattle.bitset.specs.Members.{inserted, removed}
 use Rattle.floats.specs.TotalOrder.{floatAt}
 use Rattle.floats.specs.Grid.{ofUnits}

@@ -3,7 +3,7 @@ ghost use mathlib.Core.Path.{_≡_};
 ghost use mathlib.Core.List.{map};
 ghost use lib.Dec.{eqb};
 ghost use lib.ListN.{length};
-ghost use Rattle.laws.specs.Charged.{within};
+ghost use Rattle.laws.specs.Allowance.{within};
 ghost use Rattle.drawing.specs.Entries.{segmentColumns, segments};
 ghost use Rattle.rows.specs.Rows as Rows;
 ghost use Rattle.congestion.specs.Wires.{cutoffOf};

@@ -1,7 +1,7 @@
 // The congestion measures by columns.
 ghost use mathlib.Core.Path.{_≡_};
 ghost use lib.ListN.{length};
-ghost use Rattle.laws.specs.Charged.{within};
+ghost use Rattle.laws.specs.Allowance.{within};
 ghost use Rattle.drawing.specs.declared.refusal.Check.the-variants.{Passed};
 ghost use Rattle.drawing.specs.Refusals.{firstOf, scratchAfter};
 ghost use Rattle.drawing.specs.Entries.{segmentColumns, segments};

@@ -2,7 +2,7 @@
 ghost use mathlib.Core.Path.{_≡_};
 ghost use mathlib.Core.Bool.{false};
 ghost use lib.Ieee.{inf};
-ghost use Rattle.laws.specs.Charged.{within};
+ghost use Rattle.laws.specs.Allowance.{within};
 ghost use Rattle.congestion.specs.Sweep.{oriented};
 ghost use Rattle.congestion.specs.Sweeping.{AtEvent, Handles, AtFirst, gapOfFloat, sweptOf};
 use crate::sweep::Handled;

@@ -4,7 +4,7 @@ ghost use lib.ListN.{length};
 ghost use Rattle.drawing.specs.Refusals.{firstOf, scratchAfter};
 ghost use Rattle.drawing.specs.Entries.{segmentColumns, nodeColumns, exemptionColumns};
 ghost use Rattle.drawing.specs.Checks.{clearanceConditions};
-ghost use Rattle.clearance.specs.Answer.{answer, resultOf};
+ghost use Rattle.clearance.specs.Answer.{clearanceAnswer, resultOf};
 ghost use Rattle.exports.specs.Told.{clearanceWords};
 use crate::gap::bits_word;
 use crate::gap::present_word;
@@ -57,8 +57,8 @@ pub extern "C" fn readability_clearance(
     scratch: &mut [u64],
     out: &mut [u64; 4],
 ) -> u32
-    ensures { λ r. ⌜ r ≡ resultOf (answer (segmentColumns (now (net .entry)) (now (orientation .entry)) (now (fixed .entry)) (now (start .entry)) (now (end .entry))) (nodeColumns (now (id .entry)) (now (x .entry)) (now (y .entry)) (now (width .entry)) (now (height .entry))) (exemptionColumns (now («exempt_net» .entry)) (now («exempt_node» .entry))) threshold allowance (length (now (scratch .entry)))) .0 ⌝ }
-    ensures { λ _. ⌜ now (out .exit) ≡ clearanceWords (resultOf (answer (segmentColumns (now (net .entry)) (now (orientation .entry)) (now (fixed .entry)) (now (start .entry)) (now (end .entry))) (nodeColumns (now (id .entry)) (now (x .entry)) (now (y .entry)) (now (width .entry)) (now (height .entry))) (exemptionColumns (now («exempt_net» .entry)) (now («exempt_node» .entry))) threshold allowance (length (now (scratch .entry)))) .1) ⌝ }
+    ensures { λ r. ⌜ r ≡ resultOf (clearanceAnswer (segmentColumns (now (net .entry)) (now (orientation .entry)) (now (fixed .entry)) (now (start .entry)) (now (end .entry))) (nodeColumns (now (id .entry)) (now (x .entry)) (now (y .entry)) (now (width .entry)) (now (height .entry))) (exemptionColumns (now («exempt_net» .entry)) (now («exempt_node» .entry))) threshold allowance (length (now (scratch .entry)))) .0 ⌝ }
+    ensures { λ _. ⌜ now (out .exit) ≡ clearanceWords (resultOf (clearanceAnswer (segmentColumns (now (net .entry)) (now (orientation .entry)) (now (fixed .entry)) (now (start .entry)) (now (end .entry))) (nodeColumns (now (id .entry)) (now (x .entry)) (now (y .entry)) (now (width .entry)) (now (height .entry))) (exemptionColumns (now («exempt_net» .entry)) (now («exempt_node» .entry))) threshold allowance (length (now (scratch .entry)))) .1) ⌝ }
     ensures { λ _. ⌜ now (scratch .exit) ≡ scratchAfter (firstOf (clearanceConditions (segmentColumns (now (net .entry)) (now (orientation .entry)) (now (fixed .entry)) (now (start .entry)) (now (end .entry))) (nodeColumns (now (id .entry)) (now (x .entry)) (now (y .entry)) (now (width .entry)) (now (height .entry))) (exemptionColumns (now («exempt_net» .entry)) (now («exempt_node» .entry))) threshold (length (now (scratch .entry))))) (now (scratch .entry)) ⌝ }
 {
     let told = measure_edge_node_clearance_bounded(

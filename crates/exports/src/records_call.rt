@@ -41,8 +41,8 @@ pub extern "C" fn readability_separation_by_records(
     scratch: &mut [u64],
     out: &mut [u64; 5],
 ) -> u32
-    ensures { λ r. ⌜ r ≡ Separation.resultOf (Separation.separation (parallelColumns (now (records .entry))) allowance (length (now (scratch .entry)))) .0 ⌝ }
-    ensures { λ _. ⌜ now (out .exit) ≡ separationWords (Separation.resultOf (Separation.separation (parallelColumns (now (records .entry))) allowance (length (now (scratch .entry)))) .1) ⌝ }
+    ensures { λ r. ⌜ r ≡ Separation.resultOf (Separation.separationAnswer (parallelColumns (now (records .entry))) allowance (length (now (scratch .entry)))) .0 ⌝ }
+    ensures { λ _. ⌜ now (out .exit) ≡ separationWords (Separation.resultOf (Separation.separationAnswer (parallelColumns (now (records .entry))) allowance (length (now (scratch .entry)))) .1) ⌝ }
     ensures { λ _. ⌜ now (scratch .exit) ≡ scratchAfter (firstOf (separationConditions (parallelColumns (now (records .entry))) (length (now (scratch .entry))))) (now (scratch .entry)) ⌝ }
 {
     let told = measure_parallel_separation_bounded_by_records(records, allowance, scratch);
@@ -137,8 +137,8 @@ pub extern "C" fn readability_clearance_by_records(
     scratch: &mut [u64],
     out: &mut [u64; 4],
 ) -> u32
-    ensures { λ r. ⌜ r ≡ Clearance.resultOf (Clearance.answer (edgeNodeColumns (now (records .entry))) (nodeColumns (now (id .entry)) (now (x .entry)) (now (y .entry)) (now (width .entry)) (now (height .entry))) (exemptionColumns (now («exempt_net» .entry)) (now («exempt_node» .entry))) threshold allowance (length (now (scratch .entry)))) .0 ⌝ }
-    ensures { λ _. ⌜ now (out .exit) ≡ clearanceWords (Clearance.resultOf (Clearance.answer (edgeNodeColumns (now (records .entry))) (nodeColumns (now (id .entry)) (now (x .entry)) (now (y .entry)) (now (width .entry)) (now (height .entry))) (exemptionColumns (now («exempt_net» .entry)) (now («exempt_node» .entry))) threshold allowance (length (now (scratch .entry)))) .1) ⌝ }
+    ensures { λ r. ⌜ r ≡ Clearance.resultOf (Clearance.clearanceAnswer (edgeNodeColumns (now (records .entry))) (nodeColumns (now (id .entry)) (now (x .entry)) (now (y .entry)) (now (width .entry)) (now (height .entry))) (exemptionColumns (now («exempt_net» .entry)) (now («exempt_node» .entry))) threshold allowance (length (now (scratch .entry)))) .0 ⌝ }
+    ensures { λ _. ⌜ now (out .exit) ≡ clearanceWords (Clearance.resultOf (Clearance.clearanceAnswer (edgeNodeColumns (now (records .entry))) (nodeColumns (now (id .entry)) (now (x .entry)) (now (y .entry)) (now (width .entry)) (now (height .entry))) (exemptionColumns (now («exempt_net» .entry)) (now («exempt_node» .entry))) threshold allowance (length (now (scratch .entry)))) .1) ⌝ }
     ensures { λ _. ⌜ now (scratch .exit) ≡ scratchAfter (firstOf (clearanceConditions (edgeNodeColumns (now (records .entry))) (nodeColumns (now (id .entry)) (now (x .entry)) (now (y .entry)) (now (width .entry)) (now (height .entry))) (exemptionColumns (now («exempt_net» .entry)) (now («exempt_node» .entry))) threshold (length (now (scratch .entry))))) (now (scratch .entry)) ⌝ }
 {
     let told = measure_edge_node_clearance_bounded_by_records(

@@ -4,7 +4,7 @@ ghost use lib.ListN.{length};
 ghost use Rattle.drawing.specs.Refusals.{firstOf, scratchAfter};
 ghost use Rattle.drawing.specs.Entries.{segmentColumns};
 ghost use Rattle.drawing.specs.Checks.{separationConditions};
-ghost use Rattle.separation.specs.Answer.{separation, resultOf};
+ghost use Rattle.separation.specs.Answer.{separationAnswer, resultOf};
 ghost use Rattle.exports.specs.Told.{separationWords};
 use crate::gap::bits_word;
 use crate::gap::present_word;
@@ -51,8 +51,8 @@ pub extern "C" fn readability_separation(
     scratch: &mut [u64],
     out: &mut [u64; 5],
 ) -> u32
-    ensures { λ r. ⌜ r ≡ resultOf (separation (segmentColumns (now (net .entry)) (now (orientation .entry)) (now (fixed .entry)) (now (start .entry)) (now (end .entry))) allowance (length (now (scratch .entry)))) .0 ⌝ }
-    ensures { λ _. ⌜ now (out .exit) ≡ separationWords (resultOf (separation (segmentColumns (now (net .entry)) (now (orientation .entry)) (now (fixed .entry)) (now (start .entry)) (now (end .entry))) allowance (length (now (scratch .entry)))) .1) ⌝ }
+    ensures { λ r. ⌜ r ≡ resultOf (separationAnswer (segmentColumns (now (net .entry)) (now (orientation .entry)) (now (fixed .entry)) (now (start .entry)) (now (end .entry))) allowance (length (now (scratch .entry)))) .0 ⌝ }
+    ensures { λ _. ⌜ now (out .exit) ≡ separationWords (resultOf (separationAnswer (segmentColumns (now (net .entry)) (now (orientation .entry)) (now (fixed .entry)) (now (start .entry)) (now (end .entry))) allowance (length (now (scratch .entry)))) .1) ⌝ }
     ensures { λ _. ⌜ now (scratch .exit) ≡ scratchAfter (firstOf (separationConditions (segmentColumns (now (net .entry)) (now (orientation .entry)) (now (fixed .entry)) (now (start .entry)) (now (end .entry))) (length (now (scratch .entry))))) (now (scratch .entry)) ⌝ }
 {
     let told = measure_parallel_separation_bounded(

@@ -6,7 +6,8 @@ use Prim.Native.Nat.{ℕ, suc, _-_, _≤_, _<_}
 use native.Mathlib.Omega.{arith}
 use borrow.Author.Tests.{le-leb, lt-leb}
 use lib.Dec.{leb}
-use Rattle.laws.specs.Charged.{Charged, Outcome, spent, left, within, free, visit, after, runs, onward, settle, reply}
+use Rattle.laws.specs.Charged.{Charged, free, visit, after, runs, settle}
+use Rattle.laws.specs.Allowance.{Outcome, spent, left, within, onward, reply}
 use Rattle.laws.proofs.Tests.{le-or-lt, cond-true, cond-false}
 
 module _ {A : Type 0} where

@@ -5,3 +5,4 @@ pub mod Sort
 pub mod Rows
 pub mod Least
 pub mod Charged
+pub mod Allowance

@@ -4,9 +4,9 @@ use mathlib.Core.List.{List, [], _∷_, _++_}
 use Prim.Native.Nat.{ℕ}
 use lib.Ieee.{binary64, ofBits, toBits}
 use Rattle.drawing.specs.Entries.{columnsOf, nodeColumnsOf, exemptionColumnsOf}
-use Rattle.clearance.specs.Answer.{accepted, answer as clearance}
+use Rattle.clearance.specs.Answer.{accepted, clearanceAnswer}
 use Rattle.clearance.proofs.Examples as OfClearance
-use Rattle.separation.specs.Answer.{separation}
+use Rattle.separation.specs.Answer.{separationAnswer}
 use Rattle.separation.proofs.Examples as OfSeparation
 use Rattle.congestion.specs.Answer.{densityAnswer}
 use Rattle.congestion.proofs.Examples as OfCongestion
@@ -54,11 +54,11 @@ pub file-of-d : read bytes ≡ got drawing []
 unfolding then bigEndian number readFloat version orientation segment node exemption entries counted settings parts ended read
 file-of-d = refl
 
-pub clearance-of-d : clearanceLine (clearance (columnsOf (drawing .segments)) (nodeColumnsOf (drawing .nodes)) (exemptionColumnsOf (drawing .exemptions)) (drawing .settings .threshold) 1000 7744) ≡ clearanceText
+pub clearance-of-d : clearanceLine (clearanceAnswer (columnsOf (drawing .segments)) (nodeColumnsOf (drawing .nodes)) (exemptionColumnsOf (drawing .exemptions)) (drawing .settings .threshold) 1000 7744) ≡ clearanceText
 unfolding columnsOf nodeColumnsOf exemptionColumnsOf clearanceLine clearanceWord fields gap float decimal leading hexadecimal glyph accepted ofBits toBits
 clearance-of-d = ap clearanceLine (OfClearance.marked .d-sheet)
 
-pub separation-of-d : separationLine (separation (columnsOf (drawing .segments)) 1000 7744) ≡ separationText
+pub separation-of-d : separationLine (separationAnswer (columnsOf (drawing .segments)) 1000 7744) ≡ separationText
 unfolding columnsOf separationLine separationWord fields gap float decimal leading hexadecimal glyph ofBits toBits
 separation-of-d = ap separationLine (OfSeparation.marked .d-sheet)
 

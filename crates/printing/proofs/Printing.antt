@@ -14,9 +14,9 @@ use Rattle.file.specs.declared.reading.Reading.the-variants as answers
 use Rattle.file.specs.Reading.{Read, got, refused, Drawing}
 use Rattle.file.specs.Columns.{settingsOf, headerOf, readingOf, columnAfter}
 use Rattle.clearance.specs.declared.report.ClearanceAnswer.{ClearanceAnswer}
-use Rattle.clearance.specs.Answer.{answer}
+use Rattle.clearance.specs.Answer.{clearanceAnswer}
 use Rattle.separation.specs.declared.report.SeparationAnswer.{SeparationAnswer}
-use Rattle.separation.specs.Answer.{separation}
+use Rattle.separation.specs.Answer.{separationAnswer}
 use Rattle.congestion.specs.declared.report.CongestionAnswer.{CongestionAnswer}
 use Rattle.congestion.specs.Answer.{densityAnswer}
 use Rattle.printing.specs.Sheet.{fileWord, refusal, clearanceLine, separationLine, congestionLine, scratchWords, measured, lines, printed}
@@ -144,8 +144,8 @@ three {a} {b} {c} {d} {e} {f} p q r = ap (λ l. l ++ (b ++ c)) p ∙ ap (λ l. d
 
 -- the lines of three answers, each of a call with the program's scratch, are the lines of the columns
 pub lines-put : (s : SegmentColumns) (n : NodeColumns) (e : ExemptionColumns) (h : Header) (x : ClearanceAnswer) (y : SeparationAnswer) (z : CongestionAnswer) (i j k : ℕ) {before after : List ℕ} {next : ℕ}
-    → 7744 ≡ i → x ≡ answer s n e (h .threshold) (h .clearance) i
-    → 7744 ≡ j → y ≡ separation s (h .separation) j
+    → 7744 ≡ i → x ≡ clearanceAnswer s n e (h .threshold) (h .clearance) i
+    → 7744 ≡ j → y ≡ separationAnswer s (h .separation) j
     → 7744 ≡ k → z ≡ densityAnswer s (h .cutoff) (h .congestion) k
     → Put 256 before 0 (clearanceLine x ++ (separationLine y ++ congestionLine z)) after next
     → Put 256 before 0 (measured s n e (settingsOf h)) after next
@@ -153,7 +153,7 @@ unfolding measured settingsOf scratchWords
 lines-put s n e h x y z i j k li lx lj ly lk lz p =
     put-same
     (three
-    (ap clearanceLine (lx ∙ ap (answer s n e (h .threshold) (h .clearance)) (sym li)))
-    (ap separationLine (ly ∙ ap (separation s (h .separation)) (sym lj)))
+    (ap clearanceLine (lx ∙ ap (clearanceAnswer s n e (h .threshold) (h .clearance)) (sym li)))
+    (ap separationLine (ly ∙ ap (separationAnswer s (h .separation)) (sym lj)))
     (ap congestionLine (lz ∙ ap (densityAnswer s (h .cutoff) (h .congestion)) (sym lk))))
     p

@@ -6,10 +6,10 @@ use Rattle.drawing.specs.Entries.{SegmentColumns, NodeColumns, ExemptionColumns
 use Rattle.drawing.specs.Refusals.{numberOf}
 use Rattle.clearance.specs.declared.report.ClearanceAnswer.{ClearanceAnswer}
 use Rattle.clearance.specs.declared.report.ClearanceAnswer.the-variants as ofClearance
-use Rattle.clearance.specs.Answer.{answer}
+use Rattle.clearance.specs.Answer.{clearanceAnswer}
 use Rattle.separation.specs.declared.report.SeparationAnswer.{SeparationAnswer}
 use Rattle.separation.specs.declared.report.SeparationAnswer.the-variants as ofSeparation
-use Rattle.separation.specs.Answer.{separation}
+use Rattle.separation.specs.Answer.{separationAnswer}
 use Rattle.congestion.specs.declared.report.CongestionAnswer.{CongestionAnswer}
 use Rattle.congestion.specs.declared.report.CongestionAnswer.the-variants as ofCongestion
 use Rattle.congestion.specs.Answer.{densityAnswer}
@@ -60,8 +60,8 @@ scratchWords = 7744
 -- the three lines of columns and settings: clearance, separation, congestion, each by its own allowance
 unfoldable pub measured : SegmentColumns → NodeColumns → ExemptionColumns → Settings → List ℕ
 measured s n e set =
-    clearanceLine (answer s n e (set .threshold) (set .clearance) scratchWords)
-    ++ (separationLine (separation s (set .separation) scratchWords)
+    clearanceLine (clearanceAnswer s n e (set .threshold) (set .clearance) scratchWords)
+    ++ (separationLine (separationAnswer s (set .separation) scratchWords)
     ++ congestionLine (densityAnswer s (set .cutoff) (set .congestion) scratchWords))
 
 unfoldable pub lines : Drawing → List ℕ

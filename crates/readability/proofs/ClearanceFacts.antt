@@ -16,7 +16,7 @@ use Rattle.drawing.specs.Checks.{listConditions, entryConditions, clearanceCond
 use Rattle.drawing.proofs.ListOrders.{SegmentHeld, NodeHeld}
 use Rattle.clearance.specs.Figures.{Figures, figures}
 use Rattle.clearance.specs.declared.report.EdgeNodeClearance.{EdgeNodeClearance}
-use Rattle.clearance.specs.Answer.{allPairs, answer, resultOf}
+use Rattle.clearance.specs.Answer.{allPairs, clearanceAnswer, resultOf}
 use Rattle.clearance.proofs.Distances.{distances-good}
 use Rattle.clearance.proofs.AllPairs.{walk-all-pairs}
 use Rattle.clearance.proofs.AnyOrder.{all-pairs-any-order}
@@ -41,7 +41,7 @@ fit : (d : Lists) (t : Float) (words : ℕ) → clearance .Held d t → Passes c
 fit d t words h p = fit-call (d .segments) (d .nodes) (d .exemptions) t words (record { segments-held = held-segments (d .segments) (h .0); nodes-held = held-nodes (d .nodes) (h .1); threshold-held = h .2 }) p
 
 refuses : (d : Lists) (t : Float) (a words : ℕ) (r : Refusal) → firstOf (clearance .conditions d t words) ≡ Refused r → clearance .result (clearance .answer d t a words) ≡ clearance .refused (numberOf r)
-unfolding answer resultOf
+unfolding clearanceAnswer resultOf
 refuses d t a words r e = rw e
 
 settles : (d : Lists) (t : Float) (a words : ℕ) → Passes clearance d t words

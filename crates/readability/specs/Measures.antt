@@ -20,17 +20,17 @@ use Rattle.clearance.specs.declared.report.EdgeNodeClearance.{EdgeNodeClearance
 use Rattle.clearance.specs.declared.report.ClearanceAnswer.{ClearanceAnswer}
 use Rattle.clearance.specs.Figures as ofClearance
 use Rattle.clearance.specs.Walk as clearanceWalk
-use Rattle.clearance.specs.Answer as clearanceAnswer
+use Rattle.clearance.specs.Answer as clearanceCall
 use Rattle.separation.specs.declared.report.ParallelSeparation.{ParallelSeparation}
 use Rattle.separation.specs.declared.report.SeparationAnswer.{SeparationAnswer}
 use Rattle.separation.specs.Figures as ofSeparation
 use Rattle.separation.specs.Walk as separationWalk
-use Rattle.separation.specs.Answer as separationAnswer
+use Rattle.separation.specs.Answer as separationCall
 use Rattle.congestion.specs.declared.report.ParallelCongestion.{ParallelCongestion}
 use Rattle.congestion.specs.declared.report.CongestionReport.{CongestionReport}
 use Rattle.congestion.specs.declared.report.CongestionAnswer.{CongestionAnswer}
 use Rattle.congestion.specs.Profile.{allPairs}
-use Rattle.congestion.specs.Sweep.{sweep}
+use Rattle.congestion.specs.Sweep as congestionWalk
 use Rattle.congestion.specs.Answer.{densityAnswer, profileAnswer, congestionAnswer, withoutDensity, reportOf, zeros, resultOf}
 
 pub record Measure : Type 1 where
@@ -117,11 +117,11 @@ clearance = record {
   walk = λ d threshold. clearanceWalk.walkAll (exemptions (d .exemptions)) threshold (segments (d .segments)) (nodes (d .nodes));
   count = λ d threshold. clearanceWalk.visitCount (exemptions (d .exemptions)) threshold (segments (d .segments)) (nodes (d .nodes));
   Answer = ClearanceAnswer;
-  answer = λ d threshold allowance words. clearanceAnswer.answer (d .segments) (d .nodes) (d .exemptions) threshold allowance words;
+  answer = λ d threshold allowance words. clearanceCall.clearanceAnswer (d .segments) (d .nodes) (d .exemptions) threshold allowance words;
   Result = ℕ × EdgeNodeClearance;
-  result = clearanceAnswer.resultOf;
-  accepted = λ f n. (0, clearanceAnswer.reportOf f n);
-  refused = λ k. (k, clearanceAnswer.zeros);
+  result = clearanceCall.resultOf;
+  accepted = λ f n. (0, clearanceCall.reportOf f n);
+  refused = λ k. (k, clearanceCall.zeros);
 }
 
 -- ---- `measure_parallel_separation_bounded`, which has no settings
@@ -137,14 +137,14 @@ separation = record {
   Figures = ofSeparation.Figures;
   figures = λ s none. ofSeparation.figures (segments s);
   floats = λ f. present (f .least) ++ present (f .leastNonzero);
-  walk = λ s none. separationWalk.walk (segments s);
+  walk = λ s none. separationWalk.walkAll (segments s);
   count = λ s none. separationWalk.visitCount (segments s);
   Answer = SeparationAnswer;
-  answer = λ s none allowance words. separationAnswer.separation s allowance words;
+  answer = λ s none allowance words. separationCall.separationAnswer s allowance words;
   Result = ℕ × ParallelSeparation;
-  result = separationAnswer.resultOf;
-  accepted = λ f n. (0, separationAnswer.reportOf f n);
-  refused = λ k. (k, separationAnswer.zeros);
+  result = separationCall.resultOf;
+  accepted = λ f n. (0, separationCall.reportOf f n);
+  refused = λ k. (k, separationCall.zeros);
 }
 
 -- ---- the three calls of congestion, whose figures are a part of one report
@@ -160,7 +160,7 @@ ofCongestion part A reach answers = record {
   Figures = ParallelCongestion × Gap;
   figures = λ s cutoff. part (allPairs cutoff (segments s)) .value;
   floats = λ f. f .0 .«total_length» ∷ f .0 .«congested_length» ∷ f .0 .«pair_overlap_length» ∷ present (f .1);
-  walk = λ s cutoff. part (sweep cutoff (segments s));
+  walk = λ s cutoff. part (congestionWalk.walkAll cutoff (segments s));
   count = λ s cutoff. allPairs cutoff (segments s) .cost;
   Answer = CongestionAnswer;
   answer = answers;

@@ -20,11 +20,11 @@ use Rattle.drawing.specs.Checks.{nodesDiffer, exemptionsDiffer, separationCondi
 use Rattle.drawing.proofs.FirstRefusal.{first-yes, first-no, first-stop}
 use Rattle.drawing.proofs.ColumnLaws.{columns-same, columns-count}
 use Rattle.separation.specs.declared.report.SeparationAnswer.the-variants as ofSeparation
-use Rattle.separation.specs.Answer.{separation}
+use Rattle.separation.specs.Answer.{separationAnswer}
 use Rattle.congestion.specs.declared.report.CongestionAnswer.the-variants as ofCongestion
 use Rattle.congestion.specs.Answer.{densityAnswer, profileAnswer, congestionAnswer}
 use Rattle.clearance.specs.declared.report.ClearanceAnswer.the-variants as ofClearance
-use Rattle.clearance.specs.Answer.{answer}
+use Rattle.clearance.specs.Answer.{clearanceAnswer}
 
 -- a list has at most 4,096 entries, or it is refused for their number alone
 few-or-many : {A : Type 0} (P : List A → List A → Type 0) (l : List A) → ((k : List A) → P k k) → ((j k : List A) → 4096 < length j → 4096 < length k → P j k) → P (take 4097 l) l
@@ -75,8 +75,8 @@ module _ (l : List Segment) (words : ℕ) where
   pub clearance-checked : (n : NodeColumns) (e : ExemptionColumns) (threshold : Float) → firstOf (clearanceConditions (columnsOf (take 4097 l)) n e threshold words) ≡ firstOf (clearanceConditions (columnsOf l) n e threshold words)
   clearance-checked n e threshold = few-or-many (λ j k. firstOf (clearanceConditions (columnsOf j) n e threshold words) ≡ firstOf (clearanceConditions (columnsOf k) n e threshold words)) l (λ k. refl) (λ j k h i. clearance-many j n e threshold words h ∙ sym (clearance-many k n e threshold words i))
 
-separation-refused : (s : SegmentColumns) (allowance words : ℕ) (r : Refusal) → firstOf (separationConditions s words) ≡ check.Refused r → separation s allowance words ≡ ofSeparation.Refused r
-unfolding separation
+separation-refused : (s : SegmentColumns) (allowance words : ℕ) (r : Refusal) → firstOf (separationConditions s words) ≡ check.Refused r → separationAnswer s allowance words ≡ ofSeparation.Refused r
+unfolding separationAnswer
 separation-refused s allowance words r e = rw e
 
 density-refused : (s : SegmentColumns) (cutoff : Float) (allowance words : ℕ) (r : Refusal) → firstOf (congestionConditions s cutoff words) ≡ check.Refused r → densityAnswer s cutoff allowance words ≡ ofCongestion.Refused r
@@ -91,13 +91,13 @@ congestion-refused : (s : SegmentColumns) (cutoff : Float) (words : ℕ) (r : Re
 unfolding congestionAnswer
 congestion-refused s cutoff words r e = rw e
 
-clearance-refused : (s : SegmentColumns) (n : NodeColumns) (e : ExemptionColumns) (threshold : Float) (allowance words : ℕ) (r : Refusal) → firstOf (clearanceConditions s n e threshold words) ≡ check.Refused r → answer s n e threshold allowance words ≡ ofClearance.Refused r
-unfolding answer
+clearance-refused : (s : SegmentColumns) (n : NodeColumns) (e : ExemptionColumns) (threshold : Float) (allowance words : ℕ) (r : Refusal) → firstOf (clearanceConditions s n e threshold words) ≡ check.Refused r → clearanceAnswer s n e threshold allowance words ≡ ofClearance.Refused r
+unfolding clearanceAnswer
 clearance-refused s n e threshold allowance words r p = rw p
 
 module _ (l : List Segment) where
-  pub separation-decided : (allowance words : ℕ) → separation (columnsOf (take 4097 l)) allowance words ≡ separation (columnsOf l) allowance words
-  separation-decided a w = few-or-many (λ j k. separation (columnsOf j) a w ≡ separation (columnsOf k) a w) l (λ k. refl) (λ j k h i. separation-refused _ a w _ (separation-many j w h) ∙ sym (separation-refused _ a w _ (separation-many k w i)))
+  pub separation-decided : (allowance words : ℕ) → separationAnswer (columnsOf (take 4097 l)) allowance words ≡ separationAnswer (columnsOf l) allowance words
+  separation-decided a w = few-or-many (λ j k. separationAnswer (columnsOf j) a w ≡ separationAnswer (columnsOf k) a w) l (λ k. refl) (λ j k h i. separation-refused _ a w _ (separation-many j w h) ∙ sym (separation-refused _ a w _ (separation-many k w i)))
 
   pub density-decided : (cutoff : Float) (allowance words : ℕ) → densityAnswer (columnsOf (take 4097 l)) cutoff allowance words ≡ densityAnswer (columnsOf l) cutoff allowance words
   density-decided c a w = few-or-many (λ j k. densityAnswer (columnsOf j) c a w ≡ densityAnswer (columnsOf k) c a w) l (λ k. refl) (λ j k h i. density-refused _ c a w _ (congestion-many j c w h) ∙ sym (density-refused _ c a w _ (congestion-many k c w i)))
@@ -108,5 +108,5 @@ module _ (l : List Segment) where
   pub congestion-decided : (cutoff : Float) (words : ℕ) → congestionAnswer (columnsOf (take 4097 l)) cutoff words ≡ congestionAnswer (columnsOf l) cutoff words
   congestion-decided c w = few-or-many (λ j k. congestionAnswer (columnsOf j) c w ≡ congestionAnswer (columnsOf k) c w) l (λ k. refl) (λ j k h i. congestion-refused _ c w _ (congestion-many j c w h) ∙ sym (congestion-refused _ c w _ (congestion-many k c w i)))
 
-  pub clearance-decided : (n : NodeColumns) (e : ExemptionColumns) (threshold : Float) (allowance words : ℕ) → answer (columnsOf (take 4097 l)) n e threshold allowance words ≡ answer (columnsOf l) n e threshold allowance words
-  clearance-decided n e t a w = few-or-many (λ j k. answer (columnsOf j) n e t a w ≡ answer (columnsOf k) n e t a w) l (λ k. refl) (λ j k h i. clearance-refused _ n e t a w _ (clearance-many j n e t w h) ∙ sym (clearance-refused _ n e t a w _ (clearance-many k n e t w i)))
+  pub clearance-decided : (n : NodeColumns) (e : ExemptionColumns) (threshold : Float) (allowance words : ℕ) → clearanceAnswer (columnsOf (take 4097 l)) n e threshold allowance words ≡ clearanceAnswer (columnsOf l) n e threshold allowance words
+  clearance-decided n e t a w = few-or-many (λ j k. clearanceAnswer (columnsOf j) n e t a w ≡ clearanceAnswer (columnsOf k) n e t a w) l (λ k. refl) (λ j k h i. clearance-refused _ n e t a w _ (clearance-many j n e t w h) ∙ sym (clearance-refused _ n e t a w _ (clearance-many k n e t w i)))

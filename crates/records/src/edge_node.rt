@@ -6,7 +6,7 @@ ghost use lib.ListN.{length, take, getD};
 ghost use Rattle.drawing.specs.Refusals.{firstOf, scratchAfter};
 ghost use Rattle.drawing.specs.Entries.{nodeColumns, exemptionColumns};
 ghost use Rattle.drawing.specs.Checks.{clearanceConditions};
-ghost use Rattle.clearance.specs.Answer.{answer};
+ghost use Rattle.clearance.specs.Answer.{clearanceAnswer};
 ghost use Rattle.records.specs.Records.{ofEdgeNode, edgeNodeColumns};
 ghost use Rattle.records.specs.Lines.{entryOf, noEdgeNode};
 use crate::line::Line;
@@ -79,7 +79,7 @@ pub fn measure_edge_node_clearance_bounded_by_records(
     allowance: usize,
     scratch: &mut [u64],
 ) -> ClearanceAnswer
-    ensures { λ r. ⌜ r ≡ answer (edgeNodeColumns (now (records .entry))) (nodeColumns (now (id .entry)) (now (x .entry)) (now (y .entry)) (now (width .entry)) (now (height .entry))) (exemptionColumns (now («exempt_net» .entry)) (now («exempt_node» .entry))) threshold allowance (length (now (scratch .entry))) ⌝ }
+    ensures { λ r. ⌜ r ≡ clearanceAnswer (edgeNodeColumns (now (records .entry))) (nodeColumns (now (id .entry)) (now (x .entry)) (now (y .entry)) (now (width .entry)) (now (height .entry))) (exemptionColumns (now («exempt_net» .entry)) (now («exempt_node» .entry))) threshold allowance (length (now (scratch .entry))) ⌝ }
     ensures { λ _. ⌜ now (scratch .exit) ≡ scratchAfter (firstOf (clearanceConditions (edgeNodeColumns (now (records .entry))) (nodeColumns (now (id .entry)) (now (x .entry)) (now (y .entry)) (now (width .entry)) (now (height .entry))) (exemptionColumns (now («exempt_net» .entry)) (now («exempt_node» .entry))) threshold (length (now (scratch .entry))))) (now (scratch .entry)) ⌝ }
 {
     let n = records.len();

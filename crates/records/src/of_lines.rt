@@ -5,9 +5,9 @@ ghost use lib.ListN.{length, take};
 ghost use Rattle.drawing.specs.Refusals.{firstOf, scratchAfter};
 ghost use Rattle.drawing.specs.Entries.{nodeColumns, exemptionColumns, columnsOf};
 ghost use Rattle.drawing.specs.Checks.{separationConditions, congestionConditions, clearanceConditions};
-ghost use Rattle.separation.specs.Answer.{separation};
+ghost use Rattle.separation.specs.Answer.{separationAnswer};
 ghost use Rattle.congestion.specs.Answer.{densityAnswer, profileAnswer, congestionAnswer};
-ghost use Rattle.clearance.specs.Answer.{answer};
+ghost use Rattle.clearance.specs.Answer.{clearanceAnswer};
 ghost use Rattle.records.specs.Lines.{entryOf};
 use crate::line::Line;
 use crate::line::unpack;
@@ -27,7 +27,7 @@ pub(crate) fn separation_of_lines(
     allowance: usize,
     scratch: &mut [u64],
 ) -> SeparationAnswer
-    ensures { λ r. ⌜ r ≡ separation (columnsOf (map entryOf (take n lines))) allowance (length (now (scratch .entry))) ⌝ }
+    ensures { λ r. ⌜ r ≡ separationAnswer (columnsOf (map entryOf (take n lines))) allowance (length (now (scratch .entry))) ⌝ }
     ensures { λ _. ⌜ now (scratch .exit) ≡ scratchAfter (firstOf (separationConditions (columnsOf (map entryOf (take n lines))) (length (now (scratch .entry))))) (now (scratch .entry)) ⌝ }
 {
     let m = unpacked(n);
@@ -179,7 +179,7 @@ pub(crate) fn clearance_of_lines(
     allowance: usize,
     scratch: &mut [u64],
 ) -> ClearanceAnswer
-    ensures { λ r. ⌜ r ≡ answer (columnsOf (map entryOf (take n lines))) (nodeColumns (now (id .entry)) (now (x .entry)) (now (y .entry)) (now (width .entry)) (now (height .entry))) (exemptionColumns (now («exempt_net» .entry)) (now («exempt_node» .entry))) threshold allowance (length (now (scratch .entry))) ⌝ }
+    ensures { λ r. ⌜ r ≡ clearanceAnswer (columnsOf (map entryOf (take n lines))) (nodeColumns (now (id .entry)) (now (x .entry)) (now (y .entry)) (now (width .entry)) (now (height .entry))) (exemptionColumns (now («exempt_net» .entry)) (now («exempt_node» .entry))) threshold allowance (length (now (scratch .entry))) ⌝ }
     ensures { λ _. ⌜ now (scratch .exit) ≡ scratchAfter (firstOf (clearanceConditions (columnsOf (map entryOf (take n lines))) (nodeColumns (now (id .entry)) (now (x .entry)) (now (y .entry)) (now (width .entry)) (now (height .entry))) (exemptionColumns (now («exempt_net» .entry)) (now («exempt_node» .entry))) threshold (length (now (scratch .entry))))) (now (scratch .entry)) ⌝ }
 {
     let m = unpacked(n);

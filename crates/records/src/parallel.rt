@@ -5,7 +5,7 @@ ghost use Prim.Native.Nat.{_<_};
 ghost use lib.ListN.{length, take, getD};
 ghost use Rattle.drawing.specs.Refusals.{firstOf, scratchAfter};
 ghost use Rattle.drawing.specs.Checks.{separationConditions, congestionConditions};
-ghost use Rattle.separation.specs.Answer.{separation};
+ghost use Rattle.separation.specs.Answer.{separationAnswer};
 ghost use Rattle.congestion.specs.Answer.{densityAnswer, profileAnswer, congestionAnswer};
 ghost use Rattle.records.specs.Records.{ofParallel, parallelColumns};
 ghost use Rattle.records.specs.Lines.{entryOf, noParallel};
@@ -75,7 +75,7 @@ pub fn measure_parallel_separation_bounded_by_records(
     allowance: usize,
     scratch: &mut [u64],
 ) -> SeparationAnswer
-    ensures { λ r. ⌜ r ≡ separation (parallelColumns (now (records .entry))) allowance (length (now (scratch .entry))) ⌝ }
+    ensures { λ r. ⌜ r ≡ separationAnswer (parallelColumns (now (records .entry))) allowance (length (now (scratch .entry))) ⌝ }
     ensures { λ _. ⌜ now (scratch .exit) ≡ scratchAfter (firstOf (separationConditions (parallelColumns (now (records .entry))) (length (now (scratch .entry))))) (now (scratch .entry)) ⌝ }
 {
     let n = records.len();

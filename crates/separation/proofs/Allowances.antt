@@ -6,14 +6,15 @@ use mathlib.Core.Option.{Option, none, some}
 use Prim.Native.Nat.{ℕ, zero, suc, _≤_, _<_}
 use native.Mathlib.Omega.{arith}
 use lib.ListN.{length}
-use Rattle.laws.specs.Charged.{Charged, spent, left, within, free, visit, after, runs, onward}
+use Rattle.laws.specs.Charged.{Charged, free, visit, after, runs}
+use Rattle.laws.specs.Allowance.{spent, left, within, onward}
 use Rattle.laws.proofs.Runs.{within-free, within-after, visit-spent, visit-paid, onward-spent, onward-left}
 use Rattle.drawing.specs.Entries.{Segment}
 use Rattle.rows.specs.Rows.{Row, oriented, events}
 use Rattle.separation.specs.declared.tree.Search.the-variants.{Found, Empty, Spent}
 use Rattle.separation.specs.Lines.{lines, levels}
 use Rattle.separation.specs.Searches.{leaf, orElse, node, setRun, searchOf}
-use Rattle.separation.specs.Walk.{nothing, lesserFigures, Sweep, remove, endsAt, step, sweep, along, walk}
+use Rattle.separation.specs.Walk.{nothing, lesserFigures, Sweep, remove, endsAt, step, sweep, along, walkAll}
 
 -- ---- "a search answers found, empty or spent"
 pub answer-spent : searchOf spent ≡ Spent
@@ -97,8 +98,8 @@ along-more [] h = absurd (omega arith)
 along-more (r ∷ []) h = absurd (omega arith)
 along-more (r ∷ t ∷ l) h = refl
 
-pub walk-within : (m : ℕ) (l : List Segment) → within m (walk l) ≡ onward (within m (along (oriented 1 l))) (λ f r. onward (within r (along (oriented 0 l))) (λ g r. left (lesserFigures f g) r))
-unfolding walk
+pub walk-within : (m : ℕ) (l : List Segment) → within m (walkAll l) ≡ onward (within m (along (oriented 1 l))) (λ f r. onward (within r (along (oriented 0 l))) (λ g r. left (lesserFigures f g) r))
+unfolding walkAll
 walk-within m l =
     within-after m (along (oriented 1 l)) (λ f. after (along (oriented 0 l)) (λ g. free (lesserFigures f g)))
     ∙ (λ i. onward (within m (along (oriented 1 l))) (λ f r. then-read r (along (oriented 0 l)) (lesserFigures f) i))

@@ -7,7 +7,7 @@ use borrow.Rule.Slice.PartMut.{midOf, putMid}
 use lib.ListN.{length, drop}
 use Rattle.laws.specs.Lists.{Mem}
 use Rattle.laws.specs.Sort.{Sorted}
-use Rattle.laws.specs.Charged.{within}
+use Rattle.laws.specs.Allowance.{within}
 use Rattle.drawing.specs.declared.gap.Gap.the-variants.{Absent}
 use Rattle.drawing.specs.Entries.{SegmentColumns, segments}
 use Rattle.rows.specs.Rows.{Row, rowsInOrder, oriented}

@@ -14,19 +14,19 @@ use Rattle.drawing.proofs.FirstRefusal.{passed-head}
 use Rattle.drawing.proofs.ListOrders.{SegmentHeld}
 use Rattle.separation.specs.declared.report.SeparationAnswer.the-variants.{Refused}
 use Rattle.separation.specs.Figures.{Figures}
-use Rattle.separation.specs.Walk.{walk}
-use Rattle.separation.specs.Answer.{reportOf, accepted, allPairs, separation, zeros, resultOf}
+use Rattle.separation.specs.Walk.{walkAll}
+use Rattle.separation.specs.Answer.{reportOf, accepted, allPairs, separationAnswer, zeros, resultOf}
 use Rattle.separation.proofs.Fit.{Fit, fit-all}
 use Rattle.separation.proofs.AnyOrder.{walk-all-pairs}
 
 -- ---- a call that meets no earlier refusal
 module _ (s : SegmentColumns) (words : ℕ) (passed : firstOf (separationConditions s words) ≡ Passed) where
-  answer-is : (m : ℕ) → separation s m words ≡ settle accepted (Refused WorkLimitExceeded) m (allPairs (segments s))
-  unfolding separation
+  answer-is : (m : ℕ) → separationAnswer s m words ≡ settle accepted (Refused WorkLimitExceeded) m (allPairs (segments s))
+  unfolding separationAnswer
   answer-is m = rw passed
 
   -- "A call whose allowance reaches it returns the all-pairs report, whose visits are that count; a call whose allowance does not returns the spent-allowance refusal", which is 7
-  pub result-settles : (m : ℕ) → resultOf (separation s m words) ≡ settle (λ f n. (0, reportOf f n)) (7, zeros) m (allPairs (segments s))
+  pub result-settles : (m : ℕ) → resultOf (separationAnswer s m words) ≡ settle (λ f n. (0, reportOf f n)) (7, zeros) m (allPairs (segments s))
   unfolding settle resultOf numberOf
   result-settles m = ap resultOf (answer-is m) ∙ go (reaches m (allPairs (segments s))) (allPairs (segments s))
     where
@@ -47,5 +47,5 @@ module _ (s : SegmentColumns) (words : ℕ) (passed : firstOf (separationConditi
   passed-fit held = fit-all (segments s) held segments-fit
 
   -- and the answer is what the walk settles
-  pub walk-settles : All SegmentHeld (segments s) → (m : ℕ) → separation s m words ≡ settle accepted (Refused WorkLimitExceeded) m (walk (segments s))
+  pub walk-settles : All SegmentHeld (segments s) → (m : ℕ) → separationAnswer s m words ≡ settle accepted (Refused WorkLimitExceeded) m (walkAll (segments s))
   walk-settles held m = answer-is m ∙ ap (settle accepted (Refused WorkLimitExceeded) m) (sym (walk-all-pairs (segments s) (passed-fit held)))

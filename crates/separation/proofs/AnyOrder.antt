@@ -8,14 +8,14 @@ use Rattle.laws.proofs.Perms.{perm-all}
 use Rattle.drawing.specs.Entries.{Segment}
 use Rattle.rows.proofs.Oriented.{oriented-any}
 use Rattle.separation.specs.Figures.{Figures, figures}
-use Rattle.separation.specs.Walk.{walk, visitCount}
+use Rattle.separation.specs.Walk.{walkAll, visitCount}
 use Rattle.separation.specs.Answer.{allPairs}
 use Rattle.separation.proofs.Fit.{Fit}
 use Rattle.separation.proofs.WalkFigures.{walk-figures}
 
 module _ {l r : List Segment} (p : Perm l r) where
-  pub walk-any : walk l ≡ walk r
-  unfolding walk
+  pub walk-any : walkAll l ≡ walkAll r
+  unfolding walkAll
   walk-any = rw (oriented-any 1 p, oriented-any 0 p)
 
   pub visits-any : visitCount l ≡ visitCount r
@@ -30,6 +30,6 @@ module _ {l r : List Segment} (p : Perm l r) where
   all-pairs-any fit = λ i. record { value = figures-any fit i; cost = visits-any i }
 
 -- the walk of fit segments is their all-pairs report with its visits
-pub walk-all-pairs : (l : List Segment) → All Fit l → walk l ≡ allPairs l
+pub walk-all-pairs : (l : List Segment) → All Fit l → walkAll l ≡ allPairs l
 unfolding allPairs visitCount
-walk-all-pairs l fit = λ i. record { value = walk-figures l fit i; cost = walk l .cost }
+walk-all-pairs l fit = λ i. record { value = walk-figures l fit i; cost = walkAll l .cost }

@@ -16,7 +16,7 @@ use Rattle.rows.specs.Rows.{Row, oriented, Event, ends, starts, eventsInOrder, 
 use Rattle.rows.proofs.Oriented.{oriented-length}
 use Rattle.separation.specs.Lines.{lines, index, levels}
 use Rattle.separation.specs.Searches.{otherIn}
-use Rattle.separation.specs.Walk.{Sweep, nothing, startsAt, endsAt, step, sweep, along, walk, visitCount}
+use Rattle.separation.specs.Walk.{Sweep, nothing, startsAt, endsAt, step, sweep, along, walkAll, visitCount}
 use Rattle.separation.proofs.Lines.{other-splits}
 use Rattle.separation.proofs.Searches.{set-cost, right-cost, left-cost}
 
@@ -102,5 +102,5 @@ levelsAlong o l = levels (length (lines (oriented o l)))
 
 -- "separation at most the sum over orientations of n times (10h + 5)"
 pub visit-bound : (l : List Segment) → visitCount l ≤ segmentsAlong 1 l * (10 * levelsAlong 1 l + 5) + segmentsAlong 0 l * (10 * levelsAlong 0 l + 5)
-unfolding visitCount walk
+unfolding visitCount walkAll
 visit-bound l = rw (← oriented-length 1 l, ← oriented-length 0 l) (omega (arith, along-bound (oriented 1 l), along-bound (oriented 0 l)))

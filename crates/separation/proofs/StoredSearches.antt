@@ -9,7 +9,8 @@ use native.Mathlib.Nat.{pow-succ'}
 use native.Mathlib.Omega.{arith}
 use lib.Dec.{ltb}
 use lib.Pow.{pow-pos}
-use Rattle.laws.specs.Charged.{Charged, Outcome, spent, left, within}
+use Rattle.laws.specs.Charged.{Charged}
+use Rattle.laws.specs.Allowance.{Outcome, spent, left, within}
 use Rattle.separation.specs.declared.tree.Search.{Search}
 use Rattle.separation.specs.declared.tree.Search.the-variants.{Found, Empty, Spent}
 use Rattle.separation.specs.Searches.{leaf, node, rightmost, leftmost, searchOf}

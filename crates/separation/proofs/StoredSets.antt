@@ -9,7 +9,7 @@ use native.Mathlib.Omega.{arith}
 use lib.ListN.{length, set, length-set}
 use lib.Pow.{pow-pos, pow-lt}
 use lib.Seq.{getD-set-same, getD-set-other}
-use Rattle.laws.specs.Charged.{within, spent, left}
+use Rattle.laws.specs.Allowance.{within, spent, left}
 use Rattle.laws.proofs.Tests.{le-or-lt}
 use Rattle.rows.specs.Rows.{Row}
 use Rattle.separation.specs.declared.summary.NetSummary.{NetSummary}

@@ -8,7 +8,8 @@ use borrow.Rule.Slice.PartMut.{putMid}
 use lib.ListN.{length, getD, take, drop, length-append, length-drop}
 use lib.Seq.{drop-at, take-at, take-take, drop-drop, length-take-le}
 use Rattle.laws.specs.Lists.{Mem}
-use Rattle.laws.specs.Charged.{Charged, Outcome, spent, left, within, free, after, onward}
+use Rattle.laws.specs.Charged.{Charged, free, after}
+use Rattle.laws.specs.Allowance.{Outcome, spent, left, within, onward}
 use Rattle.laws.proofs.Tests.{le-or-lt}
 use Rattle.laws.proofs.Parts.{tail-lent, tail-back}
 use Rattle.laws.proofs.Places.{at-mem}

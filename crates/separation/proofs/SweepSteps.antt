@@ -11,7 +11,8 @@ use lib.Dec.{ltb}
 use lib.Ieee.{Float, binary64, ofBits, sub}
 use lib.ListN.{length, getD, take}
 use lib.Seq.{getD-take}
-use Rattle.laws.specs.Charged.{Charged, Outcome, spent, left, within, free, visit, after, onward}
+use Rattle.laws.specs.Charged.{Charged, free, visit, after}
+use Rattle.laws.specs.Allowance.{Outcome, spent, left, within, onward}
 use Rattle.laws.proofs.Tests.{le-or-lt}
 use Rattle.laws.proofs.Runs.{within-free, within-after, within-enough, within-short, visit-spent, visit-paid, onward-spent, onward-left}
 use Rattle.floats.specs.Values.{plusZero, absOf, gapOf}

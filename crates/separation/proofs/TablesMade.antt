@@ -10,7 +10,7 @@ use lib.ListN.{length, getD, take, drop, replicate, length-replicate, getD-repli
 use lib.Seq.{take-take, getD-drop, length-take-le, getD-append-add}
 use Rattle.laws.specs.Lists.{Mem, All}
 use Rattle.laws.specs.Sort.{Sorted}
-use Rattle.laws.specs.Charged.{within}
+use Rattle.laws.specs.Allowance.{within}
 use Rattle.laws.proofs.Tests.{le-or-lt}
 use Rattle.laws.proofs.ListLaws.{mem-all, mem-map}
 use Rattle.rows.specs.Rows.{Row, rowsInOrder}

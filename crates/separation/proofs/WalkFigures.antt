@@ -22,7 +22,7 @@ use Rattle.drawing.proofs.GapLaws.{gaps-ranked}
 use Rattle.rows.specs.Rows.{Row, fixedOf, rowOf, rowsInOrder, oriented}
 use Rattle.rows.proofs.Oriented.{oriented-sorted, mem-oriented, oriented-mem}
 use Rattle.separation.specs.Figures.{counted, gapBetween, gaps, nonzero, leastOf, figures}
-use Rattle.separation.specs.Walk.{lesserFigures, along, walk}
+use Rattle.separation.specs.Walk.{lesserFigures, along, walkAll}
 use Rattle.separation.proofs.Places.{Placed, gapAt, at-one, at-two, nearer}
 use Rattle.separation.proofs.Sweeps.{Meet, Pair, Covered, sweepSights, sweep-sound, sweep-complete}
 use Rattle.separation.proofs.Running.{kept-good, no-zero, least-of-none, least-of-join, sweep-least}
@@ -190,8 +190,8 @@ module _ (l : List Segment) (fit : All Fit l) where
   compared-good o = mem-all Good (compared o) (λ x m. pair-good l fit x (compared-sound o x m))
 
   -- the walk's figures are the figures over all pairs
-  pub walk-figures : walk l .value ≡ figures l
-  unfolding walk figures compared
+  pub walk-figures : walkAll l .value ≡ figures l
+  unfolding walkAll figures compared
   walk-figures =
       (λ i. lesserFigures (along-least (oriented 1 l) (oriented-sorted 1 l) (rises 1) (places 1) i) (along-least (oriented 0 l) (oriented-sorted 0 l) (rises 0) (places 0) i))
       ∙ least-of-join (compared 1) (compared 0) (compared-good 1) (compared-good 0)

@@ -7,7 +7,8 @@ use native.Mathlib.Omega.{arith}
 use borrow.Author.Tests.{ltb-false}
 use lib.ListN.{length}
 use Rattle.laws.specs.Lists.{Mem, All}
-use Rattle.laws.specs.Charged.{Charged, Outcome, spent, left, within, onward, reply}
+use Rattle.laws.specs.Charged.{Charged}
+use Rattle.laws.specs.Allowance.{Outcome, spent, left, within, onward, reply}
 use Rattle.laws.proofs.Tests.{le-or-lt}
 use Rattle.laws.proofs.ListLaws.{all-mem}
 use Rattle.laws.proofs.Runs.{within-enough, within-short, onward-spent, onward-left, settle-within}
@@ -31,8 +32,8 @@ use Rattle.separation.specs.declared.sweep.Sweeping.{Sweeping}
 use Rattle.separation.specs.declared.sweep.Swept.{Swept}
 use Rattle.separation.specs.declared.sweep.Swept.the-variants.{Went, Spent}
 use Rattle.separation.specs.Figures.{Figures}
-use Rattle.separation.specs.Walk.{lesserFigures, along, walk}
-use Rattle.separation.specs.Answer.{accepted, separation}
+use Rattle.separation.specs.Walk.{lesserFigures, along, walkAll}
+use Rattle.separation.specs.Answer.{accepted, separationAnswer}
 use Rattle.separation.specs.Sweeping.{metBy, sweptOf, AtColumns, Remains, Answers}
 use Rattle.separation.proofs.Fit.{Fit, row-rises}
 use Rattle.separation.proofs.Allowances.{walk-within}
@@ -69,23 +70,23 @@ module _ (l : List Segment) (m : ℕ) (first : Swept) (one : first ≡ sweptOf (
   abbrev second : Figures → ℕ → Outcome Figures
   second f r = onward (within r (along (oriented 0 l))) (λ g r. left (lesserFigures f g) r)
 
-  pub walk-stops : first ≡ Spent → Spent ≡ sweptOf (within m (walk l))
+  pub walk-stops : first ≡ Spent → Spent ≡ sweptOf (within m (walkAll l))
   unfolding sweptOf
   walk-stops e =
       let z : onward (within m (along (oriented 1 l))) second ≡ spent = rw (spent-is (within m (along (oriented 1 l))) (sym e ∙ one)) (onward-spent second) in
       sym (ap sweptOf (walk-within m l ∙ z))
 
   module _ (across : Sweeping) (went : first ≡ Went across) (next : Swept) (other : next ≡ sweptOf (within (across .left) (along (oriented 0 l)))) where
-    on : within m (walk l) ≡ second (metBy across) (across .left)
+    on : within m (walkAll l) ≡ second (metBy across) (across .left)
     on = walk-within m l ∙ rw (went-is (within m (along (oriented 1 l))) across (sym went ∙ one)) (onward-left (metBy across) (across .left) second)
 
-    pub walk-stops-later : next ≡ Spent → Spent ≡ sweptOf (within m (walk l))
+    pub walk-stops-later : next ≡ Spent → Spent ≡ sweptOf (within m (walkAll l))
     unfolding sweptOf
     walk-stops-later e =
         let z : second (metBy across) (across .left) ≡ spent = rw (spent-is (within (across .left) (along (oriented 0 l))) (sym e ∙ other)) (onward-spent (λ g r. left (lesserFigures (metBy across) g) r)) in
         sym (ap sweptOf (on ∙ z))
 
-    pub walk-both : (down r : Sweeping) → next ≡ Went down → metBy r ≡ lesserFigures (metBy across) (metBy down) → r .left ≡ down .left → Went r ≡ sweptOf (within m (walk l))
+    pub walk-both : (down r : Sweeping) → next ≡ Went down → metBy r ≡ lesserFigures (metBy across) (metBy down) → r .left ≡ down .left → Went r ≡ sweptOf (within m (walkAll l))
     unfolding sweptOf
     walk-both down r e f k =
         let z : second (metBy across) (across .left) ≡ left (lesserFigures (metBy across) (metBy down)) (down .left) = rw (went-is (within (across .left) (along (oriented 0 l))) down (sym e ∙ other)) (onward-left (metBy down) (down .left) (λ g r. left (lesserFigures (metBy across) g) r)) in
@@ -118,9 +119,9 @@ remains c allowance r e t h =
     never : (f : Figures) (k : ℕ) → spent ≡ left f k → ⊥
     never f k e = let z : _≡_ {A = ℕ} 0 1 = cc in omega arith
 
-pub refused-answer : (c : SegmentColumns) (allowance words : ℕ) (k : Check) (r : Refusal) → k ≡ firstOf (separationConditions c words) → k ≡ Stopped r → Refused r ≡ separation c allowance words
-unfolding separation
+pub refused-answer : (c : SegmentColumns) (allowance words : ℕ) (k : Check) (r : Refusal) → k ≡ firstOf (separationConditions c words) → k ≡ Stopped r → Refused r ≡ separationAnswer c allowance words
+unfolding separationAnswer
 refused-answer c allowance words k r h g = sym (rw (sym h ∙ g))
 
-pub passed-answer : (c : SegmentColumns) (allowance words : ℕ) → firstOf (separationConditions c words) ≡ Passed → All SegmentHeld (segments c) → (r : Swept) → r ≡ sweptOf (within allowance (walk (segments c))) → (a : SeparationAnswer) → Answers r allowance a → a ≡ separation c allowance words
-passed-answer c allowance words passed held r e a f = f (within allowance (walk (segments c))) e ∙ settle-within accepted (Refused WorkLimitExceeded) allowance (walk (segments c)) ∙ sym (walk-settles c words passed held allowance)
+pub passed-answer : (c : SegmentColumns) (allowance words : ℕ) → firstOf (separationConditions c words) ≡ Passed → All SegmentHeld (segments c) → (r : Swept) → r ≡ sweptOf (within allowance (walkAll (segments c))) → (a : SeparationAnswer) → Answers r allowance a → a ≡ separationAnswer c allowance words
+passed-answer c allowance words passed held r e a f = f (within allowance (walkAll (segments c))) e ∙ settle-within accepted (Refused WorkLimitExceeded) allowance (walkAll (segments c)) ∙ sym (walk-settles c words passed held allowance)

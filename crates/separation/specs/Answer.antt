@@ -25,8 +25,8 @@ unfoldable pub allPairs : List Segment → Charged Figures
 allPairs l = record { value = figures l; cost = visitCount l }
 
 -- the call's columns, its allowance and the length of its scratch
-unfoldable pub separation : SegmentColumns → ℕ → ℕ → SeparationAnswer
-separation s allowance words =
+unfoldable pub separationAnswer : SegmentColumns → ℕ → ℕ → SeparationAnswer
+separationAnswer s allowance words =
     let settled = settle accepted (Refused WorkLimitExceeded) allowance (allPairs (segments s)) in
     checked Refused (firstOf (separationConditions s words)) settled
 

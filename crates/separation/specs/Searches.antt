@@ -6,7 +6,8 @@ use mathlib.Core.Option.{Option, none, some}
 use Prim.Native.Nat.{ℕ, zero, suc, _+_, _*_, _^_}
 use lib.Dec.{leb, ltb, eqb}
 use Rattle.laws.specs.Lists.{some-of}
-use Rattle.laws.specs.Charged.{Charged, Outcome, spent, left, free, visit, after}
+use Rattle.laws.specs.Charged.{Charged, free, visit, after}
+use Rattle.laws.specs.Allowance.{Outcome, spent, left}
 use Rattle.rows.specs.Rows.{Row}
 use Rattle.separation.specs.declared.tree.Search.{Search}
 use Rattle.separation.specs.declared.tree.Search.the-variants.{Found, Empty, Spent}

@@ -7,7 +7,8 @@ use Prim.Native.Nat.{ℕ, suc, _+_, _*_, _^_, _≤_, _<_}
 use lib.ListN.{length, getD, take, drop}
 use Rattle.laws.specs.Lists.{Mem}
 use Rattle.laws.specs.Sort.{Sorted}
-use Rattle.laws.specs.Charged.{Charged, Outcome, spent, left, within, free, visit, after, onward, reply}
+use Rattle.laws.specs.Charged.{Charged, free, visit, after}
+use Rattle.laws.specs.Allowance.{Outcome, spent, left, within, onward, reply}
 use Rattle.drawing.specs.declared.refusal.Refusal.the-variants.{WorkLimitExceeded}
 use Rattle.drawing.specs.Entries.{SegmentColumns, segments}
 use Rattle.drawing.specs.Lengths.{SegmentsAgree}

@@ -78,9 +78,9 @@ along (r ∷ []) = free nothing
 along (r ∷ t ∷ l) = sweep (r ∷ t ∷ l)
 
 -- horizontal first, then vertical
-unfoldable pub walk : List Segment → Charged Figures
-walk l = after (along (oriented 1 l)) (λ f. after (along (oriented 0 l)) (λ g. free (lesserFigures f g)))
+unfoldable pub walkAll : List Segment → Charged Figures
+walkAll l = after (along (oriented 1 l)) (λ f. after (along (oriented 0 l)) (λ g. free (lesserFigures f g)))
 
 -- "Clearance and separation: the visits of the Rust's walk with no limit, its lists ordered as the departures say."
 unfoldable pub visitCount : List Segment → ℕ
-visitCount l = walk l .cost
+visitCount l = walkAll l .cost

@@ -5,7 +5,7 @@ ghost use Prim.Native.Nat.{_<_, _^_};
 ghost use lib.ListN.{length, drop};
 ghost use Rattle.laws.specs.Lists.{Mem};
 ghost use Rattle.laws.specs.Sort.{Sorted};
-ghost use Rattle.laws.specs.Charged.{within};
+ghost use Rattle.laws.specs.Allowance.{within};
 ghost use Rattle.drawing.specs.Entries.{segmentColumns, segments};
 ghost use Rattle.rows.specs.Rows.{Row, rowsInOrder, oriented};
 ghost use Rattle.rows.specs.Tables.{RowsOrdered};

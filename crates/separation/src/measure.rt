@@ -1,14 +1,14 @@
 // The separation measure by columns.
 ghost use mathlib.Core.Path.{_≡_};
 ghost use lib.ListN.{length};
-ghost use Rattle.laws.specs.Charged.{within};
+ghost use Rattle.laws.specs.Allowance.{within};
 ghost use Rattle.drawing.specs.declared.refusal.Check.the-variants.{Passed};
 ghost use Rattle.drawing.specs.Refusals.{firstOf, scratchAfter};
 ghost use Rattle.drawing.specs.Entries.{segmentColumns, segments};
 ghost use Rattle.drawing.specs.Checks.{separationConditions};
-ghost use Rattle.separation.specs.Walk.{lesserFigures, walk};
+ghost use Rattle.separation.specs.Walk.{lesserFigures, walkAll};
 ghost use Rattle.separation.specs.Sweeping.{metBy, sweptOf, Remains, Answers};
-ghost use Rattle.separation.specs.Answer.{separation};
+ghost use Rattle.separation.specs.Answer.{separationAnswer};
 use crate::along::sweep_along;
 use crate::report::ParallelSeparation;
 use crate::report::SeparationAnswer;
@@ -49,7 +49,7 @@ fn walk_segments(
     scratch: &mut [u64],
 ) -> Swept
     requires { ⌜ firstOf (separationConditions (segmentColumns (now net) (now orientation) (now fixed) (now start) (now end)) (length (now scratch))) ≡ Passed ⌝ }
-    ensures { λ r. ⌜ r ≡ sweptOf (within allowance (walk (segments (segmentColumns (now (net .entry)) (now (orientation .entry)) (now (fixed .entry)) (now (start .entry)) (now (end .entry)))))) ⌝ }
+    ensures { λ r. ⌜ r ≡ sweptOf (within allowance (walkAll (segments (segmentColumns (now (net .entry)) (now (orientation .entry)) (now (fixed .entry)) (now (start .entry)) (now (end .entry)))))) ⌝ }
 {
     let first = sweep_along(scratch, 1, net, orientation, fixed, start, end, allowance);
     let Swept::Went(across) = first else {
@@ -89,7 +89,7 @@ pub fn measure_parallel_separation_bounded(
     allowance: usize,
     scratch: &mut [u64],
 ) -> SeparationAnswer
-    ensures { λ r. ⌜ r ≡ separation (segmentColumns (now (net .entry)) (now (orientation .entry)) (now (fixed .entry)) (now (start .entry)) (now (end .entry))) allowance (length (now (scratch .entry))) ⌝ }
+    ensures { λ r. ⌜ r ≡ separationAnswer (segmentColumns (now (net .entry)) (now (orientation .entry)) (now (fixed .entry)) (now (start .entry)) (now (end .entry))) allowance (length (now (scratch .entry))) ⌝ }
     ensures { λ _. ⌜ now (scratch .exit) ≡ scratchAfter (firstOf (separationConditions (segmentColumns (now (net .entry)) (now (orientation .entry)) (now (fixed .entry)) (now (start .entry)) (now (end .entry))) (length (now (scratch .entry))))) (now (scratch .entry)) ⌝ }
 {
     let words = scratch.len();

@@ -4,7 +4,7 @@ ghost use mathlib.Core.List.{List, []};
 ghost use Prim.Native.Nat.{ℕ, _<_, _^_};
 ghost use lib.ListN.{length};
 ghost use Rattle.laws.specs.Lists.{Mem};
-ghost use Rattle.laws.specs.Charged.{within};
+ghost use Rattle.laws.specs.Allowance.{within};
 ghost use Rattle.rows.specs.Rows.{Row};
 ghost use Rattle.separation.specs.Lines.{lines, levels};
 ghost use Rattle.separation.specs.Walk.{sweep};

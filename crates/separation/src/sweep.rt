@@ -4,7 +4,7 @@ ghost use mathlib.Core.List.{List};
 ghost use mathlib.Core.Option.{Option};
 ghost use Prim.Native.Nat.{ℕ, _+_, _*_, _<_};
 ghost use lib.ListN.{length, getD, take};
-ghost use Rattle.laws.specs.Charged.{Outcome};
+ghost use Rattle.laws.specs.Allowance.{Outcome};
 ghost use Rattle.separation.specs.Searches.{searchOf};
 ghost use Rattle.separation.specs.Walk.{ownLine};
 ghost use Rattle.separation.specs.Sweeping.{metBy, sweptOf, WithinLines, joined, chargedTo, Lookable, Looks, Enterable, Leavable, Pays, Entered, TakenOut};

@@ -3,7 +3,7 @@ ghost use mathlib.Core.Path.{_≡_};
 ghost use mathlib.Core.Bool.{_||_};
 ghost use Prim.Native.Nat.{ℕ, _+_, _*_, _^_, _≤_, _<_};
 ghost use lib.ListN.{length};
-ghost use Rattle.laws.specs.Charged.{within};
+ghost use Rattle.laws.specs.Allowance.{within};
 ghost use Rattle.separation.specs.Lines.{levels};
 ghost use Rattle.separation.specs.Searches.{rightmost, leftmost, setRun, searchOf};
 ghost use Rattle.separation.specs.Summaries.{hasOther};

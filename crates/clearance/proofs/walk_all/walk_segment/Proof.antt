@@ -20,11 +20,11 @@ distance-requires c κs = search needs
 
 visit-segment-candidates-requires : tie.Need-visit-segment-candidates-requires
 unfolding segmentBox
-visit-segment-candidates-requires c κs = let h = c .before .before .before .before .before .before .pre .1 .0 in (walkable-whole (let a = c .before .before .before .before .before .before .args in record { net = a .net; orientation = a .orientation; fixed = a .fixed; start = a .start; end = a .end }) _ _ _ _ _ _ (c .before .before .before .before .before .before .pre .0) (c .before .before .before .from-segment .ensures) (c .before .bounds-of .ensures) (c .distance .ensures) (c .before .before .before .before .before .before .pre .1 .1), record { ex = h .ex; listed = listed-of _ _ _ _ (c .before .before .range-of .ensures) (h .ex) (h .holds) (h .count) })
+visit-segment-candidates-requires c κs = let h = c .before .before .before .before .before .before .pre .1 .0 in (walkable-whole (let a = c .before .before .before .before .before .before .args in record { net = a .net; orientation = a .orientation; fixed = a .fixed; start = a .start; end = a .end }) _ _ _ _ _ _ (c .before .before .before .before .before .before .pre .0) (c .before .before .before .from-segment .ensures) (c .before .bounds-of .ensures) (c .distance .ensures) (c .before .before .before .before .before .before .pre .1 .1), record { ex = h .ex; net = _; listed = listed-of _ _ _ _ (c .before .before .range-of .ensures) (h .ex) (h .holds) (h .count) })
 
 returns : tie.Need-returns
 unfolding segmentBox
-returns c = λ ex h e. c .visit-segment-candidates .ensures ex (listed-of _ _ _ _ (c .before .before .before .range-of .ensures) ex h e) (let a = c .before .before .before .before .before .before .before .args in record { net = a .net; orientation = a .orientation; fixed = a .fixed; start = a .start; end = a .end }) (sym (c .before .before .before .before .from-segment .ensures)) refl _ (omega arith)
+returns c = λ ex h e. c .visit-segment-candidates .ensures ex _ (listed-of _ _ _ _ (c .before .before .before .range-of .ensures) ex h e) (let a = c .before .before .before .before .before .before .before .args in record { net = a .net; orientation = a .orientation; fixed = a .fixed; start = a .start; end = a .end }) (sym (c .before .before .before .before .from-segment .ensures)) refl _ (omega arith)
 
 pub walk-segment-spec : {M : Type 1} → statement M
 walk-segment-spec =

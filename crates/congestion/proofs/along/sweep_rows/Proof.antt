@@ -2,7 +2,7 @@
 use borrow.Author.Needs.{needs}
 use Rattle.congestion.proofs.AlongWires.{rows-rangeable, rows-first}
 use Rattle.congestion.specs.Sweeping.{sweptOf}
-use Rattle.laws.specs.Charged.{within}
+use Rattle.laws.specs.Allowance.{within}
 use denote.Ref.{now}
 use mathlib.Core.Path.{ap, _∙_}
 use Rattle.congestion.proofs.along.sweep_rows.Statement.{statement}

@@ -9,7 +9,7 @@ use lib.ListN.{length}
 use Rattle.drawing.specs.Refusals.{firstOf, scratchAfter}
 use Rattle.drawing.specs.Entries.{nodeColumns, exemptionColumns, columnsOf}
 use Rattle.drawing.specs.Checks.{clearanceConditions}
-use Rattle.clearance.specs.Answer.{answer}
+use Rattle.clearance.specs.Answer.{clearanceAnswer}
 use Rattle.records.specs.Records.{ofEdgeNode}
 use Rattle.records.proofs.Deciding.{clearance-checked, clearance-decided}
 use Rattle.records.proofs.edge_node.measure_edge_node_clearance_bounded_by_records.Statement.{statement}
@@ -33,7 +33,7 @@ returns c =
     let nodes = nodeColumns (now (given .id)) (now (given .x)) (now (given .y)) (now (given .width)) (now (given .height)) in
     let exemptions = exemptionColumns (now (given .exempt-net)) (now (given .exempt-node)) in
     let entries = map ofEdgeNode (now (given .records)) in (
-      called .ensures .0 ∙ ap (λ l. answer (columnsOf l) nodes exemptions (given .threshold) (given .allowance) (length scratch)) lines ∙ clearance-decided entries nodes exemptions (given .threshold) (given .allowance) (length scratch),
+      called .ensures .0 ∙ ap (λ l. clearanceAnswer (columnsOf l) nodes exemptions (given .threshold) (given .allowance) (length scratch)) lines ∙ clearance-decided entries nodes exemptions (given .threshold) (given .allowance) (length scratch),
       called .ensures .1 ∙ ap (λ l. scratchAfter (firstOf (clearanceConditions (columnsOf l) nodes exemptions (given .threshold) (length scratch))) scratch) lines ∙ ap (λ k. scratchAfter k scratch) (clearance-checked entries (length scratch) nodes exemptions (given .threshold)),
     )
 

@@ -7,7 +7,7 @@ use lib.Seq.{length-take-le}
 use Rattle.drawing.specs.Refusals.{firstOf, scratchAfter}
 use Rattle.drawing.specs.Checks.{clearanceConditions}
 use Rattle.drawing.specs.Entries.{nodeColumns, exemptionColumns}
-use Rattle.clearance.specs.Answer.{answer}
+use Rattle.clearance.specs.Answer.{clearanceAnswer}
 use Rattle.records.proofs.LineColumns.{laid-out}
 use Rattle.records.proofs.of_lines.clearance_of_lines.Statement.{statement}
 use Rattle.records.proofs.of_lines.clearance_of_lines.Tie as tie
@@ -81,7 +81,7 @@ returns c =
     let laid = called .before .before .before .before .before .before .before .before .before .before .before .before in
     let begun = laid .before .before .before .before .before .before .before .before .before .before .before .before .before .before .before in
     let columns = laid-out _ (begun .args .n) _ (begun .args .lines) (laid .unpack .ensures) (laid .before .before .before .before .before .before .unpacked .ensures .0) (search needs) in (
-      called .measure-edge-node-clearance-bounded .ensures .0 ∙ ap (λ s. answer s (nodeColumns (now (begun .args .id)) (now (begun .args .x)) (now (begun .args .y)) (now (begun .args .width)) (now (begun .args .height))) (exemptionColumns (now (begun .args .exempt-net)) (now (begun .args .exempt-node))) (begun .args .threshold) (begun .args .allowance) (length (now (begun .args .scratch)))) columns,
+      called .measure-edge-node-clearance-bounded .ensures .0 ∙ ap (λ s. clearanceAnswer s (nodeColumns (now (begun .args .id)) (now (begun .args .x)) (now (begun .args .y)) (now (begun .args .width)) (now (begun .args .height))) (exemptionColumns (now (begun .args .exempt-net)) (now (begun .args .exempt-node))) (begun .args .threshold) (begun .args .allowance) (length (now (begun .args .scratch)))) columns,
       called .measure-edge-node-clearance-bounded .ensures .1 ∙ ap (λ s. scratchAfter (firstOf (clearanceConditions s (nodeColumns (now (begun .args .id)) (now (begun .args .x)) (now (begun .args .y)) (now (begun .args .width)) (now (begun .args .height))) (exemptionColumns (now (begun .args .exempt-net)) (now (begun .args .exempt-node))) (begun .args .threshold) (length (now (begun .args .scratch))))) (now (begun .args .scratch))) columns,
     )
 

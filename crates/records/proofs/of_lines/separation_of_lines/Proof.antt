@@ -6,7 +6,7 @@ use lib.ListN.{length}
 use lib.Seq.{length-take-le}
 use Rattle.drawing.specs.Refusals.{firstOf, scratchAfter}
 use Rattle.drawing.specs.Checks.{separationConditions}
-use Rattle.separation.specs.Answer.{separation}
+use Rattle.separation.specs.Answer.{separationAnswer}
 use Rattle.records.proofs.LineColumns.{laid-out}
 use Rattle.records.proofs.of_lines.separation_of_lines.Statement.{statement}
 use Rattle.records.proofs.of_lines.separation_of_lines.Tie as tie
@@ -80,7 +80,7 @@ returns c =
     let laid = called .before .before .before .before .before .before .before .before .before .before .before .before in
     let begun = laid .before .before .before .before .before .before .before .before in
     let columns = laid-out _ (begun .args .n) _ (begun .args .lines) (laid .unpack .ensures) (laid .before .before .before .before .before .before .unpacked .ensures .0) (search needs) in (
-      called .measure-parallel-separation-bounded .ensures .0 ∙ ap (λ s. separation s (begun .args .allowance) (length (now (begun .args .scratch)))) columns,
+      called .measure-parallel-separation-bounded .ensures .0 ∙ ap (λ s. separationAnswer s (begun .args .allowance) (length (now (begun .args .scratch)))) columns,
       called .measure-parallel-separation-bounded .ensures .1 ∙ ap (λ s. scratchAfter (firstOf (separationConditions s (length (now (begun .args .scratch))))) (now (begun .args .scratch))) columns,
     )
 

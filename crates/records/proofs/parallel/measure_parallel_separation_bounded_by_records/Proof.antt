@@ -9,7 +9,7 @@ use lib.ListN.{length}
 use Rattle.drawing.specs.Entries.{columnsOf}
 use Rattle.drawing.specs.Refusals.{firstOf, scratchAfter}
 use Rattle.drawing.specs.Checks.{separationConditions}
-use Rattle.separation.specs.Answer.{separation}
+use Rattle.separation.specs.Answer.{separationAnswer}
 use Rattle.records.specs.Records.{ofParallel}
 use Rattle.records.proofs.Deciding.{separation-checked, separation-decided}
 use Rattle.records.proofs.parallel.measure_parallel_separation_bounded_by_records.Statement.{statement}
@@ -31,7 +31,7 @@ returns c =
     let given = c .before .before .before .before .before .before .args in
     let scratch = now (given .scratch) in
     let entries = map ofParallel (now (given .records)) in (
-      called .ensures .0 ∙ ap (λ l. separation (columnsOf l) (given .allowance) (length scratch)) lines ∙ separation-decided entries (given .allowance) (length scratch),
+      called .ensures .0 ∙ ap (λ l. separationAnswer (columnsOf l) (given .allowance) (length scratch)) lines ∙ separation-decided entries (given .allowance) (length scratch),
       called .ensures .1 ∙ ap (λ l. scratchAfter (firstOf (separationConditions (columnsOf l) (length scratch))) scratch) lines ∙ ap (λ k. scratchAfter k scratch) (separation-checked entries (length scratch)),
     )
 
