@@ -112,6 +112,16 @@ pub(crate) fn look(
     with_search(fixed, line, above, half)
 }
 
+// The same gap, put together anew. A gap that is handed on as a whole takes the unused bytes between its tag and its float along, and every event would wait for those of the event before.
+fn anew(gap: Gap) -> Gap
+    ensures { λ r. ⌜ r ≡ gap ⌝ }
+{
+    match gap {
+        Gap::Absent => Gap::Absent,
+        Gap::Present(distance) => Gap::Present(distance),
+    }
+}
+
 // The figures, with what a `set` left of the allowance.
 fn after_charge(charge: Charge, state: Sweeping) -> Swept
     ensures { λ r. ⌜ r ≡ chargedTo state charge ⌝ }
@@ -121,9 +131,11 @@ fn after_charge(charge: Charge, state: Sweeping) -> Swept
     };
     let minimum = state.minimum;
     let positive = state.minimum_positive;
+    let least = anew(minimum);
+    let least_positive = anew(positive);
     Swept::Went(Sweeping {
-        minimum: minimum,
-        minimum_positive: positive,
+        minimum: least,
+        minimum_positive: least_positive,
         left: left,
     })
 }
