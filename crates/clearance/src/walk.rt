@@ -187,7 +187,7 @@ fn halve(words: &[u64], i: usize, n: usize, bounds: Aabb) -> Halves
     }
 }
 
-// The walk of a segment with the given box, whose net has the exemptions of the range, over the n leaves from leaf i on, whose box is at distance `lower`. The state comes by its fields, for the same reason as it is handed on by them.
+// The walk of a segment with the given box, whose net has the exemptions of the range, over the n leaves from leaf i on, whose box is at distance `lower`. The state comes by its fields (see `Walking`).
 pub(crate) fn visit_segment_candidates(
     words: &[u64],
     i: usize,
