@@ -19,8 +19,12 @@
  * the array has. It is aligned for its type and not null, for a length of 0 too,
  * where nothing is read or written through it. What a call writes (scratch, words
  * of the report, text) overlaps nothing else that it is given; columns may
- * overlap each other. No other condition is laid on the caller: a call ends for
- * all lengths and all numbers, and answers unfit ones by a status.
+ * overlap each other. The bool of a record holds 0 or 1, as C keeps it; take care
+ * where records are read from a file as bytes. The thread rounds floats as IEEE
+ * 754 does by default, to nearest and with subnormal numbers: code built with
+ * -ffast-math may have turned these off. No other condition is laid on the
+ * caller: a call ends for all lengths and all numbers, and answers unfit ones by
+ * a status.
  *
  * STATUS. A call returns 0 where it is accepted, or else the number of the
  * first refusal that applies, in the order of the numbers:

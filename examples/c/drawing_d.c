@@ -32,8 +32,8 @@ static const double threshold = 2;
 static const double cutoff = 6;
 
 /* Enough for every call. */
-static uint64_t scratch[READABILITY_SCRATCH_WORDS(SEGMENTS, NODES)];
 enum { SCRATCH_WORDS = READABILITY_SCRATCH_WORDS(SEGMENTS, NODES) };
+static uint64_t scratch[SCRATCH_WORDS];
 
 static void print_refusal(const char *measure, uint32_t status)
 {

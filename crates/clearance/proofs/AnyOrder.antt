@@ -13,7 +13,8 @@ use Rattle.laws.proofs.Perms.{perm-length, perm-count}
 use Rattle.floats.specs.TotalOrder.{keyOf}
 use Rattle.drawing.specs.Entries.{Segment, Node, Exemption}
 use Rattle.drawing.proofs.GapLaws.{least-gap-perm}
-use Rattle.drawing.proofs.ListOrders.{SegmentHeld, NodeHeld, segments-one-order, nodes-one-order}
+use Rattle.drawing.specs.Held.{SegmentHeld, NodeHeld}
+use Rattle.drawing.proofs.ListOrders.{segments-one-order, nodes-one-order}
 use Rattle.boxes.specs.Boxes.{segmentBox, distance}
 use Rattle.clearance.specs.Figures.{Figures, exempt, figures}
 use Rattle.clearance.specs.Tree.{Tree, bare, leaf, branch, boundsOf, indexed, build, treeOf}

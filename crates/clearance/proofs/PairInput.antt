@@ -20,7 +20,7 @@ use Rattle.drawing.specs.Conditions.{differ, unfitSegment, unfitNode}
 use Rattle.drawing.specs.Checks.{exemptionsDiffer, listConditions, entryConditions, tightPairConditions}
 use Rattle.drawing.proofs.EntryLaws.{length-segments, segments-at, length-nodes, nodes-at}
 use Rattle.drawing.proofs.FirstRefusal.{ListsPass, lists-pass, passed-head, first-no}
-use Rattle.drawing.proofs.ListOrders.{SegmentHeld, NodeHeld}
+use Rattle.drawing.specs.Held.{SegmentHeld, NodeHeld}
 use Rattle.clearance.specs.Exempting.{Rising, Gathered}
 use Rattle.drawing.proofs.Fit.{FitSegment, FitNode}
 

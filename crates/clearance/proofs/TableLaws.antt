@@ -22,7 +22,8 @@ use Rattle.drawing.specs.Entries.{Segment, SegmentColumns, NodeColumns, segment
 use Rattle.drawing.specs.Lengths.{SegmentsAgree}
 use Rattle.drawing.specs.Orders.{segmentRow, segmentsInOrder}
 use Rattle.drawing.proofs.EntryLaws.{length-segments, segments-at}
-use Rattle.drawing.proofs.ListOrders.{SegmentHeld, segment-row-one}
+use Rattle.drawing.specs.Held.{SegmentHeld}
+use Rattle.drawing.proofs.ListOrders.{segment-row-one}
 use Rattle.boxes.specs.declared.aabb.Aabb.{Aabb}
 use Rattle.boxes.specs.Boxes.{fromNode, nodeBox}
 use Rattle.clearance.specs.Tree.{IndexedNode, indexed, indexedRow}

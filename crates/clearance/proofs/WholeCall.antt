@@ -13,6 +13,7 @@ use lib.ListN.{length, take, drop, length-append, length-drop}
 use lib.Seq.{drop-at, take-append-le, length-take-le, drop-drop, take-take}
 use Rattle.laws.specs.Lists.{All}
 use Rattle.laws.specs.Charged.{Charged, free, after, runs}
+use Rattle.laws.specs.Sort.{sortBy}
 use Rattle.laws.specs.Allowance.{spent, left, within, reply}
 use Rattle.laws.proofs.Perms.{perm-eq}
 use Rattle.laws.proofs.Parts.{tail-lent, tail-back}
@@ -31,9 +32,9 @@ use Rattle.drawing.specs.Lengths.{SegmentsAgree, NodesAgree, ExemptionsAgree}
 use Rattle.drawing.specs.Conditions.{shortScratch}
 use Rattle.drawing.specs.Checks.{listConditions, clearanceConditions}
 use Rattle.drawing.specs.Orders.{segmentsInOrder, nodesInOrder}
-use Rattle.drawing.proofs.EntryLaws.{length-nodes, nodes-at}
+use Rattle.drawing.proofs.EntryLaws.{length-segments, length-nodes, nodes-at}
 use Rattle.drawing.proofs.FirstRefusal.{passed-head, few, segments-agree, nodes-agree}
-use Rattle.drawing.proofs.ListOrders.{NodeHeld}
+use Rattle.drawing.specs.Held.{NodeHeld}
 use Rattle.clearance.specs.declared.walk.Walking.{Walking}
 use Rattle.clearance.specs.declared.walk.Walked.{Walked}
 use Rattle.clearance.specs.declared.walk.Walked.the-variants.{Spent, Went}
@@ -106,6 +107,18 @@ unfolding gapOfFloat outcomeOf walkAll
 walked-none ex t ss n a h allowance least e =
     let tree = no-tree (nodes n) (length-nodes n a ∙ h) in
     rw e (sym (ap (within allowance) (ap (λ (z : Tree). runs (λ g s. walk ex t s z g) noFigures (segmentsInOrder ss)) tree ∙ runs-bare ex t noFigures (segmentsInOrder ss)) ∙ within-free allowance noFigures))
+
+-- ---- no segments: nothing to walk
+no-entries : {A : Type 0} (l : List A) → length l ≡ 0 → l ≡ []
+no-entries [] h = refl
+no-entries (x ∷ l) h = absurd (omega arith)
+
+pub walked-no-segment : (ex : List Exemption) (t : Float) (s : SegmentColumns) (ns : List Node) → SegmentsAgree s → length (s .net) ≡ 0 → (allowance : ℕ) (least : Float) → least ≡ nan
+    → outcomeOf (Went (record { least = least; violations = 0; left = allowance })) ≡ within allowance (walkAll ex t (segments s) ns)
+unfolding gapOfFloat outcomeOf walkAll segmentsInOrder sortBy runs
+walked-no-segment ex t s ns a h allowance least e =
+    let none = no-entries (segments s) (length-segments s a ∙ h) in
+    rw e (sym (ap (λ (l : List Segment). within allowance (walkAll ex t l ns)) none ∙ within-free allowance noFigures))
 
 -- ---- the tree in the scratch is the definition's, with the union of the children's boxes at each branch
 nodes-placed : (n : NodeColumns) → NodesAgree n → map (indexedAt n) (upTo (length (n .id))) ≡ map indexed (nodes n)

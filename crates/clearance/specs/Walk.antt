@@ -26,7 +26,7 @@ unfoldable pub withPair : Bool → Float → Float → Figures → Figures
 withPair true threshold d g = g
 withPair false threshold d g = record { least = lesserGap (g .least) (Present d); violations = g .violations + bit (lt d threshold) }
 
--- the walk of one segment over a tree, from the figures so far, with a threshold of its own:
+-- the walk of one segment over a tree, from the figures so far:
 -- "A leaf costs one visit when reached and not pruned, exempt pairs included."
 -- "The nearer child is walked first, the left one on a tie": the distances by totalOrder, as the Rust compares them.
 unfoldable pub walk : List Exemption → Float → Segment → Tree → Figures → Charged Figures

@@ -38,11 +38,12 @@ pub(crate) fn gather(words: &mut [u64], exempt_net: &[u32], exempt_node: &[u32])
     sort_indices(words, k, k, 0);
 }
 
-// The first place from a on, and before b, whose word is at least v; b where there is none. It is one of the n places from `at` on, or the place behind them.
-pub(crate) fn first_at_least(words: &[u64], a: usize, b: usize, v: u64) -> usize
+// The first place from a on, and before b, whose word is at least v; b where there is none.
+fn first_at_least(words: &[u64], a: usize, b: usize, v: u64) -> usize
     requires { ⌜ (a ≤ b) × (b ≤ length (now words)) × Ascending (wordAt (now words)) a b ⌝ }
     ensures { λ r. ⌜ Bound (wordAt (now (words .entry))) a b v r ⌝ }
 {
+    // it is one of the n places from `at` on, or the place behind them
     let mut at = a;
     let mut n = b - a;
     while 0 < n {

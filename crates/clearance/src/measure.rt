@@ -6,6 +6,7 @@ ghost use Rattle.drawing.specs.declared.refusal.Check.the-variants.{Passed};
 ghost use Rattle.drawing.specs.Refusals.{firstOf, scratchAfter};
 ghost use Rattle.drawing.specs.Entries.{segmentColumns, nodeColumns, exemptionColumns, segments, nodes, exemptions};
 ghost use Rattle.drawing.specs.Checks.{clearanceConditions};
+ghost use Rattle.drawing.specs.Held.{Binary64, SegmentsHeld, NodesHeld};
 ghost use Rattle.clearance.specs.Walk.{walkAll};
 ghost use Rattle.clearance.specs.Walking.{gapOfFloat, outcomeOf, Remains, Answers};
 ghost use Rattle.clearance.specs.Answer.{clearanceAnswer};
@@ -25,7 +26,7 @@ use drawing::check_clearance;
 use drawing::clear;
 
 // The walks of all segments of a fit drawing. The scratch holds 6 words for each segment, for their order, and behind them 20 for each node, for the tree.
-fn walk_drawing(
+fn walk_segments(
     net: &[u32],
     orientation: &[u8],
     fixed: &[f64],
@@ -71,6 +72,53 @@ fn walk_drawing(
         &packed,
         exempt_net.len(),
         allowance,
+    )
+}
+
+// The same, with nothing put in order where there is no segment.
+fn walk_drawing(
+    net: &[u32],
+    orientation: &[u8],
+    fixed: &[f64],
+    start: &[f64],
+    end: &[f64],
+    id: &[u32],
+    x: &[f64],
+    y: &[f64],
+    width: &[f64],
+    height: &[f64],
+    exempt_net: &[u32],
+    exempt_node: &[u32],
+    threshold: f64,
+    allowance: usize,
+    scratch: &mut [u64],
+) -> Walked
+    requires { ⌜ firstOf (clearanceConditions (segmentColumns (now net) (now orientation) (now fixed) (now start) (now end)) (nodeColumns (now id) (now x) (now y) (now width) (now height)) (exemptionColumns (now «exempt_net») (now «exempt_node»)) threshold (length (now scratch))) ≡ Passed ⌝ }
+    ensures { λ r. ⌜ outcomeOf r ≡ within allowance (walkAll (exemptions (exemptionColumns (now («exempt_net» .entry)) (now («exempt_node» .entry)))) threshold (segments (segmentColumns (now (net .entry)) (now (orientation .entry)) (now (fixed .entry)) (now (start .entry)) (now (end .entry)))) (nodes (nodeColumns (now (id .entry)) (now (x .entry)) (now (y .entry)) (now (width .entry)) (now (height .entry))))) ⌝ }
+{
+    if net.len() == 0 {
+        return Walked::Went(Walking {
+            least: no_distance(),
+            violations: 0,
+            left: allowance,
+        });
+    }
+    walk_segments(
+        net,
+        orientation,
+        fixed,
+        start,
+        end,
+        id,
+        x,
+        y,
+        width,
+        height,
+        exempt_net,
+        exempt_node,
+        threshold,
+        allowance,
+        scratch,
     )
 }
 
@@ -120,6 +168,7 @@ pub fn measure_edge_node_clearance_bounded(
 ) -> ClearanceAnswer
     ensures { λ r. ⌜ r ≡ clearanceAnswer (segmentColumns (now (net .entry)) (now (orientation .entry)) (now (fixed .entry)) (now (start .entry)) (now (end .entry))) (nodeColumns (now (id .entry)) (now (x .entry)) (now (y .entry)) (now (width .entry)) (now (height .entry))) (exemptionColumns (now («exempt_net» .entry)) (now («exempt_node» .entry))) threshold allowance (length (now (scratch .entry))) ⌝ }
     ensures { λ _. ⌜ now (scratch .exit) ≡ scratchAfter (firstOf (clearanceConditions (segmentColumns (now (net .entry)) (now (orientation .entry)) (now (fixed .entry)) (now (start .entry)) (now (end .entry))) (nodeColumns (now (id .entry)) (now (x .entry)) (now (y .entry)) (now (width .entry)) (now (height .entry))) (exemptionColumns (now («exempt_net» .entry)) (now («exempt_node» .entry))) threshold (length (now (scratch .entry))))) (now (scratch .entry)) ⌝ }
+    ensures { λ _. ⌜ (firstOf (clearanceConditions (segmentColumns (now (net .entry)) (now (orientation .entry)) (now (fixed .entry)) (now (start .entry)) (now (end .entry))) (nodeColumns (now (id .entry)) (now (x .entry)) (now (y .entry)) (now (width .entry)) (now (height .entry))) (exemptionColumns (now («exempt_net» .entry)) (now («exempt_node» .entry))) threshold (length (now (scratch .entry)))) ≡ Passed → SegmentsHeld (segmentColumns (now (net .entry)) (now (orientation .entry)) (now (fixed .entry)) (now (start .entry)) (now (end .entry))) × NodesHeld (nodeColumns (now (id .entry)) (now (x .entry)) (now (y .entry)) (now (width .entry)) (now (height .entry))) × Binary64 threshold) ⌝ }
 {
     let words = scratch.len();
     let check = check_clearance(

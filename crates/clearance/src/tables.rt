@@ -15,7 +15,7 @@ use sorting::fill_places;
 use sorting::sort_indices;
 
 // Five words from `at` on.
-pub(crate) fn put_row(s: &mut [u64], at: usize, a: u64, b: u64, c: u64, d: u64, e: u64)
+fn put_row(s: &mut [u64], at: usize, a: u64, b: u64, c: u64, d: u64, e: u64)
     requires { ⌜ at + 5 ≤ length (now s) ⌝ }
     ensures { λ _. ⌜ now (s .exit) ≡ paste (now (s .entry)) at (a ∷ b ∷ c ∷ d ∷ e ∷ []) 5 ⌝ }
 {
@@ -90,7 +90,7 @@ pub(crate) fn fill_node_tables(
 }
 
 // The segments' rows, from `at` on: net, orientation byte and the keys of fixed, start and end.
-pub(crate) fn fill_segment_table(
+fn fill_segment_table(
     s: &mut [u64],
     at: usize,
     net: &[u32],

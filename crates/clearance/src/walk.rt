@@ -144,14 +144,14 @@ fn handed_on(walked: Walked) -> Walked
 }
 
 // A part of the tree: its first leaf, how many leaves it has, and how far its box is.
-pub(crate) struct Subtree {
+struct Subtree {
     pub first: usize,
     pub count: usize,
     pub lower: f64,
 }
 
 // The two halves of a part, in the order in which they are walked.
-pub(crate) struct Halves {
+struct Halves {
     pub nearer: Subtree,
     pub farther: Subtree,
 }

@@ -23,7 +23,7 @@ use Rattle.floats.proofs.Units.{add-units}
 use Rattle.drawing.specs.declared.gap.Gap.{Gap}
 use Rattle.drawing.specs.Entries.{Segment}
 use Rattle.drawing.specs.Gaps.{lesserGap}
-use Rattle.drawing.proofs.ListOrders.{SegmentHeld}
+use Rattle.drawing.specs.Held.{SegmentHeld}
 use Rattle.rows.specs.Rows.{oriented}
 use Rattle.congestion.specs.declared.report.ParallelCongestion.{ParallelCongestion}
 use Rattle.congestion.specs.declared.run.Found.{Found}

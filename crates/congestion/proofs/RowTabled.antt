@@ -24,7 +24,7 @@ use Rattle.floats.proofs.NumberKeys.{float-back, canonical-key}
 use Rattle.floats.proofs.Units.{canonical-grid, lt-units, unit-one, grid-num}
 use Rattle.floats.proofs.Zeros.{canonical-again}
 use Rattle.drawing.specs.Entries.{Segment}
-use Rattle.drawing.proofs.ListOrders.{SegmentHeld}
+use Rattle.drawing.specs.Held.{SegmentHeld}
 use Rattle.rows.specs.Rows.{fixedOf, startOf, endOf, Row, rowOf, eventsFrom, moment, eventsInOrder, ends, starts}
 use Rattle.rows.specs.Rows as rows
 use Rattle.rows.specs.Tables.{noRow, rowFrom, eventFrom, column}

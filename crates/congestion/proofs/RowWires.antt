@@ -20,7 +20,7 @@ use Rattle.floats.specs.Grid.{unit}
 use Rattle.floats.proofs.NumberKeys.{float-back}
 use Rattle.floats.proofs.Units.{canonical-unit}
 use Rattle.drawing.specs.Entries.{Segment}
-use Rattle.drawing.proofs.ListOrders.{SegmentHeld}
+use Rattle.drawing.specs.Held.{SegmentHeld}
 use Rattle.rows.specs.Rows.{fixedOf, startOf, endOf, Row, rowOf, rowsInOrder, oriented}
 use Rattle.rows.proofs.Oriented.{list-order-idle}
 use Rattle.congestion.specs.Wires.{Wire, wireOf}

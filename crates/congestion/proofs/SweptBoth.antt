@@ -26,7 +26,7 @@ use Rattle.drawing.specs.Checks.{separationConditions, congestionConditions}
 use Rattle.drawing.specs.Refusals.{firstOf}
 use Rattle.drawing.proofs.EntryLaws.{length-segments}
 use Rattle.drawing.proofs.FirstRefusal.{passed-head}
-use Rattle.drawing.proofs.ListOrders.{SegmentHeld}
+use Rattle.drawing.specs.Held.{SegmentHeld}
 use Rattle.rows.proofs.Oriented.{mem-oriented}
 use Rattle.congestion.specs.declared.run.Swept.the-variants.{Went}
 use Rattle.congestion.specs.Wires.{wireOf, cutoffOf}

@@ -7,6 +7,7 @@ ghost use Rattle.drawing.specs.Refusals.{firstOf, scratchAfter};
 ghost use Rattle.drawing.specs.Entries.{segmentColumns, segments};
 ghost use Rattle.drawing.specs.Lengths.{SegmentsAgree};
 ghost use Rattle.drawing.specs.Checks.{congestionConditions};
+ghost use Rattle.drawing.specs.Held.{Binary64, SegmentsHeld};
 ghost use Rattle.congestion.specs.Profile.{allPairs};
 ghost use Rattle.congestion.specs.Rounded.{roundedTotal};
 ghost use Rattle.congestion.specs.Measuring.{foundOf, togetherOf, Remains, Answers, plainly};
@@ -148,6 +149,7 @@ pub fn measure_parallel_density_profile_bounded(
 ) -> CongestionAnswer
     ensures { λ r. ⌜ r ≡ densityAnswer (segmentColumns (now (net .entry)) (now (orientation .entry)) (now (fixed .entry)) (now (start .entry)) (now (end .entry))) cutoff allowance (length (now (scratch .entry))) ⌝ }
     ensures { λ _. ⌜ now (scratch .exit) ≡ scratchAfter (firstOf (congestionConditions (segmentColumns (now (net .entry)) (now (orientation .entry)) (now (fixed .entry)) (now (start .entry)) (now (end .entry))) cutoff (length (now (scratch .entry))))) (now (scratch .entry)) ⌝ }
+    ensures { λ _. ⌜ (firstOf (congestionConditions (segmentColumns (now (net .entry)) (now (orientation .entry)) (now (fixed .entry)) (now (start .entry)) (now (end .entry))) cutoff (length (now (scratch .entry)))) ≡ Passed → SegmentsHeld (segmentColumns (now (net .entry)) (now (orientation .entry)) (now (fixed .entry)) (now (start .entry)) (now (end .entry))) × Binary64 cutoff) ⌝ }
 {
     let words = scratch.len();
     let check = check_congestion(net, orientation, fixed, start, end, cutoff, words);
@@ -203,6 +205,7 @@ pub fn measure_parallel_congestion_profile_bounded(
 ) -> CongestionAnswer
     ensures { λ r. ⌜ r ≡ profileAnswer (segmentColumns (now (net .entry)) (now (orientation .entry)) (now (fixed .entry)) (now (start .entry)) (now (end .entry))) cutoff allowance (length (now (scratch .entry))) ⌝ }
     ensures { λ _. ⌜ now (scratch .exit) ≡ scratchAfter (firstOf (congestionConditions (segmentColumns (now (net .entry)) (now (orientation .entry)) (now (fixed .entry)) (now (start .entry)) (now (end .entry))) cutoff (length (now (scratch .entry))))) (now (scratch .entry)) ⌝ }
+    ensures { λ _. ⌜ (firstOf (congestionConditions (segmentColumns (now (net .entry)) (now (orientation .entry)) (now (fixed .entry)) (now (start .entry)) (now (end .entry))) cutoff (length (now (scratch .entry)))) ≡ Passed → SegmentsHeld (segmentColumns (now (net .entry)) (now (orientation .entry)) (now (fixed .entry)) (now (start .entry)) (now (end .entry))) × Binary64 cutoff) ⌝ }
 {
     let answer = measure_parallel_density_profile_bounded(
         net,
@@ -217,7 +220,7 @@ pub fn measure_parallel_congestion_profile_bounded(
     without_density(answer)
 }
 
-// No drawing takes as many visits as there are words: the allowance always reaches.
+// No drawing takes 2^64 - 1 visits, so that this allowance always reaches.
 pub fn measure_parallel_congestion(
     net: &[u32],
     orientation: &[u8],
@@ -229,6 +232,7 @@ pub fn measure_parallel_congestion(
 ) -> CongestionAnswer
     ensures { λ r. ⌜ r ≡ congestionAnswer (segmentColumns (now (net .entry)) (now (orientation .entry)) (now (fixed .entry)) (now (start .entry)) (now (end .entry))) cutoff (length (now (scratch .entry))) ⌝ }
     ensures { λ _. ⌜ now (scratch .exit) ≡ scratchAfter (firstOf (congestionConditions (segmentColumns (now (net .entry)) (now (orientation .entry)) (now (fixed .entry)) (now (start .entry)) (now (end .entry))) cutoff (length (now (scratch .entry))))) (now (scratch .entry)) ⌝ }
+    ensures { λ _. ⌜ (firstOf (congestionConditions (segmentColumns (now (net .entry)) (now (orientation .entry)) (now (fixed .entry)) (now (start .entry)) (now (end .entry))) cutoff (length (now (scratch .entry)))) ≡ Passed → SegmentsHeld (segmentColumns (now (net .entry)) (now (orientation .entry)) (now (fixed .entry)) (now (start .entry)) (now (end .entry))) × Binary64 cutoff) ⌝ }
 {
     measure_parallel_density_profile_bounded(
         net,

@@ -107,6 +107,10 @@ lists-pass s n x e =
     let g = passed-head _ _ _ (f .1) in
     record { segments = segments-agree s (a .0); nodes = nodes-agree n (b .0); few-segments = few _ (d .0); few-nodes = few _ (f .0); few-exemptions = few _ (g .0) }
 
+-- what is refused does not pass
+pub not-passed : {A : Type 0} (k c : Check) (r : Refusal) → c ≡ k → c ≡ Refused r → k ≡ Passed → A
+not-passed k c r h g e = clash true refl (ap is-passed (sym e ∙ sym h ∙ g))
+
 -- ---- the scratch at exit, from what a call's checks said
 pub refused-scratch : (k c : Check) (r : Refusal) (l : List ℕ) → c ≡ k → c ≡ Refused r → l ≡ scratchAfter k l
 unfolding scratchAfter

@@ -12,7 +12,7 @@ use Rattle.floats.specs.Values.{plusZero}
 use Rattle.floats.proofs.Rank.{Num, Fin, fin-num}
 use Rattle.drawing.specs.Entries.{Segment, Node}
 use Rattle.drawing.specs.Conditions.{unfitLine, unfitSegment, unfitExtent, unfitNode, unfitThreshold}
-use Rattle.drawing.proofs.ListOrders.{SegmentHeld, NodeHeld}
+use Rattle.drawing.specs.Held.{SegmentHeld, NodeHeld}
 
 -- ---- fit entries: binary64 holds their floats, and the conditions of refusal 5 do not hold of them
 pub record FitSegment (s : Segment) : Type 0 where

@@ -3,8 +3,6 @@ use mathlib.Core.Path.{_≡_, sym, ap, subst}
 use mathlib.Core.List.{List, [], _∷_}
 use Prim.Native.Nat.{ℕ}
 use native.Mathlib.Omega.{arith}
-use lib.Dec.{T}
-use lib.Ieee.{binary64, fits}
 use Rattle.laws.specs.Lists.{All}
 use Rattle.laws.specs.Perm.{Perm}
 use Rattle.laws.specs.Rows.{rowLe}
@@ -14,20 +12,9 @@ use Rattle.laws.proofs.Sorting.{sort-same, sort-perm}
 use Rattle.floats.proofs.NumberKeys.{key-of-one}
 use Rattle.drawing.specs.Entries.{Segment, Node, SegmentColumns, segments, segmentAt}
 use Rattle.drawing.specs.Lengths.{SegmentsAgree}
+use Rattle.drawing.specs.Held.{Binary64, SegmentHeld, NodeHeld, SegmentsHeld}
 use Rattle.drawing.specs.Orders.{segmentRow, nodeRow, segmentsInOrder, nodesInOrder}
 use Rattle.drawing.proofs.EntryLaws.{length-segments, segments-at}
-
--- the floats of an entry are binary64's, as those of every lent column are
-pub record SegmentHeld (s : Segment) : Type 0 where
-  pub fixed : T (fits binary64 (s .fixed))
-  pub start : T (fits binary64 (s .start))
-  pub end : T (fits binary64 (s .end))
-
-pub record NodeHeld (n : Node) : Type 0 where
-  pub x : T (fits binary64 (n .x))
-  pub y : T (fits binary64 (n .y))
-  pub width : T (fits binary64 (n .width))
-  pub height : T (fits binary64 (n .height))
 
 abbrev head : List ℕ → ℕ
 head [] = 0
@@ -78,5 +65,5 @@ nodes-in-order-perm l = sort-perm (λ a b. rowLe (nodeRow a) (nodeRow b)) l
 pub segments-all : (P : Segment → Type 0) (c : SegmentColumns) → SegmentsAgree c → ((i : ℕ) → P (segmentAt c i)) → All P (segments c)
 segments-all P c a h = at-all P (segmentAt c 0) (segments c) (λ k b. subst P (sym (segments-at c a (segmentAt c 0) k (omega (arith, length-segments c a)))) (h k))
 
-pub segments-held : (c : SegmentColumns) → SegmentsAgree c → ((i : ℕ) → T (fits binary64 (segmentAt c i .fixed))) → ((i : ℕ) → T (fits binary64 (segmentAt c i .start))) → ((i : ℕ) → T (fits binary64 (segmentAt c i .end))) → All SegmentHeld (segments c)
+pub segments-held : (c : SegmentColumns) → SegmentsAgree c → ((i : ℕ) → Binary64 (segmentAt c i .fixed)) → ((i : ℕ) → Binary64 (segmentAt c i .start)) → ((i : ℕ) → Binary64 (segmentAt c i .end)) → SegmentsHeld c
 segments-held c a f b e = segments-all SegmentHeld c a (λ i. record { fixed = f i; start = b i; end = e i })

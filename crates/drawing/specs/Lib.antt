@@ -5,5 +5,6 @@ pub mod Conditions
 pub mod Checks
 pub mod Orders
 pub mod Gaps
+pub mod Held
 -- what only private contracts cite
 pub mod Lengths

@@ -13,7 +13,7 @@ use clearance::measure_edge_node_clearance_bounded;
 use drawing::number;
 
 // 0 where the call was accepted, else the refusal's number.
-pub(crate) fn clearance_status(told: ClearanceAnswer) -> u32
+fn clearance_status(told: ClearanceAnswer) -> u32
     ensures { λ r. ⌜ r ≡ resultOf told .0 ⌝ }
 {
     match told {
@@ -23,7 +23,7 @@ pub(crate) fn clearance_status(told: ClearanceAnswer) -> u32
 }
 
 // The report: the gap's two words, violations, visits. Zeros at a refusal.
-pub(crate) fn clearance_words(told: ClearanceAnswer) -> [u64; 4]
+fn clearance_words(told: ClearanceAnswer) -> [u64; 4]
     ensures { λ r. ⌜ r ≡ clearanceWords (resultOf told .1) ⌝ }
 {
     let ClearanceAnswer::Report(report) = told else {
@@ -36,6 +36,15 @@ pub(crate) fn clearance_words(told: ClearanceAnswer) -> [u64; 4]
         report.violations as u64,
         report.visits as u64,
     ]
+}
+
+// Writes the words of the report, and answers the status.
+pub(crate) fn tell_clearance(told: ClearanceAnswer, out: &mut [u64; 4]) -> u32
+    ensures { λ r. ⌜ r ≡ resultOf told .0 ⌝ }
+    ensures { λ _. ⌜ now (out .exit) ≡ clearanceWords (resultOf told .1) ⌝ }
+{
+    *out = clearance_words(told);
+    clearance_status(told)
 }
 
 #[no_mangle]
@@ -78,6 +87,5 @@ pub extern "C" fn readability_clearance(
         allowance,
         scratch,
     );
-    *out = clearance_words(told);
-    clearance_status(told)
+    tell_clearance(told, out)
 }

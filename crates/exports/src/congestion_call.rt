@@ -18,7 +18,7 @@ use drawing::number;
 use floats::bits_of;
 
 // 0 where the call was accepted, else the refusal's number.
-pub(crate) fn congestion_status(told: CongestionAnswer) -> u32
+fn congestion_status(told: CongestionAnswer) -> u32
     ensures { λ r. ⌜ r ≡ resultOf told .0 ⌝ }
 {
     match told {
@@ -28,7 +28,7 @@ pub(crate) fn congestion_status(told: CongestionAnswer) -> u32
 }
 
 // The report: the bits of the three lengths, the peak, the gap's two words, visits. Zeros at a refusal.
-pub(crate) fn congestion_words(told: CongestionAnswer) -> [u64; 7]
+fn congestion_words(told: CongestionAnswer) -> [u64; 7]
     ensures { λ r. ⌜ r ≡ congestionWords (resultOf told .1) ⌝ }
 {
     let CongestionAnswer::Report(report) = told else {
@@ -45,6 +45,15 @@ pub(crate) fn congestion_words(told: CongestionAnswer) -> [u64; 7]
         bits_word(least),
         report.visits as u64,
     ]
+}
+
+// Writes the words of the report, and answers the status.
+pub(crate) fn tell_congestion(told: CongestionAnswer, out: &mut [u64; 7]) -> u32
+    ensures { λ r. ⌜ r ≡ resultOf told .0 ⌝ }
+    ensures { λ _. ⌜ now (out .exit) ≡ congestionWords (resultOf told .1) ⌝ }
+{
+    *out = congestion_words(told);
+    congestion_status(told)
 }
 
 // The density profile: all figures, within an allowance.
@@ -74,8 +83,7 @@ pub extern "C" fn readability_density_profile(
         allowance,
         scratch,
     );
-    *out = congestion_words(told);
-    congestion_status(told)
+    tell_congestion(told, out)
 }
 
 // The congestion profile: the same with pair overlap and peak zero.
@@ -105,8 +113,7 @@ pub extern "C" fn readability_congestion_profile(
         allowance,
         scratch,
     );
-    *out = congestion_words(told);
-    congestion_status(told)
+    tell_congestion(told, out)
 }
 
 // All figures, without an allowance.
@@ -126,8 +133,7 @@ pub extern "C" fn readability_congestion(
     ensures { λ _. ⌜ now (scratch .exit) ≡ scratchAfter (firstOf (congestionConditions (segmentColumns (now (net .entry)) (now (orientation .entry)) (now (fixed .entry)) (now (start .entry)) (now (end .entry))) cutoff (length (now (scratch .entry))))) (now (scratch .entry)) ⌝ }
 {
     let told = measure_parallel_congestion(net, orientation, fixed, start, end, cutoff, scratch);
-    *out = congestion_words(told);
-    congestion_status(told)
+    tell_congestion(told, out)
 }
 
 // The ratio takes nothing from the two figures that are left at zero.

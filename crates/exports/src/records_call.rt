@@ -9,14 +9,9 @@ ghost use Rattle.congestion.specs.Answer as Congestion;
 ghost use Rattle.clearance.specs.Answer as Clearance;
 ghost use Rattle.records.specs.Records.{parallelColumns, edgeNodeColumns};
 ghost use Rattle.exports.specs.Told.{separationWords, congestionWords, clearanceWords};
-use crate::clearance_call::clearance_status;
-use crate::clearance_call::clearance_words;
-use crate::congestion_call::congestion_status;
-use crate::congestion_call::congestion_words;
-use crate::separation_call::separation_status;
-use crate::separation_call::separation_words;
-use clearance::ClearanceAnswer;
-use congestion::CongestionAnswer;
+use crate::clearance_call::tell_clearance;
+use crate::congestion_call::tell_congestion;
+use crate::separation_call::tell_separation;
 use records::EdgeNodeSegment;
 use records::ParallelSegment;
 use records::measure_edge_node_clearance_bounded_by_records;
@@ -24,15 +19,6 @@ use records::measure_parallel_congestion_by_records;
 use records::measure_parallel_congestion_profile_bounded_by_records;
 use records::measure_parallel_density_profile_bounded_by_records;
 use records::measure_parallel_separation_bounded_by_records;
-use separation::SeparationAnswer;
-
-fn tell_separation(told: SeparationAnswer, out: &mut [u64; 5]) -> u32
-    ensures { λ r. ⌜ r ≡ Separation.resultOf told .0 ⌝ }
-    ensures { λ _. ⌜ now (out .exit) ≡ separationWords (Separation.resultOf told .1) ⌝ }
-{
-    *out = separation_words(told);
-    separation_status(told)
-}
 
 #[no_mangle]
 pub extern "C" fn readability_separation_by_records(
@@ -47,14 +33,6 @@ pub extern "C" fn readability_separation_by_records(
 {
     let told = measure_parallel_separation_bounded_by_records(records, allowance, scratch);
     tell_separation(told, out)
-}
-
-fn tell_congestion(told: CongestionAnswer, out: &mut [u64; 7]) -> u32
-    ensures { λ r. ⌜ r ≡ Congestion.resultOf told .0 ⌝ }
-    ensures { λ _. ⌜ now (out .exit) ≡ congestionWords (Congestion.resultOf told .1) ⌝ }
-{
-    *out = congestion_words(told);
-    congestion_status(told)
 }
 
 #[no_mangle]
@@ -112,14 +90,6 @@ pub extern "C" fn readability_congestion_by_records(
 {
     let told = measure_parallel_congestion_by_records(records, cutoff, scratch);
     tell_congestion(told, out)
-}
-
-fn tell_clearance(told: ClearanceAnswer, out: &mut [u64; 4]) -> u32
-    ensures { λ r. ⌜ r ≡ Clearance.resultOf told .0 ⌝ }
-    ensures { λ _. ⌜ now (out .exit) ≡ clearanceWords (Clearance.resultOf told .1) ⌝ }
-{
-    *out = clearance_words(told);
-    clearance_status(told)
 }
 
 #[no_mangle]

@@ -13,7 +13,7 @@ use separation::SeparationAnswer;
 use separation::measure_parallel_separation_bounded;
 
 // 0 where the call was accepted, else the refusal's number.
-pub(crate) fn separation_status(told: SeparationAnswer) -> u32
+fn separation_status(told: SeparationAnswer) -> u32
     ensures { λ r. ⌜ r ≡ resultOf told .0 ⌝ }
 {
     match told {
@@ -23,7 +23,7 @@ pub(crate) fn separation_status(told: SeparationAnswer) -> u32
 }
 
 // The report: the two words of each gap, visits. Zeros at a refusal.
-pub(crate) fn separation_words(told: SeparationAnswer) -> [u64; 5]
+fn separation_words(told: SeparationAnswer) -> [u64; 5]
     ensures { λ r. ⌜ r ≡ separationWords (resultOf told .1) ⌝ }
 {
     let SeparationAnswer::Report(report) = told else {
@@ -38,6 +38,15 @@ pub(crate) fn separation_words(told: SeparationAnswer) -> [u64; 5]
         bits_word(positive),
         report.visits as u64,
     ]
+}
+
+// Writes the words of the report, and answers the status.
+pub(crate) fn tell_separation(told: SeparationAnswer, out: &mut [u64; 5]) -> u32
+    ensures { λ r. ⌜ r ≡ resultOf told .0 ⌝ }
+    ensures { λ _. ⌜ now (out .exit) ≡ separationWords (resultOf told .1) ⌝ }
+{
+    *out = separation_words(told);
+    separation_status(told)
 }
 
 #[no_mangle]
@@ -64,6 +73,5 @@ pub extern "C" fn readability_separation(
         allowance,
         scratch,
     );
-    *out = separation_words(told);
-    separation_status(told)
+    tell_separation(told, out)
 }

@@ -14,8 +14,8 @@ use Rattle.laws.specs.Lists.{some-of}
 use Rattle.laws.proofs.Tests.{le-or-lt, decide, cond-true, cond-false}
 use Rattle.drawing.specs.declared.refusal.Refusal.{Refusal}
 use Rattle.drawing.specs.declared.refusal.Refusal.the-variants.{MalformedFile, TooManyEntries}
-use Rattle.file.specs.declared.reading.Counted.{Counted}
-use Rattle.file.specs.declared.reading.Counted.the-variants.{Entries, Refused}
+use Rattle.file.specs.declared.scan.Counted.{Counted}
+use Rattle.file.specs.declared.scan.Counted.the-variants.{Entries, Refused}
 use Rattle.file.specs.Reading.{Read, got, refused, bigEndian, number, entries, counted}
 use Rattle.file.specs.Places.{places, countOf}
 use Rattle.file.proofs.Fixed.{Fixed, then-got, then-refused, fixed-number, fixed-entries}

@@ -13,8 +13,8 @@ use Rattle.laws.specs.Lists.{some-of}
 use Rattle.laws.proofs.Tests.{le-or-lt}
 use Rattle.drawing.specs.declared.refusal.Refusal.{Refusal}
 use Rattle.drawing.specs.declared.refusal.Refusal.the-variants.{MalformedFile}
-use Rattle.file.specs.declared.reading.Counted.{Counted}
-use Rattle.file.specs.declared.reading.Counted.the-variants.{Entries, Refused}
+use Rattle.file.specs.declared.scan.Counted.{Counted}
+use Rattle.file.specs.declared.scan.Counted.the-variants.{Entries, Refused}
 use Rattle.file.specs.declared.reading.Header.{Header}
 use Rattle.file.specs.declared.reading.Reading.the-variants as answers
 use Rattle.file.specs.Reading.{got, refused, number, version, counted, segment, node, exemption, Drawing, parts, ended, read}

@@ -2,8 +2,8 @@
 use mathlib.Core.List.{List, [], _∷_}
 use Prim.Native.Nat.{ℕ, zero, suc, _+_, _*_, _≤_, _<_}
 use lib.ListN.{length, drop}
-use Rattle.file.specs.declared.reading.Counted.{Counted}
-use Rattle.file.specs.declared.reading.Counted.the-variants as answers
+use Rattle.file.specs.declared.scan.Counted.{Counted}
+use Rattle.file.specs.declared.scan.Counted.the-variants as answers
 use Rattle.file.specs.Reading.{Read, got, refused}
 
 -- the bytes from each of n places on, the first place in front and each other so many bytes behind the one before it

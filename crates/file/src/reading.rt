@@ -17,9 +17,3 @@ pub enum Reading {
     Read(Header),
     Refused(Refusal),
 }
-
-// What is found of one list: how many entries it has, all of them there, or why the file is refused.
-pub enum Counted {
-    Entries(usize),
-    Refused(Refusal),
-}

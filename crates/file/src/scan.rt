@@ -10,11 +10,16 @@ ghost use Rattle.file.specs.Places.{places, countOf, Room};
 ghost use Rattle.file.specs.Columns.{readingOf};
 use crate::bytes::be32;
 use crate::bytes::be64;
-use crate::reading::Counted;
 use crate::reading::Header;
 use crate::reading::Reading;
 use drawing::Refusal;
 use floats::float_of_bits;
+
+// What is found of one list: how many entries it has, all of them there, or why the file is refused.
+enum Counted {
+    Entries(usize),
+    Refused(Refusal),
+}
 
 // The list whose count stands at `at`, its entries taken for plain numbers of so many bytes. Bytes missing are a malformed file, but a count above the limit comes first.
 fn count_at(bytes: &[u8], at: usize, limit: usize, width: usize) -> Counted

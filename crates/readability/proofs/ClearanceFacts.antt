@@ -7,13 +7,11 @@ use lib.Dec.{leb}
 use lib.Ieee.{Float}
 use Rattle.laws.specs.Lists.{All}
 use Rattle.laws.specs.Charged.{Charged, settle}
-use Rattle.laws.proofs.ListLaws.{all-map}
 use Rattle.drawing.specs.declared.refusal.Refusal.{Refusal}
 use Rattle.drawing.specs.declared.refusal.Check.the-variants.{Refused}
-use Rattle.drawing.specs.Entries.{SegmentColumns, NodeColumns, segments, nodes, exemptions}
+use Rattle.drawing.specs.Entries.{segments, nodes, exemptions}
 use Rattle.drawing.specs.Refusals.{numberOf, firstOf}
 use Rattle.drawing.specs.Checks.{listConditions, entryConditions, clearanceConditions}
-use Rattle.drawing.proofs.ListOrders.{SegmentHeld, NodeHeld}
 use Rattle.clearance.specs.Figures.{Figures, figures}
 use Rattle.clearance.specs.declared.report.EdgeNodeClearance.{EdgeNodeClearance}
 use Rattle.clearance.specs.Answer.{allPairs, clearanceAnswer, resultOf}
@@ -21,24 +19,17 @@ use Rattle.clearance.proofs.Distances.{distances-good}
 use Rattle.clearance.proofs.AllPairs.{walk-all-pairs}
 use Rattle.clearance.proofs.AnyOrder.{all-pairs-any-order}
 use Rattle.clearance.proofs.Answers.{FitCall, fit-call, result-settles}
-use Rattle.readability.specs.Measures.{Reported, SegmentsHeld, NodesHeld, Lists, clearance}
+use Rattle.readability.specs.Measures.{Reported, Lists, clearance}
 use Rattle.readability.proofs.Numbers.{least-reported}
 use Rattle.readability.proofs.FirstMet.{Rising}
 use Rattle.readability.proofs.Facts.{Passes, Same, Facts}
-
--- the floats of a run, as the crates below say it
-pub held-segments : (s : SegmentColumns) → SegmentsHeld s → All SegmentHeld (segments s)
-held-segments s h = all-map (λ x p. record { fixed = p .0; start = p .1; end = p .2 }) (segments s) h
-
-held-nodes : (n : NodeColumns) → NodesHeld n → All NodeHeld (nodes n)
-held-nodes n h = all-map (λ x p. record { x = p .0; y = p .1; width = p .2; height = p .3 }) (nodes n) h
 
 rises : (d : Lists) (t : Float) (words : ℕ) → Rising 0 (clearance .conditions d t words)
 unfolding clearanceConditions listConditions entryConditions numberOf
 rises d t words = (omega arith, omega arith, (omega arith, omega arith, (omega arith, omega arith, (omega arith, omega arith, (omega arith, omega arith, (omega arith, omega arith, (omega arith, omega arith, (omega arith, omega arith, (omega arith, omega arith, (omega arith, omega arith, tt))))))))))
 
 fit : (d : Lists) (t : Float) (words : ℕ) → clearance .Held d t → Passes clearance d t words → FitCall (d .segments) (d .nodes) t
-fit d t words h p = fit-call (d .segments) (d .nodes) (d .exemptions) t words (record { segments-held = held-segments (d .segments) (h .0); nodes-held = held-nodes (d .nodes) (h .1); threshold-held = h .2 }) p
+fit d t words h p = fit-call (d .segments) (d .nodes) (d .exemptions) t words (record { segments-held = h .0; nodes-held = h .1; threshold-held = h .2 }) p
 
 refuses : (d : Lists) (t : Float) (a words : ℕ) (r : Refusal) → firstOf (clearance .conditions d t words) ≡ Refused r → clearance .result (clearance .answer d t a words) ≡ clearance .refused (numberOf r)
 unfolding clearanceAnswer resultOf

@@ -1,10 +1,11 @@
 -- Demand 2. Assumes nothing.
 use mathlib.Core.Path.{_≡_, sym, ap, _∙_}
 use mathlib.Core.Bool.{true}
-use Prim.Native.Nat.{ℕ, _<_}
+use Prim.Native.Nat.{_<_}
 use borrow.Author.Tests.{ltb-true}
 use lib.Dec.{T, ltb, lit<}
 use lib.Ieee.{Float, nan, inf, fin, binary64, lt}
+use lib.ListN.{length}
 use Rattle.laws.specs.Lists.{Mem}
 use Rattle.laws.proofs.Tests.{of-true}
 use Rattle.laws.proofs.ListLaws.{all-mem}
@@ -15,8 +16,8 @@ use Rattle.floats.proofs.Zeros.{canonical-again, canonical-fin}
 use Rattle.floats.proofs.NumberKeys.{canonical-key}
 use Rattle.floats.proofs.TotalOrder.{key-order}
 use Rattle.floats.proofs.Units.{lt-units, grid-num, canonical-unit, canonical-grid}
-use Rattle.drawing.specs.Entries.{Segment, SegmentColumns, segments}
-use Rattle.drawing.proofs.ListOrders.{SegmentHeld}
+use Rattle.drawing.specs.Entries.{Segment, segments}
+use Rattle.drawing.specs.Held.{Binary64, SegmentHeld}
 use Rattle.separation.proofs.TwoNets.{two-nets-decide}
 use Rattle.congestion.specs.Wires.{cutoffOf}
 use Rattle.congestion.proofs.Fitness.{fit-list, fit-cutoff}
@@ -25,22 +26,23 @@ use Rattle.congestion.proofs.RoundedSums.{zero-units}
 use Rattle.congestion.proofs.RangeTests.{range-floats}
 use Rattle.congestion.proofs.RoundedDrawing.{report-exact}
 use Rattle.readability.specs.Applies.{NoneApplies}
-use Rattle.readability.specs.Measures.{Binary64, measured, density}
+use Rattle.readability.specs.Measures.{Run, earlier, measured, density}
 use Rattle.readability.specs.Demand2.{Exact, Demand2}
 use Rattle.readability.proofs.FirstMet.{none-passed}
-use Rattle.readability.proofs.ClearanceFacts.{held-segments}
 use Rattle.readability.proofs.OneCall.{all-pairs}
 use Rattle.readability.proofs.AllFacts.{all-facts}
 
 some-cutoff : (cutoff : Float) → T (onGrid cutoff) → lt plusZero cutoff ≡ true → 0 < cutoffOf cutoff
 some-cutoff cutoff g h = ltb-true 0 (cutoffOf cutoff) (sym (below-cutoff 0 cutoff (lit< tt) g) ∙ ap (λ (x : Float). lt x cutoff) zero-units ∙ h)
 
-exact : (s : SegmentColumns) (cutoff : Float) (words : ℕ) → NoneApplies (density .conditions s cutoff words) → Exact s cutoff
-exact s cutoff words h =
+exact : (r : Run density) → NoneApplies (earlier density r) → Exact (r .drawing) (r .settings)
+exact r h =
+    let s = r .drawing in
+    let cutoff = r .settings in
     let l = segments s in
-    let p = none-passed (density .conditions s cutoff words) h in
-    let f = fit-list s cutoff words p in
-    let g = fit-cutoff s cutoff words p in
+    let p = none-passed (earlier density r) h in
+    let f = fit-list s cutoff (length (r .before)) p in
+    let g = fit-cutoff s cutoff (length (r .before)) p in
     let x = report-exact cutoff l f in
     record {
       total = x .total;
@@ -48,8 +50,8 @@ exact s cutoff words h =
       swept-congested = x .congested;
       swept-overlap = x .overlap;
       swept-least = x .least;
-      range = λ b e y z m n.
-          let held : (y : Segment) → Mem y l → SegmentHeld y = all-mem SegmentHeld l (held-segments s (b .0)) in
+      range = λ e y z m n.
+          let held : (y : Segment) → Mem y l → SegmentHeld y = all-mem SegmentHeld l (r .says .held p .0) in
           range-floats cutoff y z (held y m .fixed) (held z n .fixed) (f .each y m .fixed) (f .each z n .fixed) g (some-cutoff cutoff g e);
     }
 

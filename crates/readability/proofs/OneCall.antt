@@ -9,7 +9,7 @@ use Rattle.laws.proofs.Tests.{cond-true, cond-false}
 use Rattle.drawing.specs.declared.refusal.Check.{Check}
 use Rattle.drawing.specs.Refusals.{scratchAfter}
 use Rattle.readability.specs.Applies.{First, NoneApplies}
-use Rattle.readability.specs.Measures.{Measure, Run, Binary, resultOfRun, visitCount, earlier, allPairsReport}
+use Rattle.readability.specs.Measures.{Measure, Run, resultOfRun, visitCount, earlier, allPairsReport}
 use Rattle.readability.specs.Demand1.{Returns, cleared, Unfit, Refusing}
 use Rattle.readability.specs.Demand2.{AllPairs}
 use Rattle.readability.specs.Demand3.{AnyTwo, BothOrNeither, Depends}
@@ -59,20 +59,23 @@ module _ (m : Measure) (facts : Facts m) where
   }
 
   -- ---- demand 2
-  walked : (r : Run m) → Binary m r → NoneApplies (earlier m r) → m .walk (r .drawing) (r .settings) ≡ record { value = m .figures (r .drawing) (r .settings); cost = visitCount m r }
-  walked r b h = facts .walks (r .drawing) (r .settings) (length (r .before)) b (passes r h)
+  held : (r : Run m) → NoneApplies (earlier m r) → m .Held (r .drawing) (r .settings)
+  held r h = r .says .held (passes r h)
+
+  walked : (r : Run m) → NoneApplies (earlier m r) → m .walk (r .drawing) (r .settings) ≡ record { value = m .figures (r .drawing) (r .settings); cost = visitCount m r }
+  walked r h = facts .walks (r .drawing) (r .settings) (length (r .before)) (held r h) (passes r h)
 
   pub all-pairs : AllPairs m
   all-pairs = record {
-    numbers = λ r b h. facts .numbers (r .drawing) (r .settings) (length (r .before)) b (passes r h);
+    numbers = λ r h. facts .numbers (r .drawing) (r .settings) (length (r .before)) (held r h) (passes r h);
     walk = walked;
-    returned = λ r b h t. reached r h t ∙ ap (m .accepted (m .figures (r .drawing) (r .settings))) (sym (ap (λ (c : Charged (m .Figures)). c .cost) (walked r b h)));
+    returned = λ r h t. reached r h t ∙ ap (m .accepted (m .figures (r .drawing) (r .settings))) (sym (ap (λ (c : Charged (m .Figures)). c .cost) (walked r h)));
   }
 
   -- ---- demand 3
   module _ (a b : Run m) (two : AnyTwo m a b) where
     same : Same m (a .drawing) (b .drawing) (a .settings)
-    same = facts .same (a .drawing) (b .drawing) (a .settings) (length (a .before)) (two .reordered) (two .binary) (passes a (two .one-fit))
+    same = facts .same (a .drawing) (b .drawing) (a .settings) (length (a .before)) (two .reordered) (held a (two .one-fit)) (passes a (two .one-fit))
 
     one-count : visitCount m a ≡ visitCount m b
     one-count = same .count ∙ ap (m .count (b .drawing)) (two .same-settings)

@@ -24,7 +24,6 @@ use Rattle.readability.specs.Measures.{Reported, present, separation}
 use Rattle.readability.proofs.Numbers.{least-reported}
 use Rattle.readability.proofs.FirstMet.{Rising}
 use Rattle.readability.proofs.Facts.{Passes, Same, Facts}
-use Rattle.readability.proofs.ClearanceFacts.{held-segments}
 
 pub separation-rises : (s : SegmentColumns) (words : ℕ) → Rising 0 (separationConditions s words)
 unfolding separationConditions numberOf
@@ -45,17 +44,17 @@ apart f n e = let z : _≡_ {A = ℕ} 0 7 = ap (λ (r : ℕ × ParallelSeparatio
 same : (s t : SegmentColumns) (none : Unit {0}) (words : ℕ) → separation .Reordered s t → separation .Held s none → Passes separation s none words → Same separation s t none
 unfolding allPairs
 same s t none words o h p =
-    let all = all-pairs-any o (passed-fit s words p (held-segments s h)) in
+    let all = all-pairs-any o (passed-fit s words p h) in
     record { figures = ap (λ (c : Charged Figures). c .value) all; count = ap (λ (c : Charged Figures). c .cost) all }
 
 walks : (s : SegmentColumns) (none : Unit {0}) (words : ℕ) → separation .Held s none → Passes separation s none words → separation .walk s none ≡ record { value = separation .figures s none; cost = separation .count s none }
 unfolding allPairs
-walks s none words h p = walk-all-pairs (segments s) (passed-fit s words p (held-segments s h))
+walks s none words h p = walk-all-pairs (segments s) (passed-fit s words p h)
 
 numbers : (s : SegmentColumns) (none : Unit {0}) (words : ℕ) → separation .Held s none → Passes separation s none words → All Reported (separation .floats (separation .figures s none))
 unfolding figures leastOf
 numbers s none words h p =
-    let good = gaps-good (segments s) (passed-fit s words p (held-segments s h)) in
+    let good = gaps-good (segments s) (passed-fit s words p h) in
     all-append Reported (present (leastGap (gaps (segments s)))) _ (least-reported _ good) (least-reported _ (kept-good _ good))
 
 pub separation-facts : Facts separation

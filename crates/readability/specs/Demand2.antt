@@ -11,6 +11,7 @@ use Rattle.floats.specs.Values.{plusZero, canonicalZero}
 use Rattle.floats.specs.TotalOrder.{totalOrder, key, keyOf}
 use Rattle.floats.specs.Grid.{onGrid, unit}
 use Rattle.drawing.specs.Entries.{Segment, SegmentColumns, segments}
+use Rattle.drawing.specs.Held.{Binary64}
 use Rattle.rows.specs.Rows.{Row}
 use Rattle.separation.specs.Searches.{otherIn}
 use Rattle.separation.specs.TwoNets.{hasOther, summaryOver}
@@ -19,15 +20,15 @@ use Rattle.congestion.specs.Sweep.{inRange}
 use Rattle.congestion.specs.Rounded.{inRangeFloats, roundedTotal, roundedOverlap}
 use Rattle.congestion.specs.RoundedSweep.{roundedSweep}
 use Rattle.readability.specs.Applies.{NoneApplies}
-use Rattle.readability.specs.Measures.{Measure, Run, Binary64, Binary, Reported, resultOfRun, visitCount, earlier, Call, measured, density}
+use Rattle.readability.specs.Measures.{Measure, Run, Reported, resultOfRun, visitCount, earlier, Call, measured, density}
 
 pub record AllPairs (m : Measure) : Type 0 where
   -- "bit by bit": every float of the figures has one bit pattern, since none is a NaN
-  pub numbers : (r : Run m) → Binary m r → NoneApplies (earlier m r) → All Reported (m .floats (m .figures (r .drawing) (r .settings)))
+  pub numbers : (r : Run m) → NoneApplies (earlier m r) → All Reported (m .floats (m .figures (r .drawing) (r .settings)))
   -- the figures of the walk, which skips pairs, are the figures over all pairs, bit by bit, and its visits are the count
-  pub walk : (r : Run m) → Binary m r → NoneApplies (earlier m r) → m .walk (r .drawing) (r .settings) ≡ record { value = m .figures (r .drawing) (r .settings); cost = visitCount m r }
+  pub walk : (r : Run m) → NoneApplies (earlier m r) → m .walk (r .drawing) (r .settings) ≡ record { value = m .figures (r .drawing) (r .settings); cost = visitCount m r }
   -- so an accepted call returns what the walk finds, which is what all pairs give
-  pub returned : (r : Run m) → Binary m r → NoneApplies (earlier m r) → m .reaches (r .allowance) (visitCount m r) ≡ true → resultOfRun m r ≡ m .accepted (m .figures (r .drawing) (r .settings)) (m .walk (r .drawing) (r .settings) .cost)
+  pub returned : (r : Run m) → NoneApplies (earlier m r) → m .reaches (r .allowance) (visitCount m r) ≡ true → resultOfRun m r ≡ m .accepted (m .figures (r .drawing) (r .settings)) (m .walk (r .drawing) (r .settings) .cost)
 
 -- Congestion's figures are defined in whole numbers of 1/64. "There every sum and product is exact": the same sums with IEEE 754's rounding at each step are these figures, bit by bit. `roundedTotal` and `roundedOverlap` are over the segments and over all pairs, `roundedSweep` adds in the Rust's order. Which lines the Rust's sweep looks at is decided by two rounded steps, `fixed - cutoff` and `fixed + cutoff`: for a cutoff above 0 they are those of the sweep in 64ths. All three calls have these figures, the profile's without overlap and peak.
 pub record Exact (s : SegmentColumns) (cutoff : Float) : Type 0 where
@@ -36,7 +37,7 @@ pub record Exact (s : SegmentColumns) (cutoff : Float) : Type 0 where
   pub swept-congested : roundedSweep (cutoffOf cutoff) (segments s) .0 ≡ density .figures s cutoff .0 .«congested_length»
   pub swept-overlap : roundedSweep (cutoffOf cutoff) (segments s) .1 ≡ density .figures s cutoff .0 .«pair_overlap_length»
   pub swept-least : roundedSweep (cutoffOf cutoff) (segments s) .2 ≡ density .figures s cutoff .1
-  pub range : density .Held s cutoff → lt plusZero cutoff ≡ true → (a b : Segment) → Mem a (segments s) → Mem b (segments s) → inRangeFloats cutoff a b ≡ inRange (cutoffOf cutoff) (wireOf a) (wireOf b)
+  pub range : lt plusZero cutoff ≡ true → (a b : Segment) → Mem a (segments s) → Mem b (segments s) → inRangeFloats cutoff a b ≡ inRange (cutoffOf cutoff) (wireOf a) (wireOf b)
 
 -- what the definitions put in the place of the Rust's own comparisons
 pub record Comparisons : Type 0 where
@@ -49,5 +50,5 @@ pub record Comparisons : Type 0 where
 
 pub record Demand2 : Type 0 where
   pub of-each : (call : Call) → AllPairs (measured call)
-  pub exact : (s : SegmentColumns) (cutoff : Float) (words : ℕ) → NoneApplies (density .conditions s cutoff words) → Exact s cutoff
+  pub exact : (r : Run density) → NoneApplies (earlier density r) → Exact (r .drawing) (r .settings)
   pub comparisons : Comparisons

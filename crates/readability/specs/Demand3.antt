@@ -1,4 +1,4 @@
--- Demand 3, over the five measures. A run is a call by columns or by records, so any two calls may be one of each. `proofs/Demand3.antt` proves `Demand3`.
+-- Demand 3, over the five measures. A run is a call by columns or by records, so any two calls may be one of each; that every call of the functions is a run is shown in `Contracts`. `proofs/Demand3.antt` proves `Demand3`.
 use mathlib.Core.Path.{_≡_}
 use mathlib.Core.Logic.{_⊎_, _↔_}
 use mathlib.Core.Bool.{true, false, cond}
@@ -15,14 +15,12 @@ use Rattle.separation.specs.Lines.{lines, levels}
 use Rattle.congestion.specs.Figures.{atLeastTwo}
 use Rattle.congestion.specs.Rounded.{closeFloats}
 use Rattle.readability.specs.Applies.{NoneApplies}
-use Rattle.readability.specs.Measures.{Measure, Run, Binary, resultOfRun, visitCount, earlier, allPairsReport, Lists, clearance, separation, density, profile, congestion, Call, measured}
+use Rattle.readability.specs.Measures.{Measure, Run, resultOfRun, visitCount, earlier, allPairsReport, Lists, clearance, separation, density, profile, congestion, Call, measured}
 
 -- "Take any two calls of one measure on one drawing with the same settings, its lists in any two orders, under any two allowances and whatever either scratch held before. Where neither call meets an earlier refusal"
 pub record AnyTwo (m : Measure) (a b : Run m) : Type 0 where
   pub reordered : m .Reordered (a .drawing) (b .drawing)
   pub same-settings : a .settings ≡ b .settings
-  -- no part of the sentence: the type of the parameters, `f64`, says it of every call
-  pub binary : Binary m a
   pub one-fit : NoneApplies (earlier m a)
   pub other-fit : NoneApplies (earlier m b)
 

@@ -4,16 +4,17 @@ use mathlib.Core.Path.{_≡_}
 use mathlib.Core.Bool.{Bool, true, false, not}
 use mathlib.Core.List.{List, [], _∷_, _++_}
 use Prim.Native.Nat.{ℕ}
-use lib.Dec.{T, leb}
-use lib.Ieee.{Float, nan, inf, fin, binary64, fits}
+use lib.Dec.{leb}
+use lib.Ieee.{Float, nan, inf, fin}
 use lib.ListN.{length}
-use Rattle.laws.specs.Lists.{All}
 use Rattle.laws.specs.Perm.{Perm}
 use Rattle.laws.specs.Charged.{Charged}
 use Rattle.drawing.specs.declared.refusal.Refusal.{Refusal}
+use Rattle.drawing.specs.declared.refusal.Check.the-variants.{Passed}
 use Rattle.drawing.specs.declared.gap.Gap.{Gap}
 use Rattle.drawing.specs.declared.gap.Gap.the-variants.{Absent, Present}
-use Rattle.drawing.specs.Entries.{Segment, Node, SegmentColumns, NodeColumns, ExemptionColumns, segments, nodes, exemptions}
+use Rattle.drawing.specs.Entries.{SegmentColumns, NodeColumns, ExemptionColumns, segments, nodes, exemptions}
+use Rattle.drawing.specs.Held.{Binary64, SegmentsHeld, NodesHeld}
 use Rattle.drawing.specs.Refusals.{firstOf, scratchAfter}
 use Rattle.drawing.specs.Checks.{clearanceConditions, separationConditions, congestionConditions}
 use Rattle.clearance.specs.declared.report.EdgeNodeClearance.{EdgeNodeClearance}
@@ -40,7 +41,7 @@ pub record Measure : Type 1 where
   pub Reordered : Drawing → Drawing → Type 0
   -- "Settings are whatever else it is given to read, allowance and scratch left aside."
   pub Settings : Type 0
-  -- every float that is lent or given is a value of binary64: `f64`, the type of the parameters, holds no others
+  -- every float that is lent or given is a value of binary64
   pub Held : Drawing → Settings → Type 0
   -- the allowance, and whether it reaches a count
   pub Allowance : Type 0
@@ -71,10 +72,7 @@ pub record Measure : Type 1 where
 abbrev pub visitsReach : ℕ → ℕ → Bool
 visitsReach allowance n = leb n allowance
 
--- ---- floats of binary64
-abbrev pub Binary64 : Float → Type 0
-Binary64 x = T (fits binary64 x)
-
+-- ---- the floats of a report
 -- the sign is plus, and it is no NaN
 abbrev pub unsigned : Float → Bool
 unsigned nan = false
@@ -89,12 +87,6 @@ Reported x = Binary64 x × (unsigned x ≡ true)
 abbrev pub present : Gap → List Float
 present Absent = []
 present (Present x) = x ∷ []
-
-abbrev pub SegmentsHeld : SegmentColumns → Type 0
-SegmentsHeld c = All (λ (s : Segment). Binary64 (s .fixed) × Binary64 (s .start) × Binary64 (s .end)) (segments c)
-
-abbrev pub NodesHeld : NodeColumns → Type 0
-NodesHeld c = All (λ (n : Node). Binary64 (n .x) × Binary64 (n .y) × Binary64 (n .width) × Binary64 (n .height)) (nodes c)
 
 -- ---- `measure_edge_node_clearance_bounded`
 pub record Lists : Type 0 where
@@ -193,10 +185,11 @@ measured parallel-density-profile = density
 measured parallel-congestion-profile = profile
 measured parallel-congestion = congestion
 
--- ---- what a call's contract says of one call: one equation for what is returned, one for the scratch at exit
+-- ---- what a call's contract says of one call: one equation for what is returned, one for the scratch at exit, and that the floats of a drawing that passes the checks are values of binary64, as their type `f64` has it
 pub record Says (m : Measure) (drawing : m .Drawing) (settings : m .Settings) (allowance : m .Allowance) (before : List ℕ) (returned : m .Answer) (after : List ℕ) : Type 0 where
   pub answers : returned ≡ m .answer drawing settings allowance (length before)
   pub leaves : after ≡ scratchAfter (firstOf (m .conditions drawing settings (length before))) before
+  pub held : firstOf (m .conditions drawing settings (length before)) ≡ Passed → m .Held drawing settings
 
 -- a run of a measure: a call of which its contract holds, by columns or by a thin entry, whose list of records stands for columns. `Contracts` shows that the functions' own contracts say so of every call.
 pub record Run (m : Measure) : Type 0 where
@@ -209,10 +202,6 @@ pub record Run (m : Measure) : Type 0 where
   pub says : Says m drawing settings allowance before returned after
 
 module _ (m : Measure) (r : Run m) where
-  -- its floats are values of binary64, as the parameters' type has it
-  abbrev pub Binary : Type 0
-  Binary = m .Held (r .drawing) (r .settings)
-
   -- what the run returned, and the count of its drawing
   abbrev pub resultOfRun : m .Result
   resultOfRun = m .result (r .returned)

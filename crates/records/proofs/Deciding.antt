@@ -1,5 +1,5 @@
 -- The first 4,097 entries of a list decide as the whole list does: with more than 4,096 entries a call is refused, whatever they are. Assumes nothing.
-use mathlib.Core.Path.{_≡_, refl, sym, _∙_}
+use mathlib.Core.Path.{_≡_, refl, sym, subst, _∙_}
 use mathlib.Core.Logic.{inl, inr}
 use mathlib.Core.Bool.{true, cond}
 use mathlib.Core.List.{List}
@@ -10,6 +10,7 @@ use lib.Ieee.{Float}
 use lib.ListN.{length, take}
 use lib.Seq.{take-all, length-take-le}
 use Rattle.laws.proofs.Tests.{le-or-lt, decide}
+use Rattle.drawing.specs.declared.refusal.Check.{Check}
 use Rattle.drawing.specs.declared.refusal.Check.the-variants as check
 use Rattle.drawing.specs.declared.refusal.Refusal.{Refusal}
 use Rattle.drawing.specs.declared.refusal.Refusal.the-variants.{ColumnsDiffer, TooManyEntries}
@@ -17,7 +18,7 @@ use Rattle.drawing.specs.Entries.{Segment, SegmentColumns, NodeColumns, Exempti
 use Rattle.drawing.specs.Conditions.{tooMany}
 use Rattle.drawing.specs.Refusals.{firstOf}
 use Rattle.drawing.specs.Checks.{nodesDiffer, exemptionsDiffer, separationConditions, congestionConditions, listConditions, clearanceConditions}
-use Rattle.drawing.proofs.FirstRefusal.{first-yes, first-no, first-stop}
+use Rattle.drawing.proofs.FirstRefusal.{first-yes, first-no, first-stop, not-passed}
 use Rattle.drawing.proofs.ColumnLaws.{columns-same, columns-count}
 use Rattle.separation.specs.declared.report.SeparationAnswer.the-variants as ofSeparation
 use Rattle.separation.specs.Answer.{separationAnswer}
@@ -74,6 +75,10 @@ module _ (l : List Segment) (words : ℕ) where
 
   pub clearance-checked : (n : NodeColumns) (e : ExemptionColumns) (threshold : Float) → firstOf (clearanceConditions (columnsOf (take 4097 l)) n e threshold words) ≡ firstOf (clearanceConditions (columnsOf l) n e threshold words)
   clearance-checked n e threshold = few-or-many (λ j k. firstOf (clearanceConditions (columnsOf j) n e threshold words) ≡ firstOf (clearanceConditions (columnsOf k) n e threshold words)) l (λ k. refl) (λ j k h i. clearance-many j n e threshold words h ∙ sym (clearance-many k n e threshold words i))
+
+-- what holds of lines that pass, j being those of the first 4,097 entries, holds of all entries where they pass
+pub passed-all : (c : List Segment → Check) (r : Refusal) → ((k : List Segment) → 4096 < length k → c k ≡ check.Refused r) → (P : List Segment → Type 0) (j l : List Segment) → j ≡ take 4097 l → (c j ≡ check.Passed → P j) → c l ≡ check.Passed → P l
+passed-all c r many P j l e h = few-or-many (λ i k. (c i ≡ check.Passed → P i) → c k ≡ check.Passed → P k) l (λ k g. g) (λ i k a b g. not-passed (c k) (c k) r refl (many k b)) (subst (λ k. c k ≡ check.Passed → P k) e h)
 
 separation-refused : (s : SegmentColumns) (allowance words : ℕ) (r : Refusal) → firstOf (separationConditions s words) ≡ check.Refused r → separationAnswer s allowance words ≡ ofSeparation.Refused r
 unfolding separationAnswer

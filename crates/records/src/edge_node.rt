@@ -3,9 +3,11 @@ ghost use mathlib.Core.Path.{_≡_};
 ghost use mathlib.Core.List.{map};
 ghost use Prim.Native.Nat.{_<_};
 ghost use lib.ListN.{length, take, getD};
+ghost use Rattle.drawing.specs.declared.refusal.Check.the-variants.{Passed};
 ghost use Rattle.drawing.specs.Refusals.{firstOf, scratchAfter};
 ghost use Rattle.drawing.specs.Entries.{nodeColumns, exemptionColumns};
 ghost use Rattle.drawing.specs.Checks.{clearanceConditions};
+ghost use Rattle.drawing.specs.Held.{Binary64, SegmentsHeld, NodesHeld};
 ghost use Rattle.clearance.specs.Answer.{clearanceAnswer};
 ghost use Rattle.records.specs.Records.{ofEdgeNode, edgeNodeColumns};
 ghost use Rattle.records.specs.Lines.{entryOf, noEdgeNode};
@@ -81,6 +83,7 @@ pub fn measure_edge_node_clearance_bounded_by_records(
 ) -> ClearanceAnswer
     ensures { λ r. ⌜ r ≡ clearanceAnswer (edgeNodeColumns (now (records .entry))) (nodeColumns (now (id .entry)) (now (x .entry)) (now (y .entry)) (now (width .entry)) (now (height .entry))) (exemptionColumns (now («exempt_net» .entry)) (now («exempt_node» .entry))) threshold allowance (length (now (scratch .entry))) ⌝ }
     ensures { λ _. ⌜ now (scratch .exit) ≡ scratchAfter (firstOf (clearanceConditions (edgeNodeColumns (now (records .entry))) (nodeColumns (now (id .entry)) (now (x .entry)) (now (y .entry)) (now (width .entry)) (now (height .entry))) (exemptionColumns (now («exempt_net» .entry)) (now («exempt_node» .entry))) threshold (length (now (scratch .entry))))) (now (scratch .entry)) ⌝ }
+    ensures { λ _. ⌜ (firstOf (clearanceConditions (edgeNodeColumns (now (records .entry))) (nodeColumns (now (id .entry)) (now (x .entry)) (now (y .entry)) (now (width .entry)) (now (height .entry))) (exemptionColumns (now («exempt_net» .entry)) (now («exempt_node» .entry))) threshold (length (now (scratch .entry)))) ≡ Passed → SegmentsHeld (edgeNodeColumns (now (records .entry))) × NodesHeld (nodeColumns (now (id .entry)) (now (x .entry)) (now (y .entry)) (now (width .entry)) (now (height .entry))) × Binary64 threshold) ⌝ }
 {
     let n = records.len();
     let lines = edge_node_lines(records);

@@ -2,9 +2,11 @@
 ghost use mathlib.Core.Path.{_≡_};
 ghost use mathlib.Core.List.{map};
 ghost use lib.ListN.{length, take};
+ghost use Rattle.drawing.specs.declared.refusal.Check.the-variants.{Passed};
 ghost use Rattle.drawing.specs.Refusals.{firstOf, scratchAfter};
 ghost use Rattle.drawing.specs.Entries.{nodeColumns, exemptionColumns, columnsOf};
 ghost use Rattle.drawing.specs.Checks.{separationConditions, congestionConditions, clearanceConditions};
+ghost use Rattle.drawing.specs.Held.{Binary64, SegmentsHeld, NodesHeld};
 ghost use Rattle.separation.specs.Answer.{separationAnswer};
 ghost use Rattle.congestion.specs.Answer.{densityAnswer, profileAnswer, congestionAnswer};
 ghost use Rattle.clearance.specs.Answer.{clearanceAnswer};
@@ -29,6 +31,7 @@ pub(crate) fn separation_of_lines(
 ) -> SeparationAnswer
     ensures { λ r. ⌜ r ≡ separationAnswer (columnsOf (map entryOf (take n lines))) allowance (length (now (scratch .entry))) ⌝ }
     ensures { λ _. ⌜ now (scratch .exit) ≡ scratchAfter (firstOf (separationConditions (columnsOf (map entryOf (take n lines))) (length (now (scratch .entry))))) (now (scratch .entry)) ⌝ }
+    ensures { λ _. ⌜ (firstOf (separationConditions (columnsOf (map entryOf (take n lines))) (length (now (scratch .entry)))) ≡ Passed → SegmentsHeld (columnsOf (map entryOf (take n lines)))) ⌝ }
 {
     let m = unpacked(n);
     let mut net = [0; 4097];
@@ -65,6 +68,7 @@ pub(crate) fn density_of_lines(
 ) -> CongestionAnswer
     ensures { λ r. ⌜ r ≡ densityAnswer (columnsOf (map entryOf (take n lines))) cutoff allowance (length (now (scratch .entry))) ⌝ }
     ensures { λ _. ⌜ now (scratch .exit) ≡ scratchAfter (firstOf (congestionConditions (columnsOf (map entryOf (take n lines))) cutoff (length (now (scratch .entry))))) (now (scratch .entry)) ⌝ }
+    ensures { λ _. ⌜ (firstOf (congestionConditions (columnsOf (map entryOf (take n lines))) cutoff (length (now (scratch .entry)))) ≡ Passed → SegmentsHeld (columnsOf (map entryOf (take n lines))) × Binary64 cutoff) ⌝ }
 {
     let m = unpacked(n);
     let mut net = [0; 4097];
@@ -102,6 +106,7 @@ pub(crate) fn profile_of_lines(
 ) -> CongestionAnswer
     ensures { λ r. ⌜ r ≡ profileAnswer (columnsOf (map entryOf (take n lines))) cutoff allowance (length (now (scratch .entry))) ⌝ }
     ensures { λ _. ⌜ now (scratch .exit) ≡ scratchAfter (firstOf (congestionConditions (columnsOf (map entryOf (take n lines))) cutoff (length (now (scratch .entry))))) (now (scratch .entry)) ⌝ }
+    ensures { λ _. ⌜ (firstOf (congestionConditions (columnsOf (map entryOf (take n lines))) cutoff (length (now (scratch .entry)))) ≡ Passed → SegmentsHeld (columnsOf (map entryOf (take n lines))) × Binary64 cutoff) ⌝ }
 {
     let m = unpacked(n);
     let mut net = [0; 4097];
@@ -138,6 +143,7 @@ pub(crate) fn congestion_of_lines(
 ) -> CongestionAnswer
     ensures { λ r. ⌜ r ≡ congestionAnswer (columnsOf (map entryOf (take n lines))) cutoff (length (now (scratch .entry))) ⌝ }
     ensures { λ _. ⌜ now (scratch .exit) ≡ scratchAfter (firstOf (congestionConditions (columnsOf (map entryOf (take n lines))) cutoff (length (now (scratch .entry))))) (now (scratch .entry)) ⌝ }
+    ensures { λ _. ⌜ (firstOf (congestionConditions (columnsOf (map entryOf (take n lines))) cutoff (length (now (scratch .entry)))) ≡ Passed → SegmentsHeld (columnsOf (map entryOf (take n lines))) × Binary64 cutoff) ⌝ }
 {
     let m = unpacked(n);
     let mut net = [0; 4097];
@@ -181,6 +187,7 @@ pub(crate) fn clearance_of_lines(
 ) -> ClearanceAnswer
     ensures { λ r. ⌜ r ≡ clearanceAnswer (columnsOf (map entryOf (take n lines))) (nodeColumns (now (id .entry)) (now (x .entry)) (now (y .entry)) (now (width .entry)) (now (height .entry))) (exemptionColumns (now («exempt_net» .entry)) (now («exempt_node» .entry))) threshold allowance (length (now (scratch .entry))) ⌝ }
     ensures { λ _. ⌜ now (scratch .exit) ≡ scratchAfter (firstOf (clearanceConditions (columnsOf (map entryOf (take n lines))) (nodeColumns (now (id .entry)) (now (x .entry)) (now (y .entry)) (now (width .entry)) (now (height .entry))) (exemptionColumns (now («exempt_net» .entry)) (now («exempt_node» .entry))) threshold (length (now (scratch .entry))))) (now (scratch .entry)) ⌝ }
+    ensures { λ _. ⌜ (firstOf (clearanceConditions (columnsOf (map entryOf (take n lines))) (nodeColumns (now (id .entry)) (now (x .entry)) (now (y .entry)) (now (width .entry)) (now (height .entry))) (exemptionColumns (now («exempt_net» .entry)) (now («exempt_node» .entry))) threshold (length (now (scratch .entry)))) ≡ Passed → SegmentsHeld (columnsOf (map entryOf (take n lines))) × NodesHeld (nodeColumns (now (id .entry)) (now (x .entry)) (now (y .entry)) (now (width .entry)) (now (height .entry))) × Binary64 threshold) ⌝ }
 {
     let m = unpacked(n);
     let mut net = [0; 4097];

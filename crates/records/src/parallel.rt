@@ -3,8 +3,10 @@ ghost use mathlib.Core.Path.{_≡_};
 ghost use mathlib.Core.List.{map};
 ghost use Prim.Native.Nat.{_<_};
 ghost use lib.ListN.{length, take, getD};
+ghost use Rattle.drawing.specs.declared.refusal.Check.the-variants.{Passed};
 ghost use Rattle.drawing.specs.Refusals.{firstOf, scratchAfter};
 ghost use Rattle.drawing.specs.Checks.{separationConditions, congestionConditions};
+ghost use Rattle.drawing.specs.Held.{Binary64, SegmentsHeld};
 ghost use Rattle.separation.specs.Answer.{separationAnswer};
 ghost use Rattle.congestion.specs.Answer.{densityAnswer, profileAnswer, congestionAnswer};
 ghost use Rattle.records.specs.Records.{ofParallel, parallelColumns};
@@ -77,6 +79,7 @@ pub fn measure_parallel_separation_bounded_by_records(
 ) -> SeparationAnswer
     ensures { λ r. ⌜ r ≡ separationAnswer (parallelColumns (now (records .entry))) allowance (length (now (scratch .entry))) ⌝ }
     ensures { λ _. ⌜ now (scratch .exit) ≡ scratchAfter (firstOf (separationConditions (parallelColumns (now (records .entry))) (length (now (scratch .entry))))) (now (scratch .entry)) ⌝ }
+    ensures { λ _. ⌜ (firstOf (separationConditions (parallelColumns (now (records .entry))) (length (now (scratch .entry)))) ≡ Passed → SegmentsHeld (parallelColumns (now (records .entry)))) ⌝ }
 {
     let n = records.len();
     let lines = parallel_lines(records);
@@ -91,6 +94,7 @@ pub fn measure_parallel_density_profile_bounded_by_records(
 ) -> CongestionAnswer
     ensures { λ r. ⌜ r ≡ densityAnswer (parallelColumns (now (records .entry))) cutoff allowance (length (now (scratch .entry))) ⌝ }
     ensures { λ _. ⌜ now (scratch .exit) ≡ scratchAfter (firstOf (congestionConditions (parallelColumns (now (records .entry))) cutoff (length (now (scratch .entry))))) (now (scratch .entry)) ⌝ }
+    ensures { λ _. ⌜ (firstOf (congestionConditions (parallelColumns (now (records .entry))) cutoff (length (now (scratch .entry)))) ≡ Passed → SegmentsHeld (parallelColumns (now (records .entry))) × Binary64 cutoff) ⌝ }
 {
     let n = records.len();
     let lines = parallel_lines(records);
@@ -105,6 +109,7 @@ pub fn measure_parallel_congestion_profile_bounded_by_records(
 ) -> CongestionAnswer
     ensures { λ r. ⌜ r ≡ profileAnswer (parallelColumns (now (records .entry))) cutoff allowance (length (now (scratch .entry))) ⌝ }
     ensures { λ _. ⌜ now (scratch .exit) ≡ scratchAfter (firstOf (congestionConditions (parallelColumns (now (records .entry))) cutoff (length (now (scratch .entry))))) (now (scratch .entry)) ⌝ }
+    ensures { λ _. ⌜ (firstOf (congestionConditions (parallelColumns (now (records .entry))) cutoff (length (now (scratch .entry)))) ≡ Passed → SegmentsHeld (parallelColumns (now (records .entry))) × Binary64 cutoff) ⌝ }
 {
     let n = records.len();
     let lines = parallel_lines(records);
@@ -118,6 +123,7 @@ pub fn measure_parallel_congestion_by_records(
 ) -> CongestionAnswer
     ensures { λ r. ⌜ r ≡ congestionAnswer (parallelColumns (now (records .entry))) cutoff (length (now (scratch .entry))) ⌝ }
     ensures { λ _. ⌜ now (scratch .exit) ≡ scratchAfter (firstOf (congestionConditions (parallelColumns (now (records .entry))) cutoff (length (now (scratch .entry))))) (now (scratch .entry)) ⌝ }
+    ensures { λ _. ⌜ (firstOf (congestionConditions (parallelColumns (now (records .entry))) cutoff (length (now (scratch .entry)))) ≡ Passed → SegmentsHeld (parallelColumns (now (records .entry))) × Binary64 cutoff) ⌝ }
 {
     let n = records.len();
     let lines = parallel_lines(records);

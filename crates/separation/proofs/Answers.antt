@@ -11,7 +11,7 @@ use Rattle.drawing.specs.Refusals.{numberOf, firstOf}
 use Rattle.drawing.specs.Conditions.{unfitSegment}
 use Rattle.drawing.specs.Checks.{separationConditions}
 use Rattle.drawing.proofs.FirstRefusal.{passed-head}
-use Rattle.drawing.proofs.ListOrders.{SegmentHeld}
+use Rattle.drawing.specs.Held.{SegmentHeld}
 use Rattle.separation.specs.declared.report.SeparationAnswer.the-variants.{Refused}
 use Rattle.separation.specs.Figures.{Figures}
 use Rattle.separation.specs.Walk.{walkAll}

@@ -18,7 +18,7 @@ use Rattle.floats.proofs.Zeros.{canonical-again, canonical-rank, canonical-fin}
 use Rattle.floats.proofs.NumberKeys.{float-back}
 use Rattle.drawing.specs.Entries.{Segment}
 use Rattle.drawing.specs.Conditions.{unfitSegment}
-use Rattle.drawing.proofs.ListOrders.{SegmentHeld}
+use Rattle.drawing.specs.Held.{SegmentHeld}
 use Rattle.drawing.proofs.Fit.{line-of}
 use Rattle.rows.specs.Rows.{Row, fixedOf, startOf, endOf, rowOf}
 use Rattle.separation.specs.Figures.{overlapping, counted}

@@ -23,7 +23,7 @@ use Rattle.drawing.specs.Conditions.{shortScratch}
 use Rattle.drawing.specs.Checks.{separationConditions}
 use Rattle.drawing.specs.Refusals.{firstOf}
 use Rattle.drawing.proofs.FirstRefusal.{passed-head, few, separation-agree}
-use Rattle.drawing.proofs.ListOrders.{SegmentHeld}
+use Rattle.drawing.specs.Held.{SegmentHeld}
 use Rattle.rows.specs.Rows.{Row, rowOf, oriented}
 use Rattle.rows.proofs.Oriented.{mem-oriented}
 use Rattle.separation.specs.declared.report.SeparationAnswer.{SeparationAnswer}

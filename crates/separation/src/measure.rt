@@ -6,6 +6,7 @@ ghost use Rattle.drawing.specs.declared.refusal.Check.the-variants.{Passed};
 ghost use Rattle.drawing.specs.Refusals.{firstOf, scratchAfter};
 ghost use Rattle.drawing.specs.Entries.{segmentColumns, segments};
 ghost use Rattle.drawing.specs.Checks.{separationConditions};
+ghost use Rattle.drawing.specs.Held.{SegmentsHeld};
 ghost use Rattle.separation.specs.Walk.{lesserFigures, walkAll};
 ghost use Rattle.separation.specs.Sweeping.{metBy, sweptOf, Remains, Answers};
 ghost use Rattle.separation.specs.Answer.{separationAnswer};
@@ -91,6 +92,7 @@ pub fn measure_parallel_separation_bounded(
 ) -> SeparationAnswer
     ensures { λ r. ⌜ r ≡ separationAnswer (segmentColumns (now (net .entry)) (now (orientation .entry)) (now (fixed .entry)) (now (start .entry)) (now (end .entry))) allowance (length (now (scratch .entry))) ⌝ }
     ensures { λ _. ⌜ now (scratch .exit) ≡ scratchAfter (firstOf (separationConditions (segmentColumns (now (net .entry)) (now (orientation .entry)) (now (fixed .entry)) (now (start .entry)) (now (end .entry))) (length (now (scratch .entry))))) (now (scratch .entry)) ⌝ }
+    ensures { λ _. ⌜ (firstOf (separationConditions (segmentColumns (now (net .entry)) (now (orientation .entry)) (now (fixed .entry)) (now (start .entry)) (now (end .entry))) (length (now (scratch .entry)))) ≡ Passed → SegmentsHeld (segmentColumns (now (net .entry)) (now (orientation .entry)) (now (fixed .entry)) (now (start .entry)) (now (end .entry)))) ⌝ }
 {
     let words = scratch.len();
     let check = check_separation(net, orientation, fixed, start, end, words);

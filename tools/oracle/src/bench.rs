@@ -17,11 +17,11 @@ use crate::{
     values::GRID_STEP,
 };
 
-/// A drawing, by the numbers that decide how far a walk goes. It has as many nodes
-/// as segments.
+/// A drawing, by the numbers that decide how far a walk goes.
 struct Kind {
     name: &'static str,
     segments: usize,
+    nodes: usize,
     lines: Lines,
     /// The side of the square that the corners lie in.
     side: i64,
@@ -53,6 +53,7 @@ enum Lines {
 const SPARSE: Kind = Kind {
     name: "sparse",
     segments: CALL_LIMITS.segments,
+    nodes: CALL_LIMITS.nodes,
     lines: Lines::Any,
     side: 8_192,
     shortest: 1,
@@ -121,14 +122,16 @@ const OUT_OF_REACH: Kind = Kind {
     ..ALL_OVERLAPPING
 };
 
-const CLEARANCE: [Kind; 8] = [
+const CLEARANCE: [Kind; 10] = [
     SPARSE,
     Kind {
         segments: 256,
+        nodes: 256,
         ..DENSE
     },
     Kind {
         segments: 1_024,
+        nodes: 1_024,
         ..DENSE
     },
     DENSE,
@@ -143,6 +146,16 @@ const CLEARANCE: [Kind; 8] = [
         name: "4,096 exemptions, all boxes in reach",
         exemptions: CALL_LIMITS.exemptions,
         ..ALL_IN_REACH
+    },
+    Kind {
+        name: "no segments, 4,096 nodes",
+        segments: 0,
+        ..DENSE
+    },
+    Kind {
+        name: "no nodes",
+        nodes: 0,
+        ..DENSE
     },
 ];
 
@@ -200,6 +213,7 @@ const CONGESTION: [Kind; 11] = [
 /// that clearing the scratch takes alone: the port's calls clear theirs, and the
 /// reference has nothing to clear. Fails where the two answers differ.
 pub fn bench(runs: u64) -> Result<(), String> {
+    println!("Both are optimised. The port's scratch is zero before each run; that it clears it is timed.");
     for (measure, kinds) in [
         (Measure::Clearance, &CLEARANCE[..]),
         (Measure::Separation, &SEPARATION[..]),
@@ -299,13 +313,13 @@ fn drawing(kind: &Kind, random: &mut Random) -> Drawing {
         segments: (0..kind.segments)
             .map(|place| segment(kind, place, random))
             .collect(),
-        nodes: (0..kind.segments)
+        nodes: (0..kind.nodes)
             .map(|id| node(kind, id as u32, random))
             .collect(),
         exemptions: (0..kind.exemptions)
             .map(|_| Exemption {
                 net: random.below(kind.nets) as u32,
-                node: random.below(kind.segments) as u32,
+                node: random.below(kind.nodes) as u32,
             })
             .collect(),
         threshold: kind.reach,

@@ -16,20 +16,24 @@ const DECLARATIONS: &str = concat!(
     include_str!("port.rs")
 );
 
-/// The program of a C file, named from the project's root.
+/// The program of a C or C++ file, named from the project's root.
 fn program(source: &Path) -> PathBuf {
-    let name = source.file_stem().expect("the source is a file");
-    let program = Path::new(env!("OUT_DIR")).join(name);
-    let built = Command::new("cc")
+    let name = source.file_name().expect("the source is a file");
+    let program = Path::new(env!("OUT_DIR")).join(name).with_extension("out");
+    let (compiler, standard) = match source.extension().and_then(|ending| ending.to_str()) {
+        Some("cc") => ("c++", "-std=c++11"),
+        _ => ("cc", "-std=c99"),
+    };
+    let built = Command::new(compiler)
         .current_dir(Path::new(env!("CARGO_MANIFEST_DIR")).join("../.."))
-        .args(["-std=c99", "-pedantic", "-Wall", "-Wextra", "-Werror"])
+        .args([standard, "-pedantic", "-Wall", "-Wextra", "-Werror"])
         .arg("-Iinclude")
         .arg(source)
         .arg("target/staticlib/libexports.a")
         .arg("-o")
         .arg(&program)
         .status()
-        .expect("a C compiler is there");
+        .expect("the compiler is there");
     assert!(built.success(), "{} is not built", source.display());
     program
 }
@@ -96,11 +100,13 @@ fn the_header_declares_what_the_rust_does() {
         })
         .count();
     assert_eq!(pointers.len(), in_header);
-    let source = Path::new(env!("OUT_DIR")).join("header.c");
     let text = format!(
         "#include \"readability.h\"\n{}int main(void) {{ return 0; }}\n",
         pointers.concat()
     );
-    fs::write(&source, text).expect("the source is written");
-    program(&source);
+    for name in ["header.c", "header.cc"] {
+        let source = Path::new(env!("OUT_DIR")).join(name);
+        fs::write(&source, &text).expect("the source is written");
+        program(&source);
+    }
 }

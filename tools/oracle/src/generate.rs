@@ -23,11 +23,12 @@
 //! | at limits | lists of 120, 120 and 240: the program's limits |
 //! | over limits | one list longer by one, which the program refuses with 3 |
 //! | crowded | some 200 segments that nearly all run side by side |
+//! | long | 250 to 999 segments and nodes that meet and overlap, of any palette |
 //! | full size | 4,096 segments, nodes and exemptions |
 //! | too many | one list of 4,097, which every call that takes it refuses with 3 |
 //! | many wires | 2,000 to 4,096 segments on and off the grid, and nothing else |
 //!
-//! The last four are too long for files of the program. Besides, every
+//! The last five are too long for files of the program. Besides, every
 //! drawing draws its orientations (mixed or one only), its lists' lengths (0
 //! and 1 among them), its threshold and cutoff, and for each measure an aim
 //! for its allowance: the visit count, one below, 0, or 2^64 - 1.
@@ -64,13 +65,14 @@ pub enum Kind {
     AtLimits,
     OverLimits,
     Crowded,
+    Long,
     FullSize,
     TooMany,
     ManyWires,
 }
 
 /// Each kind with its name and its share of the drawings.
-pub const KINDS: [(Kind, &str, usize); 24] = [
+pub const KINDS: [(Kind, &str, usize); 25] = [
     (Kind::Ties, "ties", 600),
     (Kind::Zeros, "zeros", 200),
     (Kind::Grid, "grid", 400),
@@ -92,6 +94,7 @@ pub const KINDS: [(Kind, &str, usize); 24] = [
     (Kind::AtLimits, "at limits", 20),
     (Kind::OverLimits, "over limits", 15),
     (Kind::Crowded, "crowded", 10),
+    (Kind::Long, "long", 2),
     (Kind::FullSize, "full size", 1),
     (Kind::TooMany, "too many", 4),
     (Kind::ManyWires, "many wires", 5),
@@ -195,6 +198,7 @@ pub fn drawing(kind: Kind, most: &Limits, random: &mut Random) -> Drawing {
         Kind::AtLimits => shapes::at_limits(random),
         Kind::OverLimits => shapes::over_limits(most, random),
         Kind::Crowded => shapes::crowded(random),
+        Kind::Long => shapes::long(random),
         Kind::FullSize => shapes::full_size(random),
         Kind::TooMany => shapes::too_many(most, random),
         Kind::ManyWires => shapes::many_wires(random),

@@ -271,6 +271,23 @@ pub fn crowded(random: &mut Random) -> Drawing {
     maker.drawing(lengths)
 }
 
+/// For deep trees with odd halves, whatever the numbers, and for many wires that
+/// are close at once.
+pub fn long(random: &mut Random) -> Drawing {
+    let palette = random.pick(&[
+        TINY, ZEROS, GRID, GRID_EDGE, DECIMALS, NEIGHBOURS, HUGE, SUBNORMAL, ANY_BITS,
+    ]);
+    let nets = random.pick(&[2, 60, 1_000]);
+    let lengths = Limits {
+        segments: 250 + random.below(750),
+        nodes: 250 + random.below(750),
+        exemptions: random.below(1_000),
+    };
+    let mut maker = Maker::new(palette, &CALL_LIMITS, random);
+    maker.nets = nets;
+    maker.drawing(lengths)
+}
+
 /// Short wires and small boxes, far and wide, so that looking at every pair
 /// stays affordable.
 pub fn full_size(random: &mut Random) -> Drawing {

@@ -12,7 +12,8 @@ use Rattle.drawing.specs.Entries.{SegmentColumns, segmentColumns, segments}
 use Rattle.drawing.specs.Checks.{congestionConditions}
 use Rattle.drawing.specs.Refusals.{firstOf}
 use Rattle.drawing.specs.declared.refusal.Check.the-variants.{Passed}
-use Rattle.drawing.proofs.ListOrders.{SegmentHeld, segments-held}
+use Rattle.drawing.specs.Held.{SegmentHeld}
+use Rattle.drawing.proofs.ListOrders.{segments-held}
 use Rattle.congestion.specs.Measuring.{Cutoff, AtColumns}
 use Rattle.congestion.proofs.Fitness.{FitList, agree, fit-list}
 use Rattle.congestion.proofs.BothWays.{stops, stops-later, went-both}

@@ -10,11 +10,8 @@ measure-edge-node-clearance-bounded-requires :
     tie.Need-measure-edge-node-clearance-bounded-requires
 measure-edge-node-clearance-bounded-requires c κs = search needs
 
-clearance-words-requires : tie.Need-clearance-words-requires
-clearance-words-requires c κs = search needs
-
-clearance-status-requires : tie.Need-clearance-status-requires
-clearance-status-requires c κs = search needs
+tell-clearance-requires : tie.Need-tell-clearance-requires
+tell-clearance-requires c κs = search needs
 
 same-length : tie.Need-same-length
 same-length c = search needs
@@ -22,8 +19,8 @@ same-length c = search needs
 returns : tie.Need-returns
 returns c =
     let measured = c .before .before .before .before .measure-edge-node-clearance-bounded in (
-      c .clearance-status .ensures ∙ ap (λ a. resultOf a .0) (measured .ensures .0),
-      (c .before .clearance-words .ensures ∙ ap (λ a. clearanceWords (resultOf a .1)) (measured .ensures .0), measured .ensures .1),
+      c .tell-clearance .ensures .0 ∙ ap (λ a. resultOf a .0) (measured .ensures .0),
+      (c .tell-clearance .ensures .1 ∙ ap (λ a. clearanceWords (resultOf a .1)) (measured .ensures .0), measured .ensures .1 .0),
     )
 
 pub readability-clearance-spec : {M : Type 1} → statement M
@@ -31,7 +28,6 @@ readability-clearance-spec =
     tie.close
     (tie.spec
     measure-edge-node-clearance-bounded-requires
-    clearance-words-requires
-    clearance-status-requires
+    tell-clearance-requires
     same-length
     returns)

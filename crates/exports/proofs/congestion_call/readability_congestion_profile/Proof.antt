@@ -10,11 +10,8 @@ measure-parallel-congestion-profile-bounded-requires :
     tie.Need-measure-parallel-congestion-profile-bounded-requires
 measure-parallel-congestion-profile-bounded-requires c κs = search needs
 
-congestion-words-requires : tie.Need-congestion-words-requires
-congestion-words-requires c κs = search needs
-
-congestion-status-requires : tie.Need-congestion-status-requires
-congestion-status-requires c κs = search needs
+tell-congestion-requires : tie.Need-tell-congestion-requires
+tell-congestion-requires c κs = search needs
 
 same-length : tie.Need-same-length
 same-length c = search needs
@@ -22,8 +19,8 @@ same-length c = search needs
 returns : tie.Need-returns
 returns c =
     let measured = c .before .before .before .before .measure-parallel-congestion-profile-bounded in (
-      c .congestion-status .ensures ∙ ap (λ a. resultOf a .0) (measured .ensures .0),
-      (c .before .congestion-words .ensures ∙ ap (λ a. congestionWords (resultOf a .1)) (measured .ensures .0), measured .ensures .1),
+      c .tell-congestion .ensures .0 ∙ ap (λ a. resultOf a .0) (measured .ensures .0),
+      (c .tell-congestion .ensures .1 ∙ ap (λ a. congestionWords (resultOf a .1)) (measured .ensures .0), measured .ensures .1 .0),
     )
 
 pub readability-congestion-profile-spec : {M : Type 1} → statement M
@@ -31,7 +28,6 @@ readability-congestion-profile-spec =
     tie.close
     (tie.spec
     measure-parallel-congestion-profile-bounded-requires
-    congestion-words-requires
-    congestion-status-requires
+    tell-congestion-requires
     same-length
     returns)

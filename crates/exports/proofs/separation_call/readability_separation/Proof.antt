@@ -10,11 +10,8 @@ measure-parallel-separation-bounded-requires :
     tie.Need-measure-parallel-separation-bounded-requires
 measure-parallel-separation-bounded-requires c κs = search needs
 
-separation-words-requires : tie.Need-separation-words-requires
-separation-words-requires c κs = search needs
-
-separation-status-requires : tie.Need-separation-status-requires
-separation-status-requires c κs = search needs
+tell-separation-requires : tie.Need-tell-separation-requires
+tell-separation-requires c κs = search needs
 
 same-length : tie.Need-same-length
 same-length c = search needs
@@ -22,8 +19,8 @@ same-length c = search needs
 returns : tie.Need-returns
 returns c =
     let measured = c .before .before .before .before .measure-parallel-separation-bounded in (
-      c .separation-status .ensures ∙ ap (λ a. resultOf a .0) (measured .ensures .0),
-      (c .before .separation-words .ensures ∙ ap (λ a. separationWords (resultOf a .1)) (measured .ensures .0), measured .ensures .1),
+      c .tell-separation .ensures .0 ∙ ap (λ a. resultOf a .0) (measured .ensures .0),
+      (c .tell-separation .ensures .1 ∙ ap (λ a. separationWords (resultOf a .1)) (measured .ensures .0), measured .ensures .1 .0),
     )
 
 pub readability-separation-spec : {M : Type 1} → statement M
@@ -31,7 +28,6 @@ readability-separation-spec =
     tie.close
     (tie.spec
     measure-parallel-separation-bounded-requires
-    separation-words-requires
-    separation-status-requires
+    tell-separation-requires
     same-length
     returns)

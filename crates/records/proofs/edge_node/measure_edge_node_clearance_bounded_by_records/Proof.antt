@@ -9,9 +9,10 @@ use lib.ListN.{length}
 use Rattle.drawing.specs.Refusals.{firstOf, scratchAfter}
 use Rattle.drawing.specs.Entries.{nodeColumns, exemptionColumns, columnsOf}
 use Rattle.drawing.specs.Checks.{clearanceConditions}
+use Rattle.drawing.specs.Held.{Binary64, SegmentsHeld, NodesHeld}
 use Rattle.clearance.specs.Answer.{clearanceAnswer}
 use Rattle.records.specs.Records.{ofEdgeNode}
-use Rattle.records.proofs.Deciding.{clearance-checked, clearance-decided}
+use Rattle.records.proofs.Deciding.{clearance-many, clearance-checked, passed-all, clearance-decided}
 use Rattle.records.proofs.edge_node.measure_edge_node_clearance_bounded_by_records.Statement.{statement}
 use Rattle.records.proofs.edge_node.measure_edge_node_clearance_bounded_by_records.Proof.Tie as tie
 
@@ -34,7 +35,10 @@ returns c =
     let exemptions = exemptionColumns (now (given .exempt-net)) (now (given .exempt-node)) in
     let entries = map ofEdgeNode (now (given .records)) in (
       called .ensures .0 ∙ ap (λ l. clearanceAnswer (columnsOf l) nodes exemptions (given .threshold) (given .allowance) (length scratch)) lines ∙ clearance-decided entries nodes exemptions (given .threshold) (given .allowance) (length scratch),
-      called .ensures .1 ∙ ap (λ l. scratchAfter (firstOf (clearanceConditions (columnsOf l) nodes exemptions (given .threshold) (length scratch))) scratch) lines ∙ ap (λ k. scratchAfter k scratch) (clearance-checked entries (length scratch) nodes exemptions (given .threshold)),
+      (
+        called .ensures .1 .0 ∙ ap (λ l. scratchAfter (firstOf (clearanceConditions (columnsOf l) nodes exemptions (given .threshold) (length scratch))) scratch) lines ∙ ap (λ k. scratchAfter k scratch) (clearance-checked entries (length scratch) nodes exemptions (given .threshold)),
+        passed-all (λ l. firstOf (clearanceConditions (columnsOf l) nodes exemptions (given .threshold) (length scratch))) _ (λ k. clearance-many k nodes exemptions (given .threshold) (length scratch)) (λ l. SegmentsHeld (columnsOf l) × NodesHeld nodes × Binary64 (given .threshold)) _ entries lines (called .ensures .1 .1),
+      ),
     )
 
 pub measure-edge-node-clearance-bounded-by-records-spec : {M : Type 1} → statement M

@@ -1,11 +1,13 @@
 -- `records::of_lines::clearance_of_lines` meets its contract: that of the call by columns, of the columns that were laid out. Assumes nothing.
-use mathlib.Core.Path.{sym, ap, _∙_}
+use mathlib.Core.Path.{_≡_, sym, ap, subst, _∙_}
 use borrow.Author.Needs.{needs}
 use denote.Ref.{now}
 use lib.ListN.{length}
 use lib.Seq.{length-take-le}
+use Rattle.drawing.specs.declared.refusal.Check.the-variants.{Passed}
 use Rattle.drawing.specs.Refusals.{firstOf, scratchAfter}
 use Rattle.drawing.specs.Checks.{clearanceConditions}
+use Rattle.drawing.specs.Held.{Binary64, SegmentsHeld, NodesHeld}
 use Rattle.drawing.specs.Entries.{nodeColumns, exemptionColumns}
 use Rattle.clearance.specs.Answer.{clearanceAnswer}
 use Rattle.records.proofs.LineColumns.{laid-out}
@@ -82,7 +84,10 @@ returns c =
     let begun = laid .before .before .before .before .before .before .before .before .before .before .before .before .before .before .before in
     let columns = laid-out _ (begun .args .n) _ (begun .args .lines) (laid .unpack .ensures) (laid .before .before .before .before .before .before .unpacked .ensures .0) (search needs) in (
       called .measure-edge-node-clearance-bounded .ensures .0 ∙ ap (λ s. clearanceAnswer s (nodeColumns (now (begun .args .id)) (now (begun .args .x)) (now (begun .args .y)) (now (begun .args .width)) (now (begun .args .height))) (exemptionColumns (now (begun .args .exempt-net)) (now (begun .args .exempt-node))) (begun .args .threshold) (begun .args .allowance) (length (now (begun .args .scratch)))) columns,
-      called .measure-edge-node-clearance-bounded .ensures .1 ∙ ap (λ s. scratchAfter (firstOf (clearanceConditions s (nodeColumns (now (begun .args .id)) (now (begun .args .x)) (now (begun .args .y)) (now (begun .args .width)) (now (begun .args .height))) (exemptionColumns (now (begun .args .exempt-net)) (now (begun .args .exempt-node))) (begun .args .threshold) (length (now (begun .args .scratch))))) (now (begun .args .scratch))) columns,
+      (
+        called .measure-edge-node-clearance-bounded .ensures .1 .0 ∙ ap (λ s. scratchAfter (firstOf (clearanceConditions s (nodeColumns (now (begun .args .id)) (now (begun .args .x)) (now (begun .args .y)) (now (begun .args .width)) (now (begun .args .height))) (exemptionColumns (now (begun .args .exempt-net)) (now (begun .args .exempt-node))) (begun .args .threshold) (length (now (begun .args .scratch))))) (now (begun .args .scratch))) columns,
+        subst (λ s. firstOf (clearanceConditions s (nodeColumns (now (begun .args .id)) (now (begun .args .x)) (now (begun .args .y)) (now (begun .args .width)) (now (begun .args .height))) (exemptionColumns (now (begun .args .exempt-net)) (now (begun .args .exempt-node))) (begun .args .threshold) (length (now (begun .args .scratch)))) ≡ Passed → SegmentsHeld s × NodesHeld (nodeColumns (now (begun .args .id)) (now (begun .args .x)) (now (begun .args .y)) (now (begun .args .width)) (now (begun .args .height))) × Binary64 (begun .args .threshold)) columns (called .measure-edge-node-clearance-bounded .ensures .1 .1),
+      ),
     )
 
 pub clearance-of-lines-spec : {M : Type 1} → statement M

@@ -1,11 +1,13 @@
 -- `records::of_lines::separation_of_lines` meets its contract: that of the call by columns, of the columns that were laid out. Assumes nothing.
-use mathlib.Core.Path.{sym, ap, _∙_}
+use mathlib.Core.Path.{_≡_, sym, ap, subst, _∙_}
 use borrow.Author.Needs.{needs}
 use denote.Ref.{now}
 use lib.ListN.{length}
 use lib.Seq.{length-take-le}
+use Rattle.drawing.specs.declared.refusal.Check.the-variants.{Passed}
 use Rattle.drawing.specs.Refusals.{firstOf, scratchAfter}
 use Rattle.drawing.specs.Checks.{separationConditions}
+use Rattle.drawing.specs.Held.{SegmentsHeld}
 use Rattle.separation.specs.Answer.{separationAnswer}
 use Rattle.records.proofs.LineColumns.{laid-out}
 use Rattle.records.proofs.of_lines.separation_of_lines.Statement.{statement}
@@ -81,7 +83,10 @@ returns c =
     let begun = laid .before .before .before .before .before .before .before .before in
     let columns = laid-out _ (begun .args .n) _ (begun .args .lines) (laid .unpack .ensures) (laid .before .before .before .before .before .before .unpacked .ensures .0) (search needs) in (
       called .measure-parallel-separation-bounded .ensures .0 ∙ ap (λ s. separationAnswer s (begun .args .allowance) (length (now (begun .args .scratch)))) columns,
-      called .measure-parallel-separation-bounded .ensures .1 ∙ ap (λ s. scratchAfter (firstOf (separationConditions s (length (now (begun .args .scratch))))) (now (begun .args .scratch))) columns,
+      (
+        called .measure-parallel-separation-bounded .ensures .1 .0 ∙ ap (λ s. scratchAfter (firstOf (separationConditions s (length (now (begun .args .scratch))))) (now (begun .args .scratch))) columns,
+        subst (λ s. firstOf (separationConditions s (length (now (begun .args .scratch)))) ≡ Passed → SegmentsHeld s) columns (called .measure-parallel-separation-bounded .ensures .1 .1),
+      ),
     )
 
 pub separation-of-lines-spec : {M : Type 1} → statement M

@@ -9,9 +9,10 @@ use lib.ListN.{length}
 use Rattle.drawing.specs.Entries.{columnsOf}
 use Rattle.drawing.specs.Refusals.{firstOf, scratchAfter}
 use Rattle.drawing.specs.Checks.{congestionConditions}
+use Rattle.drawing.specs.Held.{Binary64, SegmentsHeld}
 use Rattle.congestion.specs.Answer.{densityAnswer}
 use Rattle.records.specs.Records.{ofParallel}
-use Rattle.records.proofs.Deciding.{congestion-checked, density-decided}
+use Rattle.records.proofs.Deciding.{congestion-many, congestion-checked, passed-all, density-decided}
 use Rattle.records.proofs.parallel.measure_parallel_density_profile_bounded_by_records.Statement.{statement}
 use Rattle.records.proofs.parallel.measure_parallel_density_profile_bounded_by_records.Proof.Tie as tie
 
@@ -32,7 +33,10 @@ returns c =
     let scratch = now (given .scratch) in
     let entries = map ofParallel (now (given .records)) in (
       called .ensures .0 ∙ ap (λ l. densityAnswer (columnsOf l) (given .cutoff) (given .allowance) (length scratch)) lines ∙ density-decided entries (given .cutoff) (given .allowance) (length scratch),
-      called .ensures .1 ∙ ap (λ l. scratchAfter (firstOf (congestionConditions (columnsOf l) (given .cutoff) (length scratch))) scratch) lines ∙ ap (λ k. scratchAfter k scratch) (congestion-checked entries (length scratch) (given .cutoff)),
+      (
+        called .ensures .1 .0 ∙ ap (λ l. scratchAfter (firstOf (congestionConditions (columnsOf l) (given .cutoff) (length scratch))) scratch) lines ∙ ap (λ k. scratchAfter k scratch) (congestion-checked entries (length scratch) (given .cutoff)),
+        passed-all (λ l. firstOf (congestionConditions (columnsOf l) (given .cutoff) (length scratch))) _ (λ k. congestion-many k (given .cutoff) (length scratch)) (λ l. SegmentsHeld (columnsOf l) × Binary64 (given .cutoff)) _ entries lines (called .ensures .1 .1),
+      ),
     )
 
 pub measure-parallel-density-profile-bounded-by-records-spec : {M : Type 1} → statement M

@@ -9,9 +9,10 @@ use lib.ListN.{length}
 use Rattle.drawing.specs.Entries.{columnsOf}
 use Rattle.drawing.specs.Refusals.{firstOf, scratchAfter}
 use Rattle.drawing.specs.Checks.{separationConditions}
+use Rattle.drawing.specs.Held.{SegmentsHeld}
 use Rattle.separation.specs.Answer.{separationAnswer}
 use Rattle.records.specs.Records.{ofParallel}
-use Rattle.records.proofs.Deciding.{separation-checked, separation-decided}
+use Rattle.records.proofs.Deciding.{separation-many, separation-checked, passed-all, separation-decided}
 use Rattle.records.proofs.parallel.measure_parallel_separation_bounded_by_records.Statement.{statement}
 use Rattle.records.proofs.parallel.measure_parallel_separation_bounded_by_records.Proof.Tie as tie
 
@@ -32,7 +33,10 @@ returns c =
     let scratch = now (given .scratch) in
     let entries = map ofParallel (now (given .records)) in (
       called .ensures .0 ∙ ap (λ l. separationAnswer (columnsOf l) (given .allowance) (length scratch)) lines ∙ separation-decided entries (given .allowance) (length scratch),
-      called .ensures .1 ∙ ap (λ l. scratchAfter (firstOf (separationConditions (columnsOf l) (length scratch))) scratch) lines ∙ ap (λ k. scratchAfter k scratch) (separation-checked entries (length scratch)),
+      (
+        called .ensures .1 .0 ∙ ap (λ l. scratchAfter (firstOf (separationConditions (columnsOf l) (length scratch))) scratch) lines ∙ ap (λ k. scratchAfter k scratch) (separation-checked entries (length scratch)),
+        passed-all (λ l. firstOf (separationConditions (columnsOf l) (length scratch))) _ (λ k. separation-many k (length scratch)) (λ l. SegmentsHeld (columnsOf l)) _ entries lines (called .ensures .1 .1),
+      ),
     )
 
 pub measure-parallel-separation-bounded-by-records-spec : {M : Type 1} → statement M

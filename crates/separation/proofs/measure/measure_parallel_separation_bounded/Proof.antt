@@ -2,7 +2,7 @@
 use borrow.Author.Needs.{needs}
 use Rattle.separation.proofs.WholeCall.{remains, refused-answer, passed-answer}
 use Rattle.drawing.proofs.ListOrders.{segments-held}
-use Rattle.drawing.proofs.FirstRefusal.{separation-agree, refused-scratch, passed-scratch}
+use Rattle.drawing.proofs.FirstRefusal.{separation-agree, not-passed, refused-scratch, passed-scratch}
 use Rattle.drawing.specs.Entries.{segmentColumns}
 use denote.Ref.{now}
 use lib.ListN.{replicate}
@@ -20,7 +20,10 @@ enum-known-check : tie.Need-enum-known-check
 enum-known-check c = search needs
 
 returns : tie.Need-returns
-returns c = (refused-answer (segmentColumns _ _ _ _ _) _ _ _ _ (c .before .before .before .check-separation .ensures) (c .before .check .given .1), refused-scratch _ _ _ _ (c .before .before .before .check-separation .ensures) (c .before .check .given .1))
+returns c =
+    let check = c .before .before .before .check-separation .ensures in
+    let told = c .before .check .given .1 in
+    (refused-answer (segmentColumns _ _ _ _ _) _ _ _ _ check told, (refused-scratch _ _ _ _ check told, not-passed _ _ _ check told))
 
 enum-told : tie.Need-enum-told
 enum-told c = search needs
@@ -49,7 +52,7 @@ returns-2 c =
     let kept = ap (λ (k : ℕ). replicate {A = ℕ} k 0) (walked .walk-segments .kept .1 .1 .1 .1 .1 .1 .0) in
     let cleared = c .before .before .before .clear .ensures ∙ kept in (
       passed-answer s _ _ passed held _ (walked .walk-segments .ensures) _ (c .answer-of .ensures),
-      passed-scratch _ _ _ _ check told cleared,
+      (passed-scratch _ _ _ _ check told cleared, λ p. held),
     )
 
 pub measure-parallel-separation-bounded-spec : {M : Type 1} → statement M

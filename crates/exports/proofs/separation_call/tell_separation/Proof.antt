@@ -1,7 +1,7 @@
--- `exports::records_call::tell_separation` meets its contract. Assumes nothing.
+-- `exports::separation_call::tell_separation` meets its contract. Assumes nothing.
 use borrow.Author.Needs.{needs}
-use Rattle.exports.proofs.records_call.tell_separation.Statement.{statement}
-use Rattle.exports.proofs.records_call.tell_separation.Tie as tie
+use Rattle.exports.proofs.separation_call.tell_separation.Statement.{statement}
+use Rattle.exports.proofs.separation_call.tell_separation.Tie as tie
 
 separation-words-requires : tie.Need-separation-words-requires
 separation-words-requires c κs = search needs

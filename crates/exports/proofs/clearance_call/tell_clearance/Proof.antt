@@ -1,7 +1,7 @@
--- `exports::records_call::tell_clearance` meets its contract. Assumes nothing.
+-- `exports::clearance_call::tell_clearance` meets its contract. Assumes nothing.
 use borrow.Author.Needs.{needs}
-use Rattle.exports.proofs.records_call.tell_clearance.Statement.{statement}
-use Rattle.exports.proofs.records_call.tell_clearance.Tie as tie
+use Rattle.exports.proofs.clearance_call.tell_clearance.Statement.{statement}
+use Rattle.exports.proofs.clearance_call.tell_clearance.Tie as tie
 
 clearance-words-requires : tie.Need-clearance-words-requires
 clearance-words-requires c κs = search needs

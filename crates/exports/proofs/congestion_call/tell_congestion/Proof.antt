@@ -1,7 +1,7 @@
--- `exports::records_call::tell_congestion` meets its contract. Assumes nothing.
+-- `exports::congestion_call::tell_congestion` meets its contract. Assumes nothing.
 use borrow.Author.Needs.{needs}
-use Rattle.exports.proofs.records_call.tell_congestion.Statement.{statement}
-use Rattle.exports.proofs.records_call.tell_congestion.Tie as tie
+use Rattle.exports.proofs.congestion_call.tell_congestion.Statement.{statement}
+use Rattle.exports.proofs.congestion_call.tell_congestion.Tie as tie
 
 congestion-words-requires : tie.Need-congestion-words-requires
 congestion-words-requires c κs = search needs
