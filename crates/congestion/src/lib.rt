@@ -1,5 +1,4 @@
 // The length of wires that run beside a close wire of another net.
-// The definitions that the contracts cite are in specs/, the laws of these definitions in proofs/.
 mod along;
 mod counts;
 pub mod measure;

@@ -22,7 +22,7 @@ use Rattle.drawing.proofs.ListOrders.{segments-in-order-perm}
 use Rattle.rows.specs.Rows.{Row, rowOf, words, rowsInOrder, oriented}
 
 -- ---- the order of the list
--- the Rust's own order compares all words of a row, so rows that tie are equal
+-- the order of the rows compares all their words, so rows that tie are equal
 pub words-one : (a b : Row) → words a ≡ words b → a ≡ b
 unfolding words
 words-one a b e = λ i. record { net = getD (e i) 3 0; line = getD (e i) 0 0; start = getD (e i) 1 0; end = getD (e i) 2 0 }

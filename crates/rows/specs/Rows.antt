@@ -1,4 +1,4 @@
--- The segments of one orientation as rows in the Rust's own order, and their events in order: separation's walk is defined over them, and the code of both sweeps goes over them. Congestion's walk is defined over wires in 64ths.
+-- The segments of one orientation as rows in order, and their events in order: separation's walk is defined over them, and the code of both sweeps goes over them. Congestion's walk is defined over wires in 64ths.
 use mathlib.Core.Bool.{Bool}
 use mathlib.Core.List.{List, [], _∷_}
 use Prim.Native.Nat.{ℕ, suc}
@@ -19,7 +19,6 @@ fixedOf s = canonicalZero (s .fixed)
 unfoldable pub startOf : Segment → Float
 startOf s = canonicalZero (s .start)
 
--- where a segment stops counting: at its end. Separation's figures and walk read the end here only.
 unfoldable pub endOf : Segment → Float
 endOf s = canonicalZero (s .end)
 
@@ -33,7 +32,7 @@ pub record Row : Type 0 where
 unfoldable pub rowOf : Segment → Row
 rowOf s = record { net = s .net; line = keyOf (fixedOf s); start = keyOf (startOf s); end = keyOf (endOf s) }
 
--- the Rust's own order: fixed, start, end, net
+-- rows come by fixed, start, end, net, as the Rust's separation sorts. Its congestion keeps the list's order, on which the figures of that sweep do not depend.
 unfoldable pub words : Row → List ℕ
 words r = r .line ∷ r .start ∷ r .end ∷ r .net ∷ []
 
@@ -45,7 +44,7 @@ unfoldable pub oriented : ℕ → List Segment → List Row
 oriented o l = sortBy rowsInOrder (chosen (λ s. eqb (s .orientation) o) rowOf (segmentsInOrder l))
 
 -- ---- the events
--- each segment ends and starts; its index is its place in the Rust's own order
+-- each segment ends and starts; its index is the place of its row in order
 pub data Event : Type 0 where
   ends starts : ℕ → Row → Event
 

@@ -1,4 +1,4 @@
-// The segments of one orientation as rows of four words, put in the Rust's own order and spread over columns.
+// The segments of one orientation as rows of four words, put in order and spread over columns.
 ghost use mathlib.Core.Path.{_≡_};
 ghost use Prim.Native.Nat.{_+_, _*_, _≤_, _<_};
 ghost use lib.ListN.{length, drop};
@@ -86,7 +86,7 @@ fn gather_rows(
     n
 }
 
-// The places of these rows in the Rust's own order, in the first words of p, and behind net.len() words the rows themselves. The answer is how many there are. Where the columns differ in length or p is too short, the answer is 0 and p stays as it is.
+// The places of these rows in order, in the first words of p, and behind net.len() words the rows themselves. The answer is how many there are. Where the columns differ in length or p is too short, the answer is 0 and p stays as it is.
 pub fn order_rows(
     p: &mut [u64],
     wanted: u8,
