@@ -19,9 +19,9 @@ use Rattle.separation.specs.declared.summary.NetSummary.{NetSummary}
 use Rattle.separation.specs.declared.summary.NetSummary.the-variants.{Nothing, One, Two}
 use Rattle.separation.specs.Lines.{index}
 use Rattle.separation.specs.Walk.{remove}
-use Rattle.separation.specs.Summaries.{otherThan, summaryOf}
 use Rattle.separation.specs.ActiveTree.{Decides}
 use Rattle.separation.specs.ActiveNets.{onLine, netCount, Different, NetsOn, Slots, Counted, Countable, Endable, lineSummary, summaryOfLine, Starts, Ends}
+use Rattle.separation.proofs.Summaries.{otherThan, summaryOf}
 use Rattle.separation.proofs.ActiveRows.{mem-count}
 use Rattle.separation.proofs.NetCounts.{count-start, count-end, counts-decide}
 

@@ -8,8 +8,8 @@ use Rattle.laws.specs.Lists.{Mem, fold, bit}
 use Rattle.laws.proofs.Tests.{and-left, and-right, and-both}
 use Rattle.rows.specs.Rows.{Row}
 use Rattle.separation.specs.Lines.{index}
-use Rattle.separation.specs.Summaries.{summaryOf}
 use Rattle.separation.specs.Walk.{remove}
+use Rattle.separation.proofs.Summaries.{summaryOf}
 use Rattle.separation.proofs.ActiveRows.{mem-count, count-mem, remove-count}
 use Rattle.separation.specs.ActiveTree.{Decides}
 use Rattle.separation.specs.ActiveNets.{onLine, netCount}

@@ -11,7 +11,20 @@ use Rattle.laws.proofs.Tests.{decide, is-true, of-true, same-test, or-false}
 use Rattle.laws.proofs.ListLaws.{mem-some, some-mem, mem-chosen, chosen-mem}
 use Rattle.separation.specs.declared.summary.NetSummary.{NetSummary}
 use Rattle.separation.specs.declared.summary.NetSummary.the-variants.{Nothing, One, Two}
-use Rattle.separation.specs.Summaries.{otherThan, withSecond, summaryOf, hasOther}
+use Rattle.separation.specs.Summaries.{hasOther}
+
+-- ---- the summary of a list of nets
+abbrev pub otherThan : ℕ → ℕ → Bool
+otherThan n m = not (eqb m n)
+
+-- a net with those that differ from it
+abbrev withSecond : ℕ → List ℕ → NetSummary
+withSecond n [] = One n
+withSecond n (m ∷ l) = Two
+
+unfoldable pub summaryOf : List ℕ → NetSummary
+summaryOf [] = Nothing
+summaryOf (n ∷ l) = withSecond n (keep (otherThan n) l)
 
 -- tests that hold together are one test
 pub both : (a b : Bool) → (a ≡ true → b ≡ true) → (b ≡ true → a ≡ true) → a ≡ b

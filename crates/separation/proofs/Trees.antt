@@ -17,11 +17,11 @@ use Rattle.separation.specs.declared.summary.NetSummary.{NetSummary}
 use Rattle.separation.specs.declared.summary.NetSummary.the-variants.{Nothing}
 use Rattle.separation.specs.Lines.{index}
 use Rattle.separation.specs.Searches.{otherIn, leaf, node, rightmost, leftmost}
-use Rattle.separation.specs.Summaries.{otherThan, summaryOf, hasOther}
+use Rattle.separation.specs.Summaries.{hasOther}
 use Rattle.separation.specs.ActiveTree.{NodeAt, Decides, Covers, Outside, SameOff}
 use Rattle.separation.specs.Walk.{remove}
 use Rattle.separation.proofs.Lines.{other→, →other, other-splits, other-widen}
-use Rattle.separation.proofs.Summaries.{both, summary-decides}
+use Rattle.separation.proofs.Summaries.{otherThan, summaryOf, both, summary-decides}
 use Rattle.separation.proofs.ActiveRows.{remove-mem, mem-remove}
 
 pub node-root : (H : ℕ) → NodeAt H H 1 0

@@ -18,9 +18,8 @@ use Rattle.laws.proofs.Sorting.{sort-perm}
 use Rattle.rows.specs.Rows.{Row}
 use Rattle.separation.specs.Lines.{index}
 use Rattle.separation.specs.Searches.{otherIn}
-use Rattle.separation.specs.Summaries.{otherThan}
 use Rattle.separation.specs.TwoNets.{TwoNets, insert, insertAll, fromNets, listed, merged, isOther, hasOther, summaryOver}
-use Rattle.separation.proofs.Summaries.{two-decide}
+use Rattle.separation.proofs.Summaries.{otherThan, two-decide}
 use Rattle.separation.proofs.Trees.{other-join, leaf-nets}
 
 -- the places fill from the first on, and two nets differ
