@@ -5,7 +5,7 @@ ghost use Prim.Native.Nat.{ℕ};
 ghost use Rattle.separation.specs.Summaries.{hasOther};
 
 // No net, one, or two different ones at least. The Rust keeps two of these; which two is of no matter, since of two different nets one is always another than the net asked for.
-pub enum NetSummary {
+pub(crate) enum NetSummary {
     Nothing,
     One(u32),
     Two,

@@ -11,14 +11,14 @@ ghost use Rattle.separation.specs.ActiveTree.{summaryOfWord, summaryAt, 
 use crate::summary::NetSummary;
 
 // A search answers the place that it found or that there is none, with what is left of the allowance, or that the allowance is spent.
-pub enum Search {
+pub(crate) enum Search {
     Found(usize, usize),
     Empty(usize),
     Spent,
 }
 
 // What is left after a `set`, or that the allowance did not reach.
-pub enum Charge {
+pub(crate) enum Charge {
     Paid(usize),
     Short,
 }
