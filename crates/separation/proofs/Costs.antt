@@ -16,13 +16,13 @@ use Rattle.rows.specs.Rows.{Row, oriented, Event, ends, starts, eventsInOrder, 
 use Rattle.rows.proofs.Oriented.{oriented-length}
 use Rattle.separation.specs.Lines.{lines, index, levels}
 use Rattle.separation.specs.Searches.{otherIn}
-use Rattle.separation.specs.Walk.{Sweep, nothing, startsAt, endsAt, step, sweep, along, walkAll, visitCount}
+use Rattle.separation.specs.Walk.{Sweep, nothing, looking, startsAt, endsAt, step, sweep, along, walkAll, visitCount}
 use Rattle.separation.proofs.Lines.{other-splits}
 use Rattle.separation.proofs.Searches.{set-cost, right-cost, left-cost}
 
 -- a start takes `has_other_at`, two searches and a `set`
 start-cost : (ls : List ℕ) (h : ℕ) (s : Sweep) (x : Row) → startsAt ls h s x .cost ≤ 9 * h + 4
-unfolding startsAt
+unfolding startsAt looking
 start-cost ls h s x =
     let has = otherIn ls (s .active) (x .net) in
     let i = index ls (x .line) in

@@ -23,7 +23,7 @@ use Rattle.drawing.proofs.GapLaws.{gaps-ranked, least-none, least-one, least-jo
 use Rattle.rows.specs.Rows.{Row, rowsInOrder, Event, ends, starts, events}
 use Rattle.separation.specs.Figures.{Figures, nonzero, leastOf}
 use Rattle.separation.specs.Lines.{lines, levels}
-use Rattle.separation.specs.Walk.{nothing, lesserFigures, ownLine, otherLine, remove, startsAt, endsAt, step, sweep}
+use Rattle.separation.specs.Walk.{nothing, lesserFigures, ownLine, otherLine, remove, looking, startsAt, endsAt, step, sweep}
 use Rattle.separation.proofs.Lines.{Rising, lines-rising, line-mem}
 use Rattle.separation.proofs.Meets.{own, sight, ownOther, below, above, meets, Sees, meets-sound, below-sees, above-sees}
 use Rattle.separation.proofs.Places.{Placed, gapAt, at-good, at-one, at-two}
@@ -125,7 +125,7 @@ module _ (ls : List ℕ) (h : ℕ) (rising : Rising ls) (room : length ls ≤ 2 
 -- ---- the sweep over a list l of rows with start < end, whose lines are places
 module _ (l : List Row) (ls : List ℕ) (h : ℕ) (rising : Rising ls) (room : length ls ≤ 2 ^ h) (lined : (r : Row) → Mem r l → Mem (r .line) ls) (proper : (r : Row) → Mem r l → r .start < r .end) (places : (r : Row) → Mem r l → Placed (r .line)) where
   runs-least : (active : List Row) (es : List Event) → State l active es → (seen : List Float) → All Good seen → runs (step ls h) (record { active = active; met = leastOf seen }) es .value .met ≡ leastOf (seen ++ map gapAt (sights ls h active es))
-  unfolding runs sights step endsAt startsAt
+  unfolding runs sights step endsAt startsAt looking
   runs-least active [] s seen g = rw append-nil
   runs-least active (ends i x ∷ es) s seen g = runs-least (remove x active) es (after-end l proper active i x es s) seen g
   runs-least active (starts i x ∷ es) s seen g =

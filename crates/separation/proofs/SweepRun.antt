@@ -2,7 +2,7 @@
 use mathlib.Core.Path.{_≡_, refl, sym, ap, _∙_, subst}
 use mathlib.Core.Logic.{inl, inr}
 use mathlib.Core.List.{List, _∷_, _++_}
-use Prim.Native.Nat.{ℕ, suc, _+_, _-_, _*_, _^_, _≤_, _<_}
+use Prim.Native.Nat.{ℕ, _+_, _-_, _*_, _^_, _≤_, _<_}
 use native.Mathlib.Omega.{arith}
 use borrow.Rule.Slice.PartMut.{putMid}
 use lib.ListN.{length, getD, take, drop, length-append, length-drop}
@@ -22,10 +22,10 @@ use Rattle.separation.specs.declared.sweep.Swept.{Swept}
 use Rattle.separation.specs.declared.sweep.Swept.the-variants.{Went, Spent}
 use Rattle.separation.specs.Figures.{Figures}
 use Rattle.separation.specs.Lines.{lines, index}
-use Rattle.separation.specs.Searches.{otherIn, rightmost, leftmost, setRun}
-use Rattle.separation.specs.Walk.{Sweep, remove, startsAt, endsAt}
+use Rattle.separation.specs.Searches.{setRun}
+use Rattle.separation.specs.Walk.{Sweep, remove, looking, startsAt, endsAt}
 use Rattle.separation.specs.ActiveTree.{summaryAt, Leaves, Covers}
-use Rattle.separation.specs.Sweeping.{metBy, sweptOf, looking, Lookable, Lined, Looks, Working, At, Enterable, Leavable, Pays, Entered, TakenOut, Ready, AtStart, figuresOf, Begins, Finishes}
+use Rattle.separation.specs.Sweeping.{metBy, sweptOf, Lookable, Lined, Looks, Working, At, Enterable, Leavable, Pays, Entered, TakenOut, Ready, AtStart, figuresOf, Begins, Finishes}
 use Rattle.separation.proofs.Lines.{lines-rising, line-mem, index-lt, at-index}
 use Rattle.separation.proofs.Allowances.{end-within}
 use Rattle.separation.proofs.ActiveNets.{countable, endable}
@@ -174,18 +174,10 @@ module _ (ls : List ℕ) (H : ℕ) (active : List Row) (st : Sweeping) (x : Row)
   abbrev here : Sweep
   here = record { active = active; met = metBy st }
 
-  -- a start is a look and a `set`
-  starts-looks : record { value = startsAt ls H here x .value .met; cost = startsAt ls H here x .cost } ≡ after (looking ls H active (metBy st) x) (λ f. after (setRun H) (λ done. free f))
-  unfolding startsAt looking
-  starts-looks = λ i. record { value = looking ls H active (metBy st) x .value; cost = sums (rightmost (λ k. otherIn ls active (x .net)) (index ls (x .line)) H 1 0 .cost) (leftmost (λ k. otherIn ls active (x .net)) (suc (index ls (x .line))) H 1 0 .cost) (setRun H .cost) i }
-    where
-      sums : (r l s : ℕ) → 1 + (r + (l + (s + 0))) ≡ 1 + (r + (l + 0)) + (s + 0)
-      sums r l s = omega arith
-
   start-figures : figuresOf (within (st .left) (startsAt ls H here x)) ≡ onward (within (st .left) (looking ls H active (metBy st) x)) (λ f r. onward (within r (setRun H)) (λ done r. left f r))
+  unfolding startsAt
   start-figures =
       figures-within (st .left) (startsAt ls H here x)
-      ∙ ap (within (st .left)) starts-looks
       ∙ within-after (st .left) (looking ls H active (metBy st) x) (λ f. after (setRun H) (λ done. free f))
       ∙ (λ i. onward (within (st .left) (looking ls H active (metBy st) x)) (λ f r. paid f r i))
     where

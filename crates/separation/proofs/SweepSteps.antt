@@ -32,9 +32,9 @@ use Rattle.separation.specs.Figures.{Figures}
 use Rattle.separation.specs.Lines.{index}
 use Rattle.separation.specs.Searches.{otherIn, leaf, node, rightmost, leftmost, setRun, searchOf}
 use Rattle.separation.specs.Summaries.{hasOther}
-use Rattle.separation.specs.Walk.{lesserFigures, ownLine, otherLine}
+use Rattle.separation.specs.Walk.{lesserFigures, ownLine, otherLine, looking}
 use Rattle.separation.specs.ActiveTree.{summaryAt, chargeOf, Covers}
-use Rattle.separation.specs.Sweeping.{metBy, sweptOf, WithinLines, joined, looking, Lined, chargedTo}
+use Rattle.separation.specs.Sweeping.{metBy, sweptOf, WithinLines, joined, Lined, chargedTo}
 use Rattle.separation.proofs.Lines.{other→, other-widen}
 use Rattle.separation.proofs.Searches.{Best, In, Below, From, right-best, left-best}
 use Rattle.separation.proofs.StoredSearches.{was-spent, was-found, was-empty}

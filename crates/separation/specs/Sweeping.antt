@@ -3,11 +3,10 @@
 use mathlib.Core.Path.{_≡_}
 use mathlib.Core.List.{List, [], _∷_}
 use mathlib.Core.Option.{Option}
-use Prim.Native.Nat.{ℕ, suc, _+_, _*_, _^_, _≤_, _<_}
+use Prim.Native.Nat.{ℕ, _+_, _*_, _^_, _≤_, _<_}
 use lib.ListN.{length, getD, take, drop}
 use Rattle.laws.specs.Lists.{Mem}
 use Rattle.laws.specs.Sort.{Sorted}
-use Rattle.laws.specs.Charged.{Charged, free, visit, after}
 use Rattle.laws.specs.Allowance.{Outcome, spent, left, within, onward, reply}
 use Rattle.drawing.specs.declared.refusal.Refusal.the-variants.{WorkLimitExceeded}
 use Rattle.drawing.specs.Entries.{SegmentColumns, segments}
@@ -26,8 +25,8 @@ use Rattle.separation.specs.declared.report.SeparationAnswer.the-variant
 use Rattle.separation.specs.Figures.{Figures}
 use Rattle.separation.specs.Answer.{accepted}
 use Rattle.separation.specs.Lines.{lines, index}
-use Rattle.separation.specs.Searches.{otherIn, rightmost, leftmost, setRun}
-use Rattle.separation.specs.Walk.{Sweep, remove, ownLine, otherLine, startsAt, endsAt, step}
+use Rattle.separation.specs.Searches.{setRun}
+use Rattle.separation.specs.Walk.{Sweep, remove, otherLine, looking, startsAt, endsAt, step}
 use Rattle.separation.specs.ActiveTree.{summaryAt, Leaves, Covers}
 use Rattle.separation.specs.ActiveNets.{Slots, Counted, Countable, Endable}
 use Rattle.separation.specs.Prepared.{Prepared}
@@ -52,15 +51,6 @@ abbrev pub joined : List ℕ → ℕ → Figures → Outcome (Option ℕ) → Ou
 joined ls p f o = onward o (λ found r. left (otherLine ls p found f) r)
 
 -- ---- what a start looks at before its `set`
-unfoldable pub looking : List ℕ → ℕ → List Row → Figures → Row → Charged Figures
-looking ls h active f x =
-    let i = index ls (x .line) in
-    let has = otherIn ls active (x .net) in
-    after (visit (free (has i (suc i)))) (λ own.
-    after (rightmost (λ k. has) i h 1 0) (λ below.
-    after (leftmost (λ k. has) (suc i) h 1 0) (λ above.
-    free (otherLine ls (x .line) above (otherLine ls (x .line) below (ownLine own f))))))
-
 -- the tree and the fixed values can be looked at
 pub record Lookable (t fixed : List ℕ) (leaves line : ℕ) : Type 0 where
   pub tree : Leaves t leaves

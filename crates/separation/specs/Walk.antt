@@ -47,15 +47,21 @@ abbrev pub otherLine : List ℕ → ℕ → Option ℕ → Figures → Figures
 otherLine ls line none f = f
 otherLine ls line (some i) f = let g = Present (gapOf (floatAt (getD ls i 0)) (floatAt line)) in lesserFigures f (record { least = g; leastNonzero = g })
 
--- a segment starts: is another net on its own line (`has_other_at`), which is the nearest line below with another net, which the nearest above; then its line's `set`. "Every node touched by a search or a `set` costs one visit, and so does each `has_other_at`."
-unfoldable pub startsAt : List ℕ → ℕ → Sweep → Row → Charged Sweep
-startsAt ls h s x =
+-- what a start looks at: is another net on the segment's own line (`has_other_at`), which is the nearest line below with another net, which the nearest above. "Every node touched by a search or a `set` costs one visit, and so does each `has_other_at`."
+unfoldable pub looking : List ℕ → ℕ → List Row → Figures → Row → Charged Figures
+looking ls h active f x =
     let i = index ls (x .line) in
-    let has = otherIn ls (s .active) (x .net) in
+    let has = otherIn ls active (x .net) in
     after (visit (free (has i (suc i)))) (λ own.
     after (rightmost (λ k. has) i h 1 0) (λ below.
     after (leftmost (λ k. has) (suc i) h 1 0) (λ above.
-    after (setRun h) (λ done. free (record { active = x ∷ s .active; met = otherLine ls (x .line) above (otherLine ls (x .line) below (ownLine own (s .met))) })))))
+    free (otherLine ls (x .line) above (otherLine ls (x .line) below (ownLine own f))))))
+
+-- a segment starts: the look, then its line's `set`
+unfoldable pub startsAt : List ℕ → ℕ → Sweep → Row → Charged Sweep
+startsAt ls h s x =
+    after (looking ls h (s .active) (s .met) x) (λ f.
+    after (setRun h) (λ done. free (record { active = x ∷ s .active; met = f })))
 
 -- a segment ends: its line's `set`
 unfoldable pub endsAt : ℕ → Sweep → Row → Charged Sweep
