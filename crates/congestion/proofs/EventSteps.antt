@@ -15,21 +15,21 @@ use lib.Seq.{getD-drop}
 use borrow.Author.Tests.{lt-ltb, le-ltb}
 use Rattle.laws.specs.Lists.{Mem, bit, fold, count}
 use Rattle.laws.specs.Least.{lesser}
-use Rattle.laws.proofs.Tests.{le-or-lt}
+use Rattle.laws.proofs.Tests.{clash, le-or-lt}
 use Rattle.laws.proofs.Folds.{count-at-most}
 use Rattle.floats.specs.TotalOrder.{floatAt}
 use Rattle.floats.specs.Grid.{ofUnits}
 use Rattle.floats.proofs.Units.{unit-bound}
 use Rattle.congestion.specs.declared.meet.Meeting.{Meeting}
 use Rattle.congestion.specs.declared.meet.Met.{Met}
-use Rattle.congestion.specs.declared.meet.Met.the-variants.{Went as Meets, Spent as Short}
+use Rattle.congestion.specs.declared.meet.Met.the-variants.{Went as Paid, Spent as Short}
 use Rattle.congestion.specs.declared.sweep.Sweeping.{Sweeping}
 use Rattle.congestion.specs.declared.sweep.Handled.the-variants.{Went, Spent}
 use Rattle.congestion.specs.Wires.{Wire}
 use Rattle.congestion.specs.Figures.{apart}
 use Rattle.congestion.specs.Sweep.{Item, Event, Row, State, at, neighbor, neighbors, gap, leastHere, wasCongested, risen, fallen, atStart, atEnd, step}
 use Rattle.congestion.specs.Tables.{itemAt, eventAt, Key, Tabled, rowFrom, rowsFrom, Stored, Held}
-use Rattle.congestion.specs.Meeting.{visitsOf, leastFloat, Meetable, MeetableEnd, CountsOnly, MeetsAtStart, MeetsAtEnd}
+use Rattle.congestion.specs.Meeting.{visitsOf, leastFloat, Meetable, CountsOnly, Meets}
 use Rattle.congestion.specs.Sweeping.{passedTo, startedBy, endedBy, activated, deactivated, Follows, Ending, Due, AtEvent, Onward, Steps, Handles}
 use Rattle.congestion.proofs.Moments.{event}
 use Rattle.congestion.proofs.Fitness.{Stands}
@@ -96,8 +96,8 @@ module _ (s : List ℕ) (n e : ℕ) (state : Sweeping) (a : AtEvent s n e state)
       let m : Mem (rowFrom (a .L) w i) (a .st .rows) = subst (Mem (rowFrom (a .L) w i)) (sym (a .stored .rows)) (row-there (a .L) w i (omega (arith, a .size))) in
       subst (λ (k : ℕ). k ≤ 4096) (getD-drop (8 * n) s i 0) (a .due .counts (rowFrom (a .L) w i) m)
 
-  pub meetable : Meetable s n j
-  meetable = record { c = a .c; L = a .L; st = a .st; size = a .size; few = a .few; inside = inside; tabled = a .tabled; stored = a .stored; room = a .room; counts = counts-small }
+  meetable : (starts : Bool) → (starts ≡ false → (r : Row) → Mem r (a .st .rows) → neighbor (a .c) (itemAt (a .L) j .wire) r ≡ true → 1 ≤ r .neighbors) → Meetable starts s n j
+  meetable starts some = record { c = a .c; L = a .L; st = a .st; size = a .size; few = a .few; inside = inside; tabled = a .tabled; stored = a .stored; room = a .room; counts = counts-small; some = some }
 
   -- no more wires are counted than there are
   count-few : (p : Row → Bool) → count p (a .st .rows) ≤ 4096
@@ -112,24 +112,24 @@ module _ (s : List ℕ) (n e : ℕ) (state : Sweeping) (a : AtEvent s n e state)
   tabled-then t u only e = tables-stay (a .c) (a .L) s u (subst (λ (m : ℕ). take (8 * m) u ≡ take (8 * m) s) (sym (a .size)) (e ∙ only .front)) (a .tabled)
 
 -- ---- a meeting's answer decides whether the sweep goes on
-never : {A : Type 0} (m : Meeting) → Meets m ≡ Short → A
+never : {A : Type 0} (m : Meeting) → Paid m ≡ Short → A
 never m e = let z : _≡_ {A = ℕ} 0 1 = cc in absurd (omega arith)
 
-same-meeting : (m k : Meeting) → Meets m ≡ Meets k → m ≡ k
+same-meeting : (m k : Meeting) → Paid m ≡ Paid k → m ≡ k
 same-meeting m k e = cc
 
 -- M is what it comes to where the visits can be paid, and R what holds then
 abbrev Answered : ℕ → ℕ → Met → Meeting → Type 0 → Type 0
-Answered m cost met M R = (m < cost → met ≡ Short) × (cost ≤ m → (met ≡ Meets M) × R)
+Answered m cost met M R = (m < cost → met ≡ Short) × (cost ≤ m → (met ≡ Paid M) × R)
 
 module _ (c : ℕ) (L : List Wire) (n : ℕ) (st : State) (e : Event) (m : ℕ) (met : Met) (M : Meeting) (R : Type 0) (answer : Answered m (step c st e .cost) met M R) where
-  known : (meeting : Meeting) → met ≡ Meets meeting → meeting ≡ M
+  known : (meeting : Meeting) → met ≡ Paid meeting → meeting ≡ M
   known meeting h = elim (le-or-lt (step c st e .cost) m) [ inl l ↦ same-meeting meeting M (sym h ∙ answer .1 l .0) | inr l ↦ never meeting (sym h ∙ answer .0 l) ]
 
   stops : (t : List ℕ) → met ≡ Short → Steps c L n st e t m Spent
   stops t h = (λ l. refl, λ l. never M (sym (answer .1 l .0) ∙ h))
 
-  goes : (meeting : Meeting) (to : Sweeping) (t : List ℕ) → met ≡ Meets meeting → (meeting ≡ M → R → Onward c L n (step c st e .value) t (m - step c st e .cost) (Went to)) → Steps c L n st e t m (Went to)
+  goes : (meeting : Meeting) (to : Sweeping) (t : List ℕ) → met ≡ Paid meeting → (meeting ≡ M → R → Onward c L n (step c st e .value) t (m - step c st e .cost) (Went to)) → Steps c L n st e t m (Went to)
   goes meeting to t h f = (λ l. never meeting (sym h ∙ answer .0 l), λ l. f (known meeting h) (answer .1 l .1))
 
 -- ---- a start
@@ -150,8 +150,8 @@ module _ (s : List ℕ) (n j : ℕ) (state : Sweeping) where
     key-start : Key startWord (starting .wire .start)
     key-start = subst (λ (m : ℕ). Key (getD s (3 * m + j) 0) (starting .wire .start)) (a .size) (a .tabled .starts j (omega (arith, start-inside, a .size)))
 
-    pub start-meetable : Meetable s n j
-    start-meetable = meetable s n (n + j) state a j start-inside
+    pub start-meetable : Meetable true s n j
+    start-meetable = meetable s n (n + j) state a j start-inside true (λ e. clash true refl e)
 
     -- what the meeting answers with m visits left
     abbrev metAtStart : ℕ → Meeting
@@ -180,7 +180,7 @@ module _ (s : List ℕ) (n j : ℕ) (state : Sweeping) where
       key = key-start;
     }
 
-  module _ (t : List ℕ) (x : Float) (passed : Sweeping) (met : Met) (read : x ≡ floatAt startWord) (pass : passed ≡ passedTo state x) (meets : MeetsAtStart s t n j (passed .«minimum_positive») (passed .left) met) where
+  module _ (t : List ℕ) (x : Float) (passed : Sweeping) (met : Met) (read : x ≡ floatAt startWord) (pass : passed ≡ passedTo state x) (meets : Meets true s t n j (passed .«minimum_positive») (passed .left) met) where
     start-answer : (a : AtEvent s n (n + j) state) → Answered (state .left) (visitsOf (a .c) (a .L) j (a .st)) met (metAtStart a (state .left)) (rowsAtStart a t)
     start-answer a =
         subst (λ (m : ℕ). Answered m (visitsOf (a .c) (a .L) j (a .st)) met (metAtStart a m) (rowsAtStart a t)) (ap (λ (z : Sweeping). z .left) pass)
@@ -191,7 +191,7 @@ module _ (s : List ℕ) (n j : ℕ) (state : Sweeping) where
         subst (λ (e : Event). Steps (a .c) (a .L) n (a .st) e t (state .left) Spent) (sym (starts-at (a .L) n j (a .size)))
         (stops (a .c) (a .L) n (a .st) (event false (starting a)) (state .left) met (metAtStart a (state .left)) (rowsAtStart a t) (start-answer a) t h)
 
-    module _ (meeting : Meeting) (went : met ≡ Meets meeting) where
+    module _ (meeting : Meeting) (went : met ≡ Paid meeting) where
       -- the sums fit
       pub start-fits : AtEvent s n (n + j) state → (passed .«congested_active» + meeting .changed + 1 < 2 ^ 64) × (passed .«close_pairs» + meeting .neighbors < 2 ^ 64)
       start-fits a =
@@ -248,9 +248,8 @@ module _ (s : List ℕ) (n j : ℕ) (state : Sweeping) (inside : j < n) where
     was-congested : wasCongested (a .c) ending (a .st) ≡ bit (not (eqb ownCount 0))
     was-congested = own-congested (a .L) (a .c) j (a .st) (drop (8 * n) s) (a .stored .rows) place ∙ ap (λ (k : ℕ). bit (not (eqb k 0))) (getD-drop (8 * n) s j 0)
 
-    pub end-meetable : MeetableEnd s n j
-    unfolding meetable
-    end-meetable = record { meetable = meetable s n j state a j inside; some = takes .some }
+    pub end-meetable : Meetable false s n j
+    end-meetable = meetable s n j state a j inside false (λ e. takes .some)
 
     abbrev metAtEnd : ℕ → Meeting
     metAtEnd m = record {
@@ -278,7 +277,7 @@ module _ (s : List ℕ) (n j : ℕ) (state : Sweeping) (inside : j < n) where
       key = key-end;
     }
 
-  module _ (t : List ℕ) (x : Float) (own : ℕ) (passed : Sweeping) (met : Met) (read : x ≡ floatAt endWord) (counted : own ≡ ownCount) (pass : passed ≡ passedTo state x) (meets : MeetsAtEnd s t n j (passed .«minimum_positive») (passed .left) met) where
+  module _ (t : List ℕ) (x : Float) (own : ℕ) (passed : Sweeping) (met : Met) (read : x ≡ floatAt endWord) (counted : own ≡ ownCount) (pass : passed ≡ passedTo state x) (meets : Meets false s t n j (passed .«minimum_positive») (passed .left) met) where
     end-answer : (a : AtEvent s n j state) → Answered (state .left) (visitsOf (a .c) (a .L) j (a .st)) met (metAtEnd a (state .left)) (rowsAtEnd a t)
     end-answer a =
         subst (λ (m : ℕ). Answered m (visitsOf (a .c) (a .L) j (a .st)) met (metAtEnd a m) (rowsAtEnd a t)) (ap (λ (z : Sweeping). z .left) pass)
@@ -289,7 +288,7 @@ module _ (s : List ℕ) (n j : ℕ) (state : Sweeping) (inside : j < n) where
         subst (λ (e : Event). Steps (a .c) (a .L) n (a .st) e t (state .left) Spent) (sym (ends-at (a .L) j (place a)))
         (stops (a .c) (a .L) n (a .st) (event true (ending a)) (state .left) met (metAtEnd a (state .left)) (rowsAtEnd a t) (end-answer a) t h)
 
-    module _ (meeting : Meeting) (went : met ≡ Meets meeting) where
+    module _ (meeting : Meeting) (went : met ≡ Paid meeting) where
       -- what is taken away is there
       pub end-fits : AtEvent s n j state → (bit (not (eqb own 0)) + meeting .changed ≤ passed .«congested_active») × (meeting .neighbors ≤ passed .«close_pairs»)
       end-fits a =

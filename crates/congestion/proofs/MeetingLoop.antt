@@ -1,7 +1,7 @@
 -- The loop over the wires that an event's wire meets, for whatever wires the tables are of. Assumes nothing.
 use mathlib.Core.Path.{_≡_, refl, sym, ap, _∙_, subst}
 use mathlib.Core.List.{List}
-use mathlib.Core.Bool.{Bool, true, false}
+use mathlib.Core.Bool.{Bool}
 use Prim.Native.Nat.{ℕ, _+_, _-_, _*_, _≤_, _<_}
 use native.Mathlib.Omega.{arith}
 use lib.Ieee.{Float}
@@ -9,7 +9,6 @@ use lib.ListN.{length, getD, drop}
 use lib.Seq.{getD-drop}
 use borrow.Rule.Slice.PartMut.{midOf}
 use Rattle.laws.specs.Lists.{Mem}
-use Rattle.laws.proofs.Tests.{clash}
 use Rattle.laws.proofs.ListLaws.{map-mem}
 use Rattle.laws.proofs.Parts.{tail-lent}
 use Rattle.sorting.specs.Sorted.{upTo}
@@ -24,31 +23,31 @@ use Rattle.congestion.specs.declared.meet.Met.the-variants.{Went, Spent}
 use Rattle.congestion.specs.Wires.{Wire}
 use Rattle.congestion.specs.Sweep.{Row}
 use Rattle.congestion.specs.Tables.{Tabled, rowFrom}
-use Rattle.congestion.specs.Meeting.{Meetable, MeetableEnd, CountsOnly, Meets, MeetableAt, Visitable, Visits}
+use Rattle.congestion.specs.Meeting.{Meetable, CountsOnly, Meets, Visitable, Visits}
 use Rattle.congestion.proofs.RowPlaces.{upTo-mem}
 use Rattle.congestion.proofs.MeetingLaws.{Going, Next, going-few, going-none, old-count, next-place, differ, visit-next, visit-stops, spent-meets, went-meets}
 
 -- the head of the loop, for whatever wires the tables are of: `rest` is the part of a word of bits below `to`, and the bits stay as they were at the entry
 pub record Turn (starts : Bool) (n j : ℕ) (s₀ : List ℕ) (least₀ : Float) (allowance : ℕ) (met : Meeting) (s : List ℕ) (to rest : ℕ) : Type 0 where
-  pub meetable : MeetableAt starts s₀ n j
+  pub meetable : Meetable starts s₀ n j
   pub long : length s ≡ length s₀
   pub going : (c : ℕ) (L : List Wire) → length L ≡ n → Tabled c L s₀ → Going starts n j s₀ least₀ allowance c L met s to
   pub rest-is : rest ≡ restBelow (drop (9 * n) s₀) to
 
-pub first-turn : {starts : Bool} {n j : ℕ} {s₀ : List ℕ} {least₀ : Float} {allowance : ℕ} {met : Meeting} {rest : ℕ} → MeetableAt starts s₀ n j
+pub first-turn : {starts : Bool} {n j : ℕ} {s₀ : List ℕ} {least₀ : Float} {allowance : ℕ} {met : Meeting} {rest : ℕ} → Meetable starts s₀ n j
     → met ≡ record { neighbors = 0; changed = 0; highest = 0; least = least₀; left = allowance }
     → rest ≡ restBelow (midOf (9 * n) (length s₀ - 9 * n) s₀) (getD s₀ (7 * n + j) 0)
     → Turn starts n j s₀ least₀ allowance met s₀ (getD s₀ (7 * n + j) 0) rest
 first-turn {starts} {n} {j} {s₀} {least₀} {allowance} {met} a e b = record {
   meetable = a;
   long = refl;
-  going = λ c L size tabled. going-none starts n j s₀ least₀ allowance c L size tabled (a .meetable .inside) met e;
+  going = λ c L size tabled. going-none starts n j s₀ least₀ allowance c L size tabled (a .inside) met e;
   rest-is = b ∙ ap (λ (w : List ℕ). restBelow w (getD s₀ (7 * n + j) 0)) (tail-lent (9 * n) s₀);
 }
 
 module _ {starts : Bool} {n j : ℕ} {s₀ : List ℕ} {least₀ : Float} {allowance : ℕ} {met : Meeting} {s : List ℕ} {to rest : ℕ} (a : Turn starts n j s₀ least₀ allowance met s to rest) where
-  abbrev known : Meetable s₀ n j
-  known = a .meetable .meetable
+  abbrev known : Meetable starts s₀ n j
+  known = a .meetable
 
   -- the wires that the caller knows of
   the-going : Going starts n j s₀ least₀ allowance (known .c) (known .L) met s to
@@ -100,7 +99,7 @@ module _ {starts : Bool} {n j : ℕ} {s₀ : List ℕ} {least₀ : Float} {allow
           room = room;
           small = let e = count-was in let b = known .counts i (place .inside) in omega arith;
           some = λ b d.
-              let k : 1 ≤ the-row .neighbors = a .meetable .some b the-row (subst (Mem the-row) (sym (known .stored .rows)) (map-mem (rowFrom (known .L) (drop (8 * n) s₀)) (upTo (length (known .L))) i (upTo-mem (length (known .L)) i (omega (arith, known .size, place .inside))))) (differ starts n j s₀ least₀ allowance (known .c) (known .L) (known .size) (known .tabled) (known .inside) met s to the-going i (last .0) net of d) in
+              let k : 1 ≤ the-row .neighbors = known .some b the-row (subst (Mem the-row) (sym (known .stored .rows)) (map-mem (rowFrom (known .L) (drop (8 * n) s₀)) (upTo (length (known .L))) i (upTo-mem (length (known .L)) i (omega (arith, known .size, place .inside))))) (differ starts n j s₀ least₀ allowance (known .c) (known .L) (known .size) (known .tabled) (known .inside) met s to the-going i (last .0) net of d) in
               let e = count-was in
               let f = getD-drop (8 * n) s₀ i 0 in
               omega arith;
@@ -116,10 +115,3 @@ module _ {starts : Bool} {n j : ℕ} {s₀ : List ℕ} {least₀ : Float} {allow
           going = λ c L size tabled. visit-next starts n j s₀ least₀ allowance c L size tabled (known .inside) met s to (a .going c L size tabled) i (last .0) net of here at room (omega (arith, known .room)) t next v;
           rest-is = last .1 ∙ ap (λ (w : List ℕ). restBelow w i) (turn-only .behind);
         }
-
--- ---- a start and an end
-pub at-start : (s : List ℕ) (n j : ℕ) → Meetable s n j → MeetableAt true s n j
-at-start s n j m = record { meetable = m; some = λ e. clash true refl e }
-
-pub at-end : (s : List ℕ) (n j : ℕ) → MeetableEnd s n j → MeetableAt false s n j
-at-end s n j m = record { meetable = m .meetable; some = λ e. m .some }

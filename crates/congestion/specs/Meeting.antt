@@ -23,8 +23,9 @@ use Rattle.congestion.specs.Tables.{itemAt, Tabled, rowsFrom, Stored, He
 abbrev pub visitsOf : ℕ → List Wire → ℕ → State → ℕ
 visitsOf c L j st = count (visited c (itemAt L j .wire)) (st .rows)
 
--- wire j may meet the others: for what the code asks of numbers
-pub record Meetable (s : List ℕ) (n j : ℕ) : Type 0 where
+-- wire j may meet the others at its start, where the test is true, or at its end: for what the code asks of numbers
+-- where an end takes one off a neighbor's count, the count is not 0
+pub record Meetable (starts : Bool) (s : List ℕ) (n j : ℕ) : Type 0 where
   pub c : ℕ
   pub L : List Wire
   pub st : State
@@ -35,11 +36,7 @@ pub record Meetable (s : List ℕ) (n j : ℕ) : Type 0 where
   pub stored : Stored L st (drop (8 * n) s)
   pub room : 10 * n + 1 ≤ length s
   pub counts : (i : ℕ) → i < n → getD s (8 * n + i) 0 ≤ 4096
-
--- where an end takes one off a neighbor's count, the count is not 0
-pub record MeetableEnd (s : List ℕ) (n j : ℕ) : Type 0 where
-  pub meetable : Meetable s n j
-  pub some : (r : Row) → Mem r (meetable .st .rows) → neighbor (meetable .c) (itemAt (meetable .L) j .wire) r ≡ true → 1 ≤ r .neighbors
+  pub some : starts ≡ false → (r : Row) → Mem r (st .rows) → neighbor c (itemAt L j .wire) r ≡ true → 1 ≤ r .neighbors
 
 -- the scratch s became t: only counts changed
 pub record CountsOnly (n : ℕ) (s t : List ℕ) : Type 0 where
@@ -81,17 +78,7 @@ Meets starts s t n j least allowance r =
     }))
     × (rowsFrom L (drop (8 * n) t) ≡ map (λ x. moved starts (neighbor c (itemAt L j .wire) x) x) (st .rows)))
 
-abbrev pub MeetsAtStart : List ℕ → List ℕ → ℕ → ℕ → Float → ℕ → Met → Type 0
-MeetsAtStart s t n j least allowance r = Meets true s t n j least allowance r
-
-abbrev pub MeetsAtEnd : List ℕ → List ℕ → ℕ → ℕ → Float → ℕ → Met → Type 0
-MeetsAtEnd s t n j least allowance r = Meets false s t n j least allowance r
-
 -- ---- its loop
-pub record MeetableAt (starts : Bool) (s : List ℕ) (n j : ℕ) : Type 0 where
-  pub meetable : Meetable s n j
-  pub some : starts ≡ false → (r : Row) → Mem r (meetable .st .rows) → neighbor (meetable .c) (itemAt (meetable .L) j .wire) r ≡ true → 1 ≤ r .neighbors
-
 -- a gap joins the least one where it is above 0
 abbrev pub withGap : Float → Float → Float
 withGap least gap = cond (lt plusZero gap) (lesserOf least gap) least

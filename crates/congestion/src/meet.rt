@@ -4,7 +4,7 @@ ghost use mathlib.Core.Bool.{false, cond};
 ghost use Prim.Native.Nat.{_+_, _≤_, max};
 ghost use lib.ListN.{getD, set};
 ghost use Rattle.laws.specs.Lists.{bit};
-ghost use Rattle.congestion.specs.Meeting.{Meetable, MeetableEnd, CountsOnly, MeetsAtStart, MeetsAtEnd, MeetableAt, Meets, withGap, Countable, withNeighbor, countAfter, Visitable, Visits};
+ghost use Rattle.congestion.specs.Meeting.{Meetable, CountsOnly, Meets, withGap, Countable, withNeighbor, countAfter, Visitable, Visits};
 use crate::counts::greater;
 use bitset::Last;
 use bitset::last_below;
@@ -119,8 +119,8 @@ fn visit(
 }
 
 // The start or the end of wire j: the active wires of its range are visited from the greatest place down.
-fn meet(s: &mut [u64], n: usize, j: usize, starts: bool, least: f64, left: usize) -> Met
-    requires { ⌜ MeetableAt starts (now s) n j ⌝ }
+pub(crate) fn meet(s: &mut [u64], n: usize, j: usize, starts: bool, least: f64, left: usize) -> Met
+    requires { ⌜ Meetable starts (now s) n j ⌝ }
     ensures { λ r. ⌜ Meets starts (now (s .entry)) (now (s .exit)) n j least left r ⌝ }
     ensures { λ _. ⌜ CountsOnly n (now (s .entry)) (now (s .exit)) ⌝ }
 {
@@ -148,22 +148,4 @@ fn meet(s: &mut [u64], n: usize, j: usize, starts: bool, least: f64, left: usize
         to = i;
         rest = below;
     }
-}
-
-// The start of wire j.
-pub(crate) fn meet_at_start(s: &mut [u64], n: usize, j: usize, least: f64, left: usize) -> Met
-    requires { ⌜ Meetable (now s) n j ⌝ }
-    ensures { λ r. ⌜ MeetsAtStart (now (s .entry)) (now (s .exit)) n j least left r ⌝ }
-    ensures { λ _. ⌜ CountsOnly n (now (s .entry)) (now (s .exit)) ⌝ }
-{
-    meet(s, n, j, true, least, left)
-}
-
-// The end of wire j.
-pub(crate) fn meet_at_end(s: &mut [u64], n: usize, j: usize, least: f64, left: usize) -> Met
-    requires { ⌜ MeetableEnd (now s) n j ⌝ }
-    ensures { λ r. ⌜ MeetsAtEnd (now (s .entry)) (now (s .exit)) n j least left r ⌝ }
-    ensures { λ _. ⌜ CountsOnly n (now (s .entry)) (now (s .exit)) ⌝ }
-{
-    meet(s, n, j, false, least, left)
 }

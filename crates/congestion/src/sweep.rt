@@ -9,8 +9,7 @@ ghost use Rattle.congestion.specs.Sweeping.{passedTo, startedBy, endedBy
 use crate::counts::greater;
 use crate::meet::Meeting;
 use crate::meet::Met;
-use crate::meet::meet_at_end;
-use crate::meet::meet_at_start;
+use crate::meet::meet;
 use bitset::insert;
 use bitset::remove;
 use floats::float_of_key;
@@ -126,7 +125,7 @@ pub(crate) fn start_event(s: &mut [u64], n: usize, j: usize, state: Sweeping) ->
 {
     let coordinate = float_of_key(s[3 * n + j]);
     let passed = pass_to(state, coordinate);
-    let met = meet_at_start(s, n, j, passed.minimum_positive, passed.left);
+    let met = meet(s, n, j, true, passed.minimum_positive, passed.left);
     let Met::Went(meeting) = met else {
         return Handled::Spent;
     };
@@ -143,7 +142,7 @@ pub(crate) fn end_event(s: &mut [u64], n: usize, j: usize, state: Sweeping) -> H
     let coordinate = float_of_key(s[2 * n + j]);
     let count = s[8 * n + j] as usize;
     let passed = pass_to(state, coordinate);
-    let met = meet_at_end(s, n, j, passed.minimum_positive, passed.left);
+    let met = meet(s, n, j, false, passed.minimum_positive, passed.left);
     let Met::Went(meeting) = met else {
         return Handled::Spent;
     };

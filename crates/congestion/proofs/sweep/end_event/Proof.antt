@@ -36,8 +36,8 @@ slice-read-count c = search needs
 pass-to-requires : tie.Need-pass-to-requires
 pass-to-requires c κs = search needs
 
-meet-at-end-requires : tie.Need-meet-at-end-requires
-meet-at-end-requires c κs =
+meet-requires : tie.Need-meet-requires
+meet-requires c κs =
     let z = c .before .before .before .before .before .before in
     end-meetable (now (z .args .s)) (z .args .n) (z .args .j) (z .args .state) (z .pre .1) (z .pre .0)
 
@@ -55,7 +55,7 @@ returns c =
     let m = c .before .before .before .before in
     let p = m .before .before in
     let z = p .before .before .before .before .before in
-    end-stops (now (z .args .s)) (z .args .n) (z .args .j) (z .args .state) (z .pre .1) _ _ _ _ _ (p .before .before .float-of-key .ensures) refl (p .pass-to .ensures) (m .meet-at-end .ensures .0) (c .enum-told .given .1)
+    end-stops (now (z .args .s)) (z .args .n) (z .args .j) (z .args .state) (z .pre .1) _ _ _ _ _ (p .before .before .float-of-key .ensures) refl (p .pass-to .ensures) (m .meet .ensures .0) (c .enum-told .given .1)
 
 deactivate-requires : tie.Need-deactivate-requires
 deactivate-requires c κs = search needs
@@ -65,7 +65,7 @@ with-end-requires c κs =
     let m = c .before .before .before .before .before .before .before .before .before in
     let p = m .before .before in
     let z = p .before .before .before .before .before in
-    end-fits (now (z .args .s)) (z .args .n) (z .args .j) (z .args .state) (z .pre .1) _ _ _ _ _ (p .before .before .float-of-key .ensures) refl (p .pass-to .ensures) (m .meet-at-end .ensures .0) _ (c .before .before .before .before .before .met .given .1) (z .pre .0)
+    end-fits (now (z .args .s)) (z .args .n) (z .args .j) (z .args .state) (z .pre .1) _ _ _ _ _ (p .before .before .float-of-key .ensures) refl (p .pass-to .ensures) (m .meet .ensures .0) _ (c .before .before .before .before .before .met .given .1) (z .pre .0)
 
 same-length-2 : tie.Need-same-length-2
 same-length-2 c = search needs
@@ -75,7 +75,7 @@ returns-2 c =
     let m = c .before .before .before .before .before .before .before .before .before .before in
     let p = m .before .before in
     let z = p .before .before .before .before .before in
-    end-goes (now (z .args .s)) (z .args .n) (z .args .j) (z .args .state) (z .pre .1) _ _ _ _ _ (p .before .before .float-of-key .ensures) refl (p .pass-to .ensures) (m .meet-at-end .ensures .0) _ (c .before .before .before .before .before .before .met .given .1) _ _ (m .meet-at-end .ensures .1) (m .meet-at-end .kept .0) (c .before .before .before .deactivate .ensures) (c .with-end .ensures)
+    end-goes (now (z .args .s)) (z .args .n) (z .args .j) (z .args .state) (z .pre .1) _ _ _ _ _ (p .before .before .float-of-key .ensures) refl (p .pass-to .ensures) (m .meet .ensures .0) _ (c .before .before .before .before .before .before .met .given .1) _ _ (m .meet .ensures .1) (m .meet .kept .0) (c .before .before .before .deactivate .ensures) (c .with-end .ensures)
 
 pub end-event-spec : {M : Type 1} → statement M
 end-event-spec =
@@ -91,7 +91,7 @@ end-event-spec =
     mul-count-2
     slice-read-count
     pass-to-requires
-    meet-at-end-requires
+    meet-requires
     enum-known-met
     enum-told
     same-length

@@ -23,8 +23,8 @@ float-of-key-requires c κs = search needs
 pass-to-requires : tie.Need-pass-to-requires
 pass-to-requires c κs = search needs
 
-meet-at-start-requires : tie.Need-meet-at-start-requires
-meet-at-start-requires c κs =
+meet-requires : tie.Need-meet-requires
+meet-requires c κs =
     let z = c .before .before .before .before .before in
     start-meetable (now (z .args .s)) (z .args .n) (z .args .j) (z .args .state) (z .pre)
 
@@ -42,7 +42,7 @@ returns c =
     let m = c .before .before .before .before in
     let p = m .before .before in
     let z = p .before .before .before .before in
-    start-stops (now (z .args .s)) (z .args .n) (z .args .j) (z .args .state) _ _ _ _ (p .before .float-of-key .ensures) (p .pass-to .ensures) (m .meet-at-start .ensures .0) (c .enum-told .given .1)
+    start-stops (now (z .args .s)) (z .args .n) (z .args .j) (z .args .state) _ _ _ _ (p .before .float-of-key .ensures) (p .pass-to .ensures) (m .meet .ensures .0) (c .enum-told .given .1)
 
 activate-requires : tie.Need-activate-requires
 activate-requires c κs = search needs
@@ -52,7 +52,7 @@ with-start-requires c κs =
     let m = c .before .before .before .before .before .before .before .before .before in
     let p = m .before .before in
     let z = p .before .before .before .before in
-    start-fits (now (z .args .s)) (z .args .n) (z .args .j) (z .args .state) _ _ _ _ (p .before .float-of-key .ensures) (p .pass-to .ensures) (m .meet-at-start .ensures .0) _ (c .before .before .before .before .before .met .given .1) (z .pre)
+    start-fits (now (z .args .s)) (z .args .n) (z .args .j) (z .args .state) _ _ _ _ (p .before .float-of-key .ensures) (p .pass-to .ensures) (m .meet .ensures .0) _ (c .before .before .before .before .before .met .given .1) (z .pre)
 
 same-length-2 : tie.Need-same-length-2
 same-length-2 c = search needs
@@ -62,7 +62,7 @@ returns-2 c =
     let m = c .before .before .before .before .before .before .before .before .before .before in
     let p = m .before .before in
     let z = p .before .before .before .before in
-    start-goes (now (z .args .s)) (z .args .n) (z .args .j) (z .args .state) _ _ _ _ (p .before .float-of-key .ensures) (p .pass-to .ensures) (m .meet-at-start .ensures .0) _ (c .before .before .before .before .before .before .met .given .1) _ _ (m .meet-at-start .ensures .1) (m .meet-at-start .kept .0) (c .before .before .before .activate .ensures) (c .with-start .ensures)
+    start-goes (now (z .args .s)) (z .args .n) (z .args .j) (z .args .state) _ _ _ _ (p .before .float-of-key .ensures) (p .pass-to .ensures) (m .meet .ensures .0) _ (c .before .before .before .before .before .before .met .given .1) _ _ (m .meet .ensures .1) (m .meet .kept .0) (c .before .before .before .activate .ensures) (c .with-start .ensures)
 
 pub start-event-spec : {M : Type 1} → statement M
 start-event-spec =
@@ -74,7 +74,7 @@ start-event-spec =
     slice-read-float-of-key
     float-of-key-requires
     pass-to-requires
-    meet-at-start-requires
+    meet-requires
     enum-known-met
     enum-told
     same-length
