@@ -37,11 +37,11 @@ use Rattle.rows.proofs.EventTables.{EventsOrdered, later-column, events-placed}
 use Rattle.congestion.specs.declared.run.Swept.{Swept}
 use Rattle.congestion.specs.declared.run.Swept.the-variants.{Went}
 use Rattle.congestion.specs.Wires.{Wire, cutoffOf}
-use Rattle.congestion.specs.Sweep.{begin, oriented}
+use Rattle.congestion.specs.Sweep.{begin, oriented, along}
 use Rattle.congestion.specs.Tables.{itemAt, Key, Tabled}
 use Rattle.congestion.specs.Ranges.{Rangeable, RangesOnly, FillsRanges}
 use Rattle.congestion.specs.Sweeping.{AtFirst, sweptOf}
-use Rattle.congestion.specs.Measuring.{wireOfRow, along, Proper, Cutoff, AtRows, AtColumns}
+use Rattle.congestion.specs.Measuring.{wireOfRow, Proper, Cutoff, AtRows, AtColumns}
 use Rattle.congestion.proofs.RowPlaces.{tables-stay}
 use Rattle.congestion.proofs.RowTabled.{coordinate-key, tabled}
 

@@ -32,10 +32,10 @@ use Rattle.congestion.specs.declared.run.Swept.the-variants.{Went, Spent
 use Rattle.congestion.specs.Wires.{wireOf, cutoffOf}
 use Rattle.congestion.specs.Figures.{total}
 use Rattle.congestion.specs.Profile.{lengths, allPairs}
-use Rattle.congestion.specs.Sweep.{State, ofOrientation, sweepWires, only, gapOfUnits}
+use Rattle.congestion.specs.Sweep.{State, along, sweepWires, only, gapOfUnits}
 use Rattle.congestion.specs.Tables.{Held}
 use Rattle.congestion.specs.Sweeping.{sweptOf}
-use Rattle.congestion.specs.Measuring.{wireOfRow, along, foundOf, togetherOf}
+use Rattle.congestion.specs.Measuring.{wireOfRow, foundOf, togetherOf}
 use Rattle.congestion.proofs.Fitness.{FitList, sound-wires}
 use Rattle.congestion.proofs.Beginning.{Sound}
 use Rattle.congestion.proofs.Bounds.{Small, congested-small, overlap-small}
@@ -93,13 +93,11 @@ reached m c f e = elim (le-or-lt (c .cost) m) [
     never e = let z : _≡_ {A = ℕ} 0 1 = cc in omega arith
 
 -- ---- one orientation after the other
-across-is : (c : ℕ) (l : List Segment) → ofOrientation c true (wiresInRows l) ≡ along c (map (wireOfRow true) (oriented 1 l))
-unfolding ofOrientation along
-across-is c l = rw (only-across l)
+across-is : (c : ℕ) (l : List Segment) → along c (only true (wiresInRows l)) ≡ along c (map (wireOfRow true) (oriented 1 l))
+across-is c l = ap (along c) (only-across l)
 
-down-is : (c : ℕ) (l : List Segment) → ofOrientation c false (wiresInRows l) ≡ along c (map (wireOfRow false) (oriented 0 l))
-unfolding ofOrientation along
-down-is c l = rw (only-down l)
+down-is : (c : ℕ) (l : List Segment) → along c (only false (wiresInRows l)) ≡ along c (map (wireOfRow false) (oriented 0 l))
+down-is c l = ap (along c) (only-down l)
 
 module _ (c : ℕ) (some : 0 < c) (l : List Segment) where
   abbrev across : Charged State
@@ -119,12 +117,12 @@ module _ (c : ℕ) (some : 0 < c) (l : List Segment) where
   unfolding sweepWires
   wires-within m =
       ap (within m) (cond-false (eqb c 0) _ _ (ne-eqb c 0 (λ e. omega arith)))
-      ∙ within-after m (ofOrientation c true (wiresInRows l)) (λ h. after (ofOrientation c false (wiresInRows l)) (λ v. free (together h v)))
+      ∙ within-after m (along c (only true (wiresInRows l))) (λ h. after (along c (only false (wiresInRows l))) (λ v. free (together h v)))
       ∙ (λ i. onward (within m (across-is c l i)) (λ h r. then-down h r i))
     where
-      then-down : (h : State) (r : ℕ) → within r (after (ofOrientation c false (wiresInRows l)) (λ v. free (together h v))) ≡ second h r
+      then-down : (h : State) (r : ℕ) → within r (after (along c (only false (wiresInRows l))) (λ v. free (together h v))) ≡ second h r
       then-down h r =
-          within-after r (ofOrientation c false (wiresInRows l)) (λ v. free (together h v))
+          within-after r (along c (only false (wiresInRows l))) (λ v. free (together h v))
           ∙ (λ i. onward (within r (down-is c l i)) (λ v k. within-free k (together h v) i))
 
 -- ---- the sweep over rows has the figures over all pairs
@@ -148,7 +146,7 @@ module _ (cutoff : Float) (l : List Segment) (fit : FitList l) (held : All Segme
 
   module _ (some : 0 < c) where
     -- the sums of both orientations are those of the whole, which a float holds
-    right : (h : Bool) → Right c (only h (wiresInRows l)) (ofOrientation c h (wiresInRows l))
+    right : (h : Bool) → Right c (only h (wiresInRows l)) (along c (only h (wiresInRows l)))
     right h = one-way c some h (wiresInRows l) sound
 
     abbrev h : State

@@ -22,7 +22,7 @@ use Rattle.congestion.specs.Wires.{Wire}
 use Rattle.congestion.specs.Cells.{cells, covers}
 use Rattle.congestion.specs.Figures.{apart, overlaps, overlap, close, other, closeOther, total, stretches, congested, closeOtherPairs, pairOverlap, neighborsOn, peak, closePairs, inOrientation, atLeastTwo, visits}
 use Rattle.congestion.specs.Profile.{lengths}
-use Rattle.congestion.specs.Sweep.{State, gap, begin, only, ofOrientation, gapOfUnits, sweepWires}
+use Rattle.congestion.specs.Sweep.{State, gap, begin, along, only, gapOfUnits, sweepWires}
 use Rattle.congestion.proofs.FoldLaws.{fewest, fold-chosen}
 use Rattle.congestion.proofs.Beginning.{Sound}
 use Rattle.congestion.proofs.Oriented.{leastUnits, stretches-are, congested-is, peak-is, overlap-is, cost-is, least-is}
@@ -83,8 +83,8 @@ few-right c l h = let q = alone c l h in record {
   cost-right = sym (ap₂ (λ (b : Bool) (n : ℕ). cond b 0 (length l) + 2 * n) (lt-ltb (length l) 2 h) (no-pair c l h));
 }
 
-pub one-way : (c : ℕ) → 0 < c → (h : Bool) (l : List Wire) → Sound l → Right c (only h l) (ofOrientation c h l)
-unfolding ofOrientation
+pub one-way : (c : ℕ) → 0 < c → (h : Bool) (l : List Wire) → Sound l → Right c (only h l) (along c (only h l))
+unfolding along
 one-way c pos h l v = elim (decide (ltb (length (only h l)) 2)) [
   | inl e ↦ subst (Right c (only h l)) (sym (cond-true (ltb (length (only h l)) 2) _ _ e)) (few-right c (only h l) (ltb-true (length (only h l)) 2 e))
   | inr e ↦ subst (Right c (only h l)) (sym (cond-false (ltb (length (only h l)) 2) _ _ e)) (record {
@@ -132,8 +132,8 @@ sweep-finds c l v = elim (decide (eqb c 0)) [
     pos : (c ≡ 0 → ⊥) → 0 < c
     pos h = omega arith
 
-    everything : eqb c 0 ≡ false → Right c (only true l) (ofOrientation c true l) → Right c (only false l) (ofOrientation c false l)
-        → after (ofOrientation c true l) (λ h. after (ofOrientation c false l) (λ w. free (
+    everything : eqb c 0 ≡ false → Right c (only true l) (along c (only true l)) → Right c (only false l) (along c (only false l))
+        → after (along c (only true l)) (λ h. after (along c (only false l)) (λ w. free (
           lengths (total l) (h .congestedLength + w .congestedLength) (h .pairOverlapLength + w .pairOverlapLength) (max (h .peakCloseNeighbors) (w .peakCloseNeighbors)),
           gapOfUnits (lesser ltb (h .minimumPositive) (w .minimumPositive)),
         ))) ≡ found c l

@@ -1,14 +1,13 @@
--- What only private contracts cite: the rows of one orientation as wires, their sweep, both orientations, and the answer.
+-- What only private contracts cite: the rows of one orientation as wires that can be swept, both orientations, and the answer.
 use mathlib.Core.Path.{_≡_}
-use mathlib.Core.Bool.{Bool, cond}
-use mathlib.Core.List.{List, []}
+use mathlib.Core.Bool.{Bool}
+use mathlib.Core.List.{List}
 use Prim.Native.Nat.{ℕ, _+_, _*_, _≤_, _<_, max}
-use lib.Dec.{T, ltb}
+use lib.Dec.{T}
 use lib.Ieee.{Float, binary64, fits, add}
 use lib.ListN.{length, drop}
 use Rattle.laws.specs.Lists.{Mem}
 use Rattle.laws.specs.Sort.{Sorted}
-use Rattle.laws.specs.Charged.{Charged, free}
 use Rattle.laws.specs.Allowance.{Outcome, spent, left, reply}
 use Rattle.floats.specs.Values.{plusZero, canonicalZero}
 use Rattle.floats.specs.TotalOrder.{keyOf, floatAt}
@@ -28,8 +27,6 @@ use Rattle.congestion.specs.declared.run.Swept.{Swept}
 use Rattle.congestion.specs.declared.run.Swept.the-variants.{Went, Spent}
 use Rattle.congestion.specs.Wires.{Wire, cutoffOf}
 use Rattle.congestion.specs.Answer.{reportOf}
-use Rattle.congestion.specs.Sweep as Sweep
-use Rattle.congestion.specs.Sweep.{State, begin}
 
 -- the wire of a row
 abbrev pub wireOfRow : Bool → Row → Wire
@@ -49,10 +46,6 @@ pub record Proper (r : Row) : Type 0 where
   pub start : Coordinate (r .start)
   pub end : Coordinate (r .end)
   pub rises : unit (floatAt (r .start)) < unit (floatAt (r .end))
-
--- "`oriented.len() >= 2`" before anything is done
-unfoldable pub along : ℕ → List Wire → Charged State
-along c L = cond (ltb (length L) 2) (free (begin [])) (Sweep.oriented c L)
 
 -- a cutoff above 0, on the grid
 pub record Cutoff (x : Float) : Type 0 where

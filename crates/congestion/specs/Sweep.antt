@@ -162,12 +162,13 @@ begin l = record { rows = map (λ i. record { item = i; active = false; neighbor
 unfoldable pub oriented : ℕ → List Wire → Charged State
 oriented c l = let i = numbered 0 l in runs (step c) (begin i) (inOrder (events i))
 
--- the wires of one orientation; `oriented.len() >= 2` before anything is done
+-- the same `if oriented.len() >= 2`: else nothing is done
+unfoldable pub along : ℕ → List Wire → Charged State
+along c l = cond (ltb (length l) 2) (free (begin [])) (oriented c l)
+
+-- the wires of one orientation
 abbrev pub only : Bool → List Wire → List Wire
 only h l = keep (λ s. Bool·beq h (s .horizontal)) l
-
-unfoldable pub ofOrientation : ℕ → Bool → List Wire → Charged State
-ofOrientation c h l = cond (ltb (length (only h l)) 2) (free (begin [])) (oriented c (only h l))
 
 -- the gap of so many 64ths
 abbrev pub gapOfUnits : Option ℕ → Gap
@@ -178,7 +179,7 @@ gapOfUnits (some n) = Present (ofUnits n)
 unfoldable pub sweepWires : ℕ → List Wire → Charged (ParallelCongestion × Gap)
 sweepWires c l =
     cond (eqb c 0) (free (lengths (total l) 0 0 0, Absent))
-    (after (ofOrientation c true l) (λ h. after (ofOrientation c false l) (λ v. free (
+    (after (along c (only true l)) (λ h. after (along c (only false l)) (λ v. free (
       lengths (total l) (h .congestedLength + v .congestedLength) (h .pairOverlapLength + v .pairOverlapLength) (max (h .peakCloseNeighbors) (v .peakCloseNeighbors)),
       gapOfUnits (lesser ltb (h .minimumPositive) (v .minimumPositive)),
     ))))
