@@ -192,7 +192,7 @@ module _ (starts : Bool) (n j : ℕ) (s₀ : List ℕ) (least₀ : Float) (allow
   -- ---- what the tables tell
   module _ (size : length L ≡ n) (tabled : Tabled c L s₀) (j<n : j < n) where
     in-range : (k : ℕ) → k < n → inRange c wire (itemAt L k .wire) ≡ (leb lo k && ltb k hi)
-    in-range k h = subst (λ (z : ℕ). inRange c wire (itemAt L k .wire) ≡ (leb (getD s₀ (6 * z + j) 0) k && ltb k (getD s₀ (7 * z + j) 0))) size (tabled .range k j (omega arith) (omega arith))
+    in-range k h = subst (λ (z : ℕ). inRange c wire (itemAt L k .wire) ≡ (leb (getD s₀ (6 * z + j) 0) k && ltb k (getD s₀ (7 * z + j) 0))) size (tabled .ranges .range k j (omega arith) (omega arith))
 
     net-is : (k : ℕ) → k < n → getD s₀ (5 * n + k) 0 ≡ itemAt L k .wire .net
     net-is k h = subst (λ (z : ℕ). getD s₀ (5 * z + k) 0 ≡ itemAt L k .wire .net) size (tabled .nets k (omega arith))
@@ -201,7 +201,7 @@ module _ (starts : Bool) (n j : ℕ) (s₀ : List ℕ) (least₀ : Float) (allow
     fixed-is k h = subst (λ (z : ℕ). Key (getD s₀ (4 * z + k) 0) (itemAt L k .wire .fixed)) size (tabled .fixed k (omega arith))
 
     hi-inside : hi ≤ n
-    hi-inside = subst (λ (z : ℕ). getD s₀ (7 * z + j) 0 ≤ z) size (tabled .inside j (omega arith))
+    hi-inside = subst (λ (z : ℕ). getD s₀ (7 * z + j) 0 ≤ z) size (tabled .ranges .inside j (omega arith))
 
     bits-are : drop (length L) (drop (8 * n) s₀) ≡ drop (9 * n) s₀
     bits-are = let e : 8 * n + length L ≡ 9 * n = omega arith in drop-drop (length L) (8 * n) s₀ ∙ ap (λ (z : ℕ). drop z s₀) e

@@ -16,8 +16,8 @@ use Rattle.floats.specs.TotalOrder.{keyOf, floatAt}
 use Rattle.floats.specs.Grid.{onGrid}
 use Rattle.congestion.specs.declared.ranges.Range.{Range}
 use Rattle.congestion.specs.Wires.{Wire, cutoffOf}
-use Rattle.congestion.specs.Tables.{itemAt, Key}
-use Rattle.congestion.specs.Ranges.{Ascending, Passed, Bound, Within, Reached, Rangeable, RangesOnly, Ranged, FillsRanges}
+use Rattle.congestion.specs.Tables.{itemAt, Key, Ranged}
+use Rattle.congestion.specs.Ranges.{Ascending, Passed, Bound, Within, Reached, Rangeable, RangesOnly, FillsRanges}
 use Rattle.congestion.proofs.RangeFloats.{key-next, above-low, below-high}
 
 -- ---- a search from any place: down to where all words before are less than v, then up to the first that is not

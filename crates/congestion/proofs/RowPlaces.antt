@@ -86,8 +86,10 @@ tables-stay c L s t e a = record {
   starts = λ j h. subst (λ (x : ℕ). Key x (itemAt L j .wire .start)) (word (3 * length L + j) (omega arith)) (a .starts j h);
   fixed = λ j h. subst (λ (x : ℕ). Key x (itemAt L j .wire .fixed)) (word (4 * length L + j) (omega arith)) (a .fixed j h);
   nets = λ j h. sym (word (5 * length L + j) (omega arith)) ∙ a .nets j h;
-  inside = λ j h. subst (λ (x : ℕ). x ≤ length L) (word (7 * length L + j) (omega arith)) (a .inside j h);
-  range = λ i j h k. a .range i j h k ∙ ap₂ (λ (x y : ℕ). leb x i && ltb i y) (word (6 * length L + j) (omega arith)) (word (7 * length L + j) (omega arith));
+  ranges = record {
+    inside = λ j h. subst (λ (x : ℕ). x ≤ length L) (word (7 * length L + j) (omega arith)) (a .ranges .inside j h);
+    range = λ i j h k. a .ranges .range i j h k ∙ ap₂ (λ (x y : ℕ). leb x i && ltb i y) (word (6 * length L + j) (omega arith)) (word (7 * length L + j) (omega arith));
+  };
 }
   where
     word : (i : ℕ) → i < 8 * length L → getD s i 0 ≡ getD t i 0

@@ -32,8 +32,7 @@ use Rattle.rows.proofs.SpreadTables.{Spread}
 use Rattle.rows.proofs.ColumnParts.{getD-map, column-at}
 use Rattle.congestion.specs.Wires.{Wire}
 use Rattle.congestion.specs.Sweep.{Event, numbered, events, inOrder, eventRow}
-use Rattle.congestion.specs.Tables.{noWire, itemAt, eventAt, Key, Tabled}
-use Rattle.congestion.specs.Ranges.{Ranged}
+use Rattle.congestion.specs.Tables.{noWire, itemAt, eventAt, Key, Ranged, Tabled}
 use Rattle.congestion.specs.Measuring.{wireOfRow, Coordinate, Proper}
 use Rattle.congestion.proofs.Fitness.{GridSegment}
 use Rattle.congestion.proofs.RowWires.{canonical-fits, key-unit}
@@ -184,8 +183,7 @@ module _ (h : Bool) (l : List Row) (fit : (r : Row) → Mem r l → Proper r) wh
     starts = λ j b. let d : j < length l = omega (arith, as-many) in word-key _ _ _ (fit-at j d .start) (at 3 j ∙ row-word 3 j s (λ r. r .start) (spread .starts) d) (ap (λ (w : Wire). w .start) (wire-at j d));
     fixed = λ j b. let d : j < length l = omega (arith, as-many) in word-key _ _ _ (fit-at j d .line) (at 4 j ∙ row-word 4 j s (λ r. r .line) (spread .keys) d) (ap (λ (w : Wire). w .fixed) (wire-at j d));
     nets = λ j b. let d : j < length l = omega (arith, as-many) in at 5 j ∙ row-word 5 j s (λ r. r .net) (spread .nets) d ∙ sym (ap (λ (w : Wire). w .net) (wire-at j d));
-    inside = ranged .inside;
-    range = ranged .range;
+    ranges = ranged;
   }
     where
       at : (k j : ℕ) → getD s (k * length L + j) 0 ≡ getD s (k * length l + j) 0

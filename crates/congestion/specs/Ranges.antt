@@ -1,17 +1,15 @@
 -- What only private contracts cite: for each place the places of the wires within the cutoff, which stand side by side.
 use mathlib.Core.Path.{_≡_}
-use mathlib.Core.Bool.{_&&_}
 use mathlib.Core.List.{List}
 use Prim.Native.Nat.{ℕ, _+_, _*_, _≤_, _<_}
-use lib.Dec.{T, leb, ltb}
+use lib.Dec.{T}
 use lib.Ieee.{Float, binary64, add, sub}
 use lib.ListN.{length, getD, take, drop}
 use Rattle.floats.specs.TotalOrder.{keyOf, floatAt}
 use Rattle.floats.specs.Grid.{onGrid}
 use Rattle.congestion.specs.declared.ranges.Range.{Range}
 use Rattle.congestion.specs.Wires.{Wire, cutoffOf}
-use Rattle.congestion.specs.Sweep.{inRange}
-use Rattle.congestion.specs.Tables.{itemAt, Key}
+use Rattle.congestion.specs.Tables.{itemAt, Key, Ranged}
 
 abbrev pub Ascending : List ℕ → Type 0
 Ascending l = (i k : ℕ) → i ≤ k → k < length l → getD l i 0 ≤ getD l k 0
@@ -47,12 +45,7 @@ pub record RangesOnly (n : ℕ) (s t : List ℕ) : Type 0 where
   pub front : take (6 * n) t ≡ take (6 * n) s
   pub behind : drop (8 * n) t ≡ drop (8 * n) s
 
--- the columns tell which wires are within a cutoff of c 64ths
-pub record Ranged (c : ℕ) (L : List Wire) (s : List ℕ) : Type 0 where
-  pub inside : (j : ℕ) → j < length L → getD s (7 * length L + j) 0 ≤ length L
-  pub range : (i j : ℕ) → i < length L → j < length L → inRange c (itemAt L j .wire) (itemAt L i .wire) ≡ (leb (getD s (6 * length L + j) 0) i && ltb i (getD s (7 * length L + j) 0))
-
--- they do so on the grid, for a cutoff above 0
+-- the columns tell which wires are within the cutoff, on the grid and for a cutoff above 0
 abbrev pub FillsRanges : List ℕ → List ℕ → ℕ → Float → Type 0
 FillsRanges s t n cutoff =
     (c : ℕ) (L : List Wire) → length L ≡ n → c ≡ cutoffOf cutoff → 0 < c → T (onGrid cutoff) → ((j : ℕ) → j < n → Key (getD s (4 * n + j) 0) (itemAt L j .wire .fixed)) → Ranged c L t

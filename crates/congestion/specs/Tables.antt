@@ -34,6 +34,11 @@ pub record Key (w u : ℕ) : Type 0 where
   pub plain : canonicalZero (floatAt w) ≡ floatAt w
   pub is : unit (floatAt w) ≡ u
 
+-- the columns of the ranges tell which wires are within a cutoff of c 64ths
+pub record Ranged (c : ℕ) (L : List Wire) (s : List ℕ) : Type 0 where
+  pub inside : (j : ℕ) → j < length L → getD s (7 * length L + j) 0 ≤ length L
+  pub range : (i j : ℕ) → i < length L → j < length L → inRange c (itemAt L j .wire) (itemAt L i .wire) ≡ (leb (getD s (6 * length L + j) 0) i && ltb i (getD s (7 * length L + j) 0))
+
 -- the tables as the sweep reads them, for a cutoff of c 64ths
 pub record Tabled (c : ℕ) (L : List Wire) (s : List ℕ) : Type 0 where
   pub small : All (λ e. e < 2 * length L) (take (2 * length L) s)
@@ -42,8 +47,7 @@ pub record Tabled (c : ℕ) (L : List Wire) (s : List ℕ) : Type 0 where
   pub starts : (j : ℕ) → j < length L → Key (getD s (3 * length L + j) 0) (itemAt L j .wire .start)
   pub fixed : (j : ℕ) → j < length L → Key (getD s (4 * length L + j) 0) (itemAt L j .wire .fixed)
   pub nets : (j : ℕ) → j < length L → getD s (5 * length L + j) 0 ≡ itemAt L j .wire .net
-  pub inside : (j : ℕ) → j < length L → getD s (7 * length L + j) 0 ≤ length L
-  pub range : (i j : ℕ) → i < length L → j < length L → inRange c (itemAt L j .wire) (itemAt L i .wire) ≡ (leb (getD s (6 * length L + j) 0) i && ltb i (getD s (7 * length L + j) 0))
+  pub ranges : Ranged c L s
 
 -- ---- what the words behind the tables tell of each wire
 abbrev pub rowFrom : List Wire → List ℕ → ℕ → Row
