@@ -66,15 +66,18 @@ unfolding clearanceConditions
 clearance-many l n e threshold words h = sym (first-stop (listConditions (columnsOf l) n e) _ (check.Refused (stops n e)) (stops n e) (sym (lists-many l n e h)) refl)
 
 -- ---- so 4,097 entries decide what the checks say, and with them what is answered
+decided : {A : Type 0} (f : List Segment → A) (a : A) → ((k : List Segment) → 4096 < length k → f k ≡ a) → (l : List Segment) → f (take 4097 l) ≡ f l
+decided f a many l = few-or-many (λ j k. f j ≡ f k) l (λ k. refl) (λ j k h i. many j h ∙ sym (many k i))
+
 module _ (l : List Segment) (words : ℕ) where
   pub separation-checked : firstOf (separationConditions (columnsOf (take 4097 l)) words) ≡ firstOf (separationConditions (columnsOf l) words)
-  separation-checked = few-or-many (λ j k. firstOf (separationConditions (columnsOf j) words) ≡ firstOf (separationConditions (columnsOf k) words)) l (λ k. refl) (λ j k h i. separation-many j words h ∙ sym (separation-many k words i))
+  separation-checked = decided (λ k. firstOf (separationConditions (columnsOf k) words)) _ (λ k. separation-many k words) l
 
   pub congestion-checked : (cutoff : Float) → firstOf (congestionConditions (columnsOf (take 4097 l)) cutoff words) ≡ firstOf (congestionConditions (columnsOf l) cutoff words)
-  congestion-checked cutoff = few-or-many (λ j k. firstOf (congestionConditions (columnsOf j) cutoff words) ≡ firstOf (congestionConditions (columnsOf k) cutoff words)) l (λ k. refl) (λ j k h i. congestion-many j cutoff words h ∙ sym (congestion-many k cutoff words i))
+  congestion-checked cutoff = decided (λ k. firstOf (congestionConditions (columnsOf k) cutoff words)) _ (λ k. congestion-many k cutoff words) l
 
   pub clearance-checked : (n : NodeColumns) (e : ExemptionColumns) (threshold : Float) → firstOf (clearanceConditions (columnsOf (take 4097 l)) n e threshold words) ≡ firstOf (clearanceConditions (columnsOf l) n e threshold words)
-  clearance-checked n e threshold = few-or-many (λ j k. firstOf (clearanceConditions (columnsOf j) n e threshold words) ≡ firstOf (clearanceConditions (columnsOf k) n e threshold words)) l (λ k. refl) (λ j k h i. clearance-many j n e threshold words h ∙ sym (clearance-many k n e threshold words i))
+  clearance-checked n e threshold = decided (λ k. firstOf (clearanceConditions (columnsOf k) n e threshold words)) _ (λ k. clearance-many k n e threshold words) l
 
 -- what holds of lines that pass, j being those of the first 4,097 entries, holds of all entries where they pass
 pub passed-all : (c : List Segment → Check) (r : Refusal) → ((k : List Segment) → 4096 < length k → c k ≡ check.Refused r) → (P : List Segment → Type 0) (j l : List Segment) → j ≡ take 4097 l → (c j ≡ check.Passed → P j) → c l ≡ check.Passed → P l
@@ -102,16 +105,16 @@ clearance-refused s n e threshold allowance words r p = rw p
 
 module _ (l : List Segment) where
   pub separation-decided : (allowance words : ℕ) → separationAnswer (columnsOf (take 4097 l)) allowance words ≡ separationAnswer (columnsOf l) allowance words
-  separation-decided a w = few-or-many (λ j k. separationAnswer (columnsOf j) a w ≡ separationAnswer (columnsOf k) a w) l (λ k. refl) (λ j k h i. separation-refused _ a w _ (separation-many j w h) ∙ sym (separation-refused _ a w _ (separation-many k w i)))
+  separation-decided a w = decided (λ k. separationAnswer (columnsOf k) a w) _ (λ k h. separation-refused _ a w _ (separation-many k w h)) l
 
   pub density-decided : (cutoff : Float) (allowance words : ℕ) → densityAnswer (columnsOf (take 4097 l)) cutoff allowance words ≡ densityAnswer (columnsOf l) cutoff allowance words
-  density-decided c a w = few-or-many (λ j k. densityAnswer (columnsOf j) c a w ≡ densityAnswer (columnsOf k) c a w) l (λ k. refl) (λ j k h i. density-refused _ c a w _ (congestion-many j c w h) ∙ sym (density-refused _ c a w _ (congestion-many k c w i)))
+  density-decided c a w = decided (λ k. densityAnswer (columnsOf k) c a w) _ (λ k h. density-refused _ c a w _ (congestion-many k c w h)) l
 
   pub profile-decided : (cutoff : Float) (allowance words : ℕ) → profileAnswer (columnsOf (take 4097 l)) cutoff allowance words ≡ profileAnswer (columnsOf l) cutoff allowance words
-  profile-decided c a w = few-or-many (λ j k. profileAnswer (columnsOf j) c a w ≡ profileAnswer (columnsOf k) c a w) l (λ k. refl) (λ j k h i. profile-refused _ c a w _ (congestion-many j c w h) ∙ sym (profile-refused _ c a w _ (congestion-many k c w i)))
+  profile-decided c a w = decided (λ k. profileAnswer (columnsOf k) c a w) _ (λ k h. profile-refused _ c a w _ (congestion-many k c w h)) l
 
   pub congestion-decided : (cutoff : Float) (words : ℕ) → congestionAnswer (columnsOf (take 4097 l)) cutoff words ≡ congestionAnswer (columnsOf l) cutoff words
-  congestion-decided c w = few-or-many (λ j k. congestionAnswer (columnsOf j) c w ≡ congestionAnswer (columnsOf k) c w) l (λ k. refl) (λ j k h i. congestion-refused _ c w _ (congestion-many j c w h) ∙ sym (congestion-refused _ c w _ (congestion-many k c w i)))
+  congestion-decided c w = decided (λ k. congestionAnswer (columnsOf k) c w) _ (λ k h. congestion-refused _ c w _ (congestion-many k c w h)) l
 
   pub clearance-decided : (n : NodeColumns) (e : ExemptionColumns) (threshold : Float) (allowance words : ℕ) → clearanceAnswer (columnsOf (take 4097 l)) n e threshold allowance words ≡ clearanceAnswer (columnsOf l) n e threshold allowance words
-  clearance-decided n e t a w = few-or-many (λ j k. clearanceAnswer (columnsOf j) n e t a w ≡ clearanceAnswer (columnsOf k) n e t a w) l (λ k. refl) (λ j k h i. clearance-refused _ n e t a w _ (clearance-many j n e t w h) ∙ sym (clearance-refused _ n e t a w _ (clearance-many k n e t w i)))
+  clearance-decided n e t a w = decided (λ k. clearanceAnswer (columnsOf k) n e t a w) _ (λ k h. clearance-refused _ n e t a w _ (clearance-many k n e t w h)) l
