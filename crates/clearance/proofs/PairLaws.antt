@@ -33,7 +33,7 @@ use Rattle.boxes.specs.Boxes.{nodeBox, segmentBox, distance}
 use Rattle.clearance.specs.Figures.{exempt, distances}
 use Rattle.clearance.specs.Tree.{indexed}
 use Rattle.clearance.specs.Exempting.{Holds, Gathered, Own, Listed}
-use Rattle.clearance.specs.Looking.{nearer, noPair, withPair, inTurn, lookNodes, lookSegments}
+use Rattle.clearance.specs.Looking.{nearer, noPair, bestWith, inTurn, lookNodes, lookSegments}
 use Rattle.clearance.specs.TightPair.{Tight, found, answer, Answered}
 use Rattle.drawing.proofs.Fit.{FitSegment, FitNode}
 use Rattle.boxes.proofs.BoxLaws.{fit-node, fit-segment, distance-good}
@@ -43,17 +43,17 @@ use Rattle.clearance.proofs.PairInput.{FloatsLent, pair-segments, pair-
 
 -- ---- one pair
 module _ (d : Float) (i j : ℕ) (b : Best) where
-  pub not-nearer : (x : Bool) → nearer d (b .least) ≡ false → b ≡ withPair x d i j b
-  unfolding withPair
+  pub not-nearer : (x : Bool) → nearer d (b .least) ≡ false → b ≡ bestWith x d i j b
+  unfolding bestWith
   not-nearer true e = refl
   not-nearer false e = rw e
 
-  pub passed-by : (x : Bool) → x ≡ true → b ≡ withPair x d i j b
-  unfolding withPair
+  pub passed-by : (x : Bool) → x ≡ true → b ≡ bestWith x d i j b
+  unfolding bestWith
   passed-by x e = rw e
 
-  pub taken : (x : Bool) → nearer d (b .least) ≡ true → x ≡ false → record { least = Present d; segment = i; node = j } ≡ withPair x d i j b
-  unfolding withPair
+  pub taken : (x : Bool) → nearer d (b .least) ≡ true → x ≡ false → record { least = Present d; segment = i; node = j } ≡ bestWith x d i j b
+  unfolding bestWith
   taken x e f = rw (f, e)
 
 -- ---- entries in turn: what is left after i of them
@@ -69,7 +69,7 @@ module _ {A S : Type 0} (step : ℕ → A → S → S) (l : List A) (i : ℕ) (b
 
 -- ---- the nodes in turn, with one segment
 abbrev nodeStep : List Exemption → ℕ → Aabb → ℕ → ℕ → Node → Best → Best
-nodeStep ex net box i j n b = withPair (exempt ex net (n .id)) (distance box (nodeBox n)) i j b
+nodeStep ex net box i j n b = bestWith (exempt ex net (n .id)) (distance box (nodeBox n)) i j b
 
 pub record NodesLooked (words : List ℕ) (r : Range) (box : Aabb) (i : ℕ) (c : NodeColumns) (b₀ : Best) (j : ℕ) (b : Best) : Type 0 where
   pub agree : NodesAgree c
@@ -83,14 +83,14 @@ module _ (words : List ℕ) (r : Range) (box : Aabb) (i : ℕ) (c : NodeColumns)
 
   module _ (j : ℕ) (b : Best) (p : NodesLooked words r box i c b₀ j b) where
     pub nodes-next : j < length (c .id) → (d : Float) → d ≡ distance box (nodeBox (nodeAt c j)) → (b′ : Best)
-        → ((ex : List Exemption) (net : ℕ) → Listed words ex net r → b′ ≡ withPair (exempt ex net (getD (c .id) j 0)) d i j b) → NodesLooked words r box i c b₀ (j + 1) b′
+        → ((ex : List Exemption) (net : ℕ) → Listed words ex net r → b′ ≡ bestWith (exempt ex net (getD (c .id) j 0)) d i j b) → NodesLooked words r box i c b₀ (j + 1) b′
     nodes-next h d e b′ next = record {
       agree = p .agree;
       small = omega arith;
       left = λ ex net l.
           p .left ex net l
           ∙ turn-next (nodeStep ex net box i) (nodes c) j b (nodeAt c j) (nodes-at c (p .agree) (nodeAt c j) j h) (omega (arith, length-nodes c (p .agree)))
-          ∙ ap (inTurn (nodeStep ex net box i) (j + 1) (drop (j + 1) (nodes c))) (sym (next ex net l ∙ ap (λ (f : Float). withPair (exempt ex net (getD (c .id) j 0)) f i j b) e));
+          ∙ ap (inTurn (nodeStep ex net box i) (j + 1) (drop (j + 1) (nodes c))) (sym (next ex net l ∙ ap (λ (f : Float). bestWith (exempt ex net (getD (c .id) j 0)) f i j b) e));
     }
 
     pub nodes-end : length (c .id) ≤ j → (ex : List Exemption) (net : ℕ) → Listed words ex net r → b ≡ lookNodes ex net box i (nodes c) b₀
@@ -185,8 +185,8 @@ module _ (ex : List Exemption) (ss : List Segment) (ns : List Node) where
         go false e = record { least = sym e; place = p .place }
 
   one-more : (x : Bool) (d : Float) (i j : ℕ) → Good d → (x ≡ false → Placed ex ss ns i j d) → (seen : List Float) → All Good seen → (b : Best) → Looked ex ss ns seen b
-      → Looked ex ss ns (seen ++ put (not x) d []) (withPair x d i j b)
-  unfolding withPair
+      → Looked ex ss ns (seen ++ put (not x) d []) (bestWith x d i j b)
+  unfolding bestWith
   one-more true d i j good-d q seen good b p = subst (λ (l : List Float). Looked ex ss ns l b) (sym (append-nil seen)) p
   one-more false d i j good-d q seen good b p = added d i j good-d (q refl) seen good (b .least) (b .segment) (b .node) p
 
@@ -202,9 +202,9 @@ module _ (ex : List Exemption) (ss : List Segment) (ns : List Node) where
         let at = drop-head ns j n rest e in
         let good-d : Good d = distance-good (segmentBox s) (nodeBox n) (fit-segment s fit) (fit-node n (h .0)) in
         let q : x ≡ false → Placed ex ss ns i j d = λ f. record { segment = s; node = n; segment-at = si; node-at = at .0; free = f; far = refl } in
-        subst (λ (l : List Float). Looked ex ss ns l (inTurn (nodeStep ex (s .net) (segmentBox s) i) (suc j) rest (withPair x d i j b)))
+        subst (λ (l : List Float). Looked ex ss ns l (inTurn (nodeStep ex (s .net) (segmentBox s) i) (suc j) rest (bestWith x d i j b)))
         (append-assoc seen (put (not x) d []) (distancesOf ex s (map indexed rest)) ∙ ap (λ (l : List Float). seen ++ l) (put-before (not x) d (distancesOf ex s (map indexed rest))))
-        (nodes-looked rest (suc j) (at .1) (h .1) (seen ++ put (not x) d []) (all-append Good seen (put (not x) d []) good (all-put (not x) d good-d)) (withPair x d i j b) (one-more x d i j good-d q seen good b p))
+        (nodes-looked rest (suc j) (at .1) (h .1) (seen ++ put (not x) d []) (all-append Good seen (put (not x) d []) good (all-put (not x) d good-d)) (bestWith x d i j b) (one-more x d i j good-d q seen good b p))
 
   -- from segment i on
   segments-looked : All FitNode ns → (rest : List Segment) (i : ℕ) → drop i ss ≡ rest → All FitSegment rest → (seen : List Float) → All Good seen → (b : Best) → Looked ex ss ns seen b

@@ -21,9 +21,9 @@ abbrev pub noPair : Best
 noPair = record { least = Absent; segment = 0; node = 0 }
 
 -- the best so far with segment i and node j looked at, which count unless they are exempt
-unfoldable pub withPair : Bool → Float → ℕ → ℕ → Best → Best
-withPair true d i j b = b
-withPair false d i j b = cond (nearer d (b .least)) (record { least = Present d; segment = i; node = j }) b
+unfoldable pub bestWith : Bool → Float → ℕ → ℕ → Best → Best
+bestWith true d i j b = b
+bestWith false d i j b = cond (nearer d (b .least)) (record { least = Present d; segment = i; node = j }) b
 
 -- each entry in turn with its position, counted from i on
 unfoldable pub inTurn : {A S : Type 0} → (ℕ → A → S → S) → ℕ → List A → S → S
@@ -32,7 +32,7 @@ inTurn step i (x ∷ l) b = inTurn step (suc i) l (step i x b)
 
 -- segment i, of this net and with this box, and each node
 unfoldable pub lookNodes : List Exemption → ℕ → Aabb → ℕ → List Node → Best → Best
-lookNodes ex net box i ns b = inTurn (λ j n c. withPair (exempt ex net (n .id)) (distance box (nodeBox n)) i j c) 0 ns b
+lookNodes ex net box i ns b = inTurn (λ j n c. bestWith (exempt ex net (n .id)) (distance box (nodeBox n)) i j c) 0 ns b
 
 -- each segment and each node
 unfoldable pub lookSegments : List Exemption → List Segment → List Node → Best

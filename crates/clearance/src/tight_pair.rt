@@ -8,7 +8,7 @@ ghost use Rattle.drawing.specs.Lengths.{SegmentsAgree, NodesAgree};
 ghost use Rattle.clearance.specs.Figures.{exempt};
 ghost use Rattle.clearance.specs.Exempting.{Rising, Holds, InReach, Listed};
 ghost use Rattle.clearance.specs.TightPair.{found, Answered};
-ghost use Rattle.clearance.specs.Looking.{nearer, withPair, lookNodes, lookSegments};
+ghost use Rattle.clearance.specs.Looking.{nearer, bestWith, lookNodes, lookSegments};
 use crate::exempt::Range;
 use crate::exempt::gather;
 use crate::exempt::is_exempt;
@@ -54,7 +54,7 @@ fn with_pair(
     best: Best,
 ) -> Best
     requires { ⌜ InReach (now words) range ⌝ }
-    ensures { λ r. ⌜ ((ex : List Exemption) (net : ℕ) → Listed (now (words .entry)) ex net range → r ≡ withPair (exempt ex net id) distance segment node best) ⌝ }
+    ensures { λ r. ⌜ ((ex : List Exemption) (net : ℕ) → Listed (now (words .entry)) ex net range → r ≡ bestWith (exempt ex net id) distance segment node best) ⌝ }
 {
     let least = best.least;
     if !is_nearer(distance, least) {
