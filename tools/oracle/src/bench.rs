@@ -12,7 +12,7 @@ use crate::{
     port::{self, scratch_words, Call, Columns, Told},
     random::Random,
     reference::{Fed, Run},
-    refusals::CALL_LIMITS,
+    refusals::{Refusal, CALL_LIMITS},
     report::{Measure, Report},
     values::GRID_STEP,
 };
@@ -211,8 +211,9 @@ const CONGESTION: [Kind; 11] = [
 /// time of each side, the port's best over the reference's, the median of that
 /// ratio over the runs, which a busy machine disturbs less, and the best time
 /// that clearing the scratch takes alone: the port's calls clear theirs, and the
-/// reference has nothing to clear. Fails where the two answers differ.
-pub fn bench(runs: u64) -> Result<(), String> {
+/// reference has nothing to clear. A call whose allowance is spent has no visits
+/// to tell. Fails where the two answers differ.
+pub fn bench(runs: u64, allowance: u64) -> Result<(), String> {
     println!("Both are optimised. The port's scratch is zero before each run; that it clears it is timed.");
     for (measure, kinds) in [
         (Measure::Clearance, &CLEARANCE[..]),
@@ -231,15 +232,15 @@ pub fn bench(runs: u64) -> Result<(), String> {
             "clear ms"
         );
         for kind in kinds {
-            bench_kind(measure, kind, runs)?;
+            bench_kind(measure, kind, runs, allowance)?;
         }
     }
     Ok(())
 }
 
-fn bench_kind(measure: Measure, kind: &Kind, runs: u64) -> Result<(), String> {
+fn bench_kind(measure: Measure, kind: &Kind, runs: u64, allowance: u64) -> Result<(), String> {
     let drawing = drawing(kind, &mut Random::new(1));
-    let (visits, times) = times(measure, &drawing, runs).map_err(|told| {
+    let (visits, times) = times(measure, &drawing, runs, allowance).map_err(|told| {
         let (measure, kind) = (measure.name(), kind.name);
         format!("{measure}, {kind}: the port tells {told:?}, the Rust otherwise")
     })?;
@@ -257,7 +258,12 @@ fn bench_kind(measure: Measure, kind: &Kind, runs: u64) -> Result<(), String> {
 /// The visits, and for each run the milliseconds of the reference, of the port
 /// and of clearing its scratch. They take turns, so that a machine that is slow
 /// for a while is slow for all.
-fn times(measure: Measure, drawing: &Drawing, runs: u64) -> Result<(u64, Vec<[f64; 3]>), Told> {
+fn times(
+    measure: Measure,
+    drawing: &Drawing,
+    runs: u64,
+    allowance: u64,
+) -> Result<(u64, Vec<[f64; 3]>), Told> {
     let call = Call::of_sheet(measure);
     let fed = Fed::as_given(drawing);
     let columns = Columns::of(drawing);
@@ -265,8 +271,8 @@ fn times(measure: Measure, drawing: &Drawing, runs: u64) -> Result<(u64, Vec<[f6
     let mut visits = 0;
     let mut times = Vec::new();
     for _ in 0..runs.max(1) {
-        let (by_reference, rust) = timed(|| fed.run(measure, u64::MAX));
-        let (by_port, port) = timed(|| port::run(call, &columns, u64::MAX, &mut scratch));
+        let (by_reference, rust) = timed(|| fed.run(measure, allowance));
+        let (by_port, port) = timed(|| port::run(call, &columns, allowance, &mut scratch));
         if !agree(&by_reference, &by_port) {
             return Err(by_port);
         }
@@ -295,16 +301,18 @@ fn timed<T>(call: impl FnOnce() -> T) -> (T, f64) {
     (answer, start.elapsed().as_secs_f64() * 1_000.0)
 }
 
-/// The figures are the same; the reference does not tell its visits.
+/// The figures are the same, or both are spent; the reference does not tell its
+/// visits.
 fn agree(by_reference: &Run, by_port: &Told) -> bool {
-    let Run::Done(figures) = by_reference else {
-        return false;
+    let answer = match by_reference {
+        Run::Done(figures) => Ok(Report {
+            figures: figures.clone(),
+            visits: by_port.visits(),
+        }),
+        Run::Spent => Err(Refusal::Spent),
+        Run::Unfit | Run::Panicked(_) => return false,
     };
-    let report = Report {
-        figures: figures.clone(),
-        visits: by_port.visits(),
-    };
-    Told::expected(&Ok(report), by_port.words.len()) == *by_port
+    Told::expected(&answer, by_port.words.len()) == *by_port
 }
 
 /// Own lines are handed out in order, so the segments are shuffled in the end.

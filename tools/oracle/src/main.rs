@@ -79,7 +79,8 @@ usage: oracle COMMAND
   drawing-d          the file of drawing D
   drawings DIR       the files of D and of the marked cases, written to DIR
   sample SEED COUNT  a sample of COUNT files with the Rust's sheets
-  bench RUNS         the times of the Rust and of the port, best of RUNS";
+  bench RUNS [ALLOWANCE]
+                     the times of the Rust and of the port, best of RUNS";
 
 fn main() -> ExitCode {
     let words: Vec<String> = env::args().skip(1).collect();
@@ -117,7 +118,8 @@ fn run(words: &[&str]) -> Result<ExitCode, String> {
             let sample = sample::sample(number(seed)?, count).map_err(|fault| fault.to_string())?;
             output(&sample)
         }
-        ["bench", runs] => bench_runs(number(runs)?),
+        ["bench", runs] => bench_runs(number(runs)?, u64::MAX),
+        ["bench", runs, allowance] => bench_runs(number(runs)?, number(allowance)?),
         _ => Err(USAGE.to_string()),
     }
 }
@@ -149,13 +151,13 @@ fn shrink_input() -> Result<ExitCode, String> {
 }
 
 #[cfg(port)]
-fn bench_runs(runs: u64) -> Result<ExitCode, String> {
-    bench::bench(runs)?;
+fn bench_runs(runs: u64, allowance: u64) -> Result<ExitCode, String> {
+    bench::bench(runs, allowance)?;
     Ok(ExitCode::SUCCESS)
 }
 
 #[cfg(not(port))]
-fn bench_runs(_runs: u64) -> Result<ExitCode, String> {
+fn bench_runs(_runs: u64, _allowance: u64) -> Result<ExitCode, String> {
     Err("the port is not linked: run `tools/build-port` and build again".to_string())
 }
 
