@@ -9,6 +9,7 @@ use native.Mathlib.Omega.{arith}
 use borrow.Author.Tests.{ne-eqb}
 use lib.Dec.{ltb, eqb}
 use lib.Ieee.{Float, binary64, add}
+use lib.ListN.{length, length-map}
 use Rattle.laws.specs.Lists.{All}
 use Rattle.laws.specs.Least.{lesser}
 use Rattle.laws.specs.Perm.{Perm}
@@ -24,7 +25,7 @@ use Rattle.drawing.specs.declared.gap.Gap.{Gap}
 use Rattle.drawing.specs.Entries.{Segment}
 use Rattle.drawing.specs.Gaps.{lesserGap}
 use Rattle.drawing.specs.Held.{SegmentHeld}
-use Rattle.rows.specs.Rows.{oriented}
+use Rattle.rows.specs.Rows.{oriented, atLeastTwo}
 use Rattle.congestion.specs.declared.report.ParallelCongestion.{ParallelCongestion}
 use Rattle.congestion.specs.declared.run.Found.{Found}
 use Rattle.congestion.specs.declared.run.Swept.{Swept}
@@ -183,6 +184,20 @@ module _ (cutoff : Float) (l : List Segment) (fit : FitList l) (held : All Segme
 
     least-lesser : lesserGap (gapOfUnits (h .minimumPositive)) (gapOfUnits (v .minimumPositive)) ≡ gapOfUnits (lesser ltb (h .minimumPositive) (v .minimumPositive))
     least-lesser = lesser-gap (h .minimumPositive) (v .minimumPositive) (subst Held (sym (across-right .least-right)) (held-way true)) (subst Held (sym (down-right .least-right)) (held-way false))
+
+    -- ---- too few visits, whatever the sweeps find
+    cost-least : atLeastTwo (length (oriented 1 l)) + atLeastTwo (length (oriented 0 l)) ≤ allPairs cutoff l .cost
+    unfolding sweepWires
+    cost-least =
+        let w = wiresInRows l in
+        let one : length (only true w) ≡ length (oriented 1 l) = ap length (only-across l) ∙ length-map (oriented 1 l) (wireOfRow true) in
+        let other : length (only false w) ≡ length (oriented 0 l) = ap length (only-down l) ∙ length-map (oriented 0 l) (wireOfRow false) in
+        let cost : sweepWires c w .cost ≡ along c (only true w) .cost + (along c (only false w) .cost + 0) = ap (λ (x : Charged (ParallelCongestion × Gap)). x .cost) (cond-false (eqb c 0) _ _ (ne-eqb c 0 (λ e. omega arith))) in
+        rw (← one, ← other, all-pairs-are) (omega (arith, cost, right true .cost-right, right false .cost-right))
+
+    pub too-few : (m n : ℕ) → n ≡ atLeastTwo (length (oriented 1 l)) + atLeastTwo (length (oriented 0 l)) → m < n → Spent ≡ foundOf (within m (allPairs cutoff l))
+    unfolding foundOf
+    too-few m n e k = sym (ap foundOf (within-short m (allPairs cutoff l) (omega (arith, cost-least))))
 
     -- ---- what the code answers, from what its sweeps came to
     module _ (m : ℕ) (first : Swept) (one : first ≡ sweptOf (within m (across c some l))) where

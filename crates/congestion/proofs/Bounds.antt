@@ -12,7 +12,8 @@ use Rattle.laws.proofs.ListLaws.{mem-pairs, length-beside}
 use Rattle.laws.proofs.Folds.{count-at-most, sum-at-most}
 use Rattle.congestion.specs.Wires.{Wire}
 use Rattle.congestion.specs.Cells.{extent, cells, covers}
-use Rattle.congestion.specs.Figures.{close, closeOther, overlap, total, stretches, congested, pairOverlap, closePairs, inOrientation, atLeastTwo, visits}
+use Rattle.rows.specs.Rows.{atLeastTwo}
+use Rattle.congestion.specs.Figures.{close, closeOther, overlap, total, stretches, congested, pairOverlap, closePairs, inOrientation, visits}
 use Rattle.congestion.proofs.CellLaws.{length-cells}
 use Rattle.congestion.proofs.Beginning.{Sound}
 use Rattle.congestion.proofs.Orientations.{overlap-sum}

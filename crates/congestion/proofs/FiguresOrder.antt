@@ -11,7 +11,8 @@ use Rattle.laws.specs.Perm.{Perm}
 use Rattle.laws.proofs.Folds.{plus, greatest, fold-same, fold-perm}
 use Rattle.congestion.specs.Wires.{Wire}
 use Rattle.congestion.specs.Cells.{extent, cells, covers}
-use Rattle.congestion.specs.Figures.{overlap, close, closeOther, total, stretches, congested, pairOverlap, neighborsOn, peak, closePairs, atLeastTwo, visits}
+use Rattle.rows.specs.Rows.{atLeastTwo}
+use Rattle.congestion.specs.Figures.{overlap, close, closeOther, total, stretches, congested, pairOverlap, neighborsOn, peak, closePairs, visits}
 use Rattle.congestion.specs.Sweep.{gap}
 use Rattle.congestion.proofs.FoldLaws.{fewest, pairs-perm}
 use Rattle.congestion.proofs.Tracking.{eqb-turn}

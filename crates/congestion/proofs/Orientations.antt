@@ -14,7 +14,8 @@ use Rattle.laws.proofs.ListLaws.{mem-chosen}
 use Rattle.laws.proofs.Folds.{Monoid, plus, greatest, idr, fold-same, fold-both, count-chosen}
 use Rattle.congestion.specs.Wires.{Wire}
 use Rattle.congestion.specs.Cells.{cells, covers}
-use Rattle.congestion.specs.Figures.{apart, near, overlaps, overlap, close, other, closeOther, stretches, congested, closeOtherPairs, pairOverlap, neighborsOn, peak, closePairs, inOrientation, atLeastTwo}
+use Rattle.rows.specs.Rows.{atLeastTwo}
+use Rattle.congestion.specs.Figures.{apart, near, overlaps, overlap, close, other, closeOther, stretches, congested, closeOtherPairs, pairOverlap, neighborsOn, peak, closePairs, inOrientation}
 use Rattle.congestion.specs.Sweep.{gap, only}
 use Rattle.congestion.proofs.FoldLaws.{fewest, fold-chosen, fold-pairs}
 use Rattle.congestion.proofs.Oriented.{leastUnits, stretches-are}

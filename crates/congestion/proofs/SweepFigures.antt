@@ -20,7 +20,8 @@ use Rattle.drawing.specs.declared.gap.Gap.{Gap}
 use Rattle.congestion.specs.declared.report.ParallelCongestion.{ParallelCongestion}
 use Rattle.congestion.specs.Wires.{Wire}
 use Rattle.congestion.specs.Cells.{cells, covers}
-use Rattle.congestion.specs.Figures.{apart, overlaps, overlap, close, other, closeOther, total, stretches, congested, closeOtherPairs, pairOverlap, neighborsOn, peak, closePairs, inOrientation, atLeastTwo, visits}
+use Rattle.rows.specs.Rows.{atLeastTwo}
+use Rattle.congestion.specs.Figures.{apart, overlaps, overlap, close, other, closeOther, total, stretches, congested, closeOtherPairs, pairOverlap, neighborsOn, peak, closePairs, inOrientation, visits}
 use Rattle.congestion.specs.Profile.{lengths}
 use Rattle.congestion.specs.Sweep.{State, gap, begin, along, only, gapOfUnits, sweepWires}
 use Rattle.congestion.proofs.FoldLaws.{fewest, fold-chosen}

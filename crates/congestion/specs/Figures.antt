@@ -4,6 +4,7 @@ use mathlib.Core.Bool.{Bool, true, false, not, _&&_, Bool·beq, cond}
 use Prim.Native.Nat.{ℕ, _+_, _-_, _*_, min, max}
 use lib.Dec.{ltb, eqb}
 use Rattle.laws.specs.Lists.{some-of, keep, fold, sum, count, pairs}
+use Rattle.rows.specs.Rows.{atLeastTwo}
 use Rattle.congestion.specs.Wires.{Wire}
 use Rattle.congestion.specs.Cells.{extent, cells, covers}
 
@@ -69,9 +70,6 @@ closePairs c l = count (λ p. close c (p .0) (p .1)) (pairs l)
 -- the segments of one orientation, how many
 abbrev pub inOrientation : Bool → List Wire → ℕ
 inOrientation h l = count (λ s. Bool·beq h (s .horizontal)) l
-
-abbrev pub atLeastTwo : ℕ → ℕ
-atLeastTwo n = cond (ltb n 2) 0 n
 
 -- "segments in orientations holding at least two, plus twice the close pairs of all nets, equal nets included; 0 if the cutoff is 0 or less"
 unfoldable pub visits : ℕ → List Wire → ℕ

@@ -26,6 +26,7 @@ use drawing::check_congestion;
 use drawing::clear;
 use drawing::minimum_option;
 use floats::canonical_zero;
+use rows::segments_to_sweep;
 
 // The summed length of all segments.
 fn total_length(net: &[u32], orientation: &[u8], fixed: &[f64], start: &[f64], end: &[f64]) -> f64
@@ -61,6 +62,7 @@ fn together(across: Found, down: Found) -> Found
 }
 
 // The sweep over a fit drawing: horizontal segments first, then vertical ones with what is left of the allowance. A cutoff of 0 or less costs nothing.
+// Each segment that is swept costs a visit at least. Where the allowance does not reach that, it is spent before any table is made.
 fn sweep_both(
     net: &[u32],
     orientation: &[u8],
@@ -82,6 +84,9 @@ fn sweep_both(
             minimum_positive: Gap::Absent,
             left: allowance,
         });
+    }
+    if allowance < segments_to_sweep(orientation) {
+        return Swept::Spent;
     }
     let first = sweep_along(
         scratch,

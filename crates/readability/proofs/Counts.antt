@@ -19,7 +19,8 @@ use Rattle.drawing.specs.Checks.{congestionConditions}
 use Rattle.clearance.proofs.Visits.{visits-at-most}
 use Rattle.separation.proofs.Costs.{visit-bound}
 use Rattle.congestion.specs.Wires.{Wire, wireOf, cutoffOf}
-use Rattle.congestion.specs.Figures.{close, closePairs, inOrientation, atLeastTwo, visits}
+use Rattle.rows.specs.Rows.{atLeastTwo}
+use Rattle.congestion.specs.Figures.{close, closePairs, inOrientation, visits}
 use Rattle.congestion.specs.Rounded.{closeFloats}
 use Rattle.congestion.specs.Profile.{allPairs}
 use Rattle.congestion.proofs.Fitness.{FitList, fit-list, fit-cutoff}

@@ -10,9 +10,8 @@ use lib.ListN.{length}
 use Rattle.laws.specs.Lists.{count, pairs}
 use Rattle.floats.specs.Values.{plusZero}
 use Rattle.drawing.specs.Entries.{Segment, SegmentColumns, segments, nodes}
-use Rattle.rows.specs.Rows.{oriented}
+use Rattle.rows.specs.Rows.{oriented, atLeastTwo}
 use Rattle.separation.specs.Lines.{lines, levels}
-use Rattle.congestion.specs.Figures.{atLeastTwo}
 use Rattle.congestion.specs.Rounded.{closeFloats}
 use Rattle.readability.specs.Applies.{NoneApplies}
 use Rattle.readability.specs.Measures.{Measure, Run, resultOfRun, visitCount, earlier, allPairsReport, Lists, clearance, separation, density, profile, congestion, Call, measured}

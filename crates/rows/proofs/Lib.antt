@@ -1,5 +1,6 @@
 -- The laws of the definitions, a file for each notion. Other crates cite these.
 pub mod Oriented
+pub mod ToSweep
 pub mod ColumnParts
 pub mod LentRows
 -- what the functions' proofs lean on, and what callers use of their equations

@@ -1,10 +1,10 @@
 -- The segments of one orientation as rows in order, and their events in order: separation's walk is defined over them, and the code of both sweeps goes over them. Congestion's walk is defined over wires in 64ths.
-use mathlib.Core.Bool.{Bool}
+use mathlib.Core.Bool.{Bool, cond}
 use mathlib.Core.List.{List, [], _∷_}
-use Prim.Native.Nat.{ℕ, suc}
-use lib.Dec.{eqb}
+use Prim.Native.Nat.{ℕ, suc, _+_}
+use lib.Dec.{ltb, eqb}
 use lib.Ieee.{Float}
-use Rattle.laws.specs.Lists.{chosen}
+use Rattle.laws.specs.Lists.{chosen, count}
 use Rattle.laws.specs.Rows.{rowLe}
 use Rattle.laws.specs.Sort.{sortBy}
 use Rattle.floats.specs.TotalOrder.{keyOf}
@@ -42,6 +42,18 @@ rowsInOrder a b = rowLe (words a) (words b)
 -- the segments of one orientation: "Each measure walks as if its segments came in the order net, orientation byte, fixed, start, end .. The Rust's own orders then follow, and what they leave tied keeps this order"
 unfoldable pub oriented : ℕ → List Segment → List Row
 oriented o l = sortBy rowsInOrder (chosen (λ s. eqb (s .orientation) o) rowOf (segmentsInOrder l))
+
+-- ---- how many are swept
+-- of so many orientation bytes, those that are o
+abbrev pub ofOrientation : ℕ → List ℕ → ℕ
+ofOrientation o l = count (λ b. eqb b o) l
+
+abbrev pub atLeastTwo : ℕ → ℕ
+atLeastTwo n = cond (ltb n 2) 0 n
+
+-- "segments in orientations holding at least two", from the column of their orientation bytes
+unfoldable pub segmentsToSweep : List ℕ → ℕ
+segmentsToSweep l = atLeastTwo (ofOrientation 1 l) + atLeastTwo (ofOrientation 0 l)
 
 -- ---- the events
 -- each segment ends and starts; its index is the place of its row in order

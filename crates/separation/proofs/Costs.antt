@@ -1,4 +1,4 @@
--- The visits of the walk: a sweep of n segments takes at most n (10 h + 5), 2 to the power h being its leaf count. Assumes nothing.
+-- The visits of the walk: a sweep of n segments takes at least 5 n, and at most n (10 h + 5), 2 to the power h being its leaf count. Assumes nothing.
 use mathlib.Core.Path.{_≡_, refl, sym, ap, _∙_}
 use mathlib.Core.List.{List, [], _∷_}
 use mathlib.Core.Bool.{Bool, true, false}
@@ -12,13 +12,14 @@ use Rattle.laws.specs.Charged.{runs}
 use Rattle.laws.proofs.Perms.{perm-count}
 use Rattle.laws.proofs.Sorting.{sort-perm}
 use Rattle.drawing.specs.Entries.{Segment}
-use Rattle.rows.specs.Rows.{Row, oriented, Event, ends, starts, eventsInOrder, eventsFrom, events}
+use Rattle.rows.specs.Rows.{Row, oriented, atLeastTwo, Event, ends, starts, eventsInOrder, eventsFrom, events}
 use Rattle.rows.proofs.Oriented.{oriented-length}
+use Rattle.rows.proofs.ToSweep.{two-or-more}
 use Rattle.separation.specs.Lines.{lines, index, levels}
 use Rattle.separation.specs.Searches.{otherIn}
 use Rattle.separation.specs.Walk.{Sweep, nothing, looking, startsAt, endsAt, step, sweep, along, walkAll, visitCount}
 use Rattle.separation.proofs.Lines.{other-splits}
-use Rattle.separation.proofs.Searches.{set-cost, right-cost, left-cost}
+use Rattle.separation.proofs.Searches.{set-cost, right-least, left-least, right-cost, left-cost}
 
 -- a start takes `has_other_at`, two searches and a `set`
 start-cost : (ls : List ℕ) (h : ℕ) (s : Sweep) (x : Row) → startsAt ls h s x .cost ≤ 9 * h + 4
@@ -32,6 +33,13 @@ start-cost ls h s x =
 end-cost : (h : ℕ) (s : Sweep) (x : Row) → endsAt h s x .cost ≡ suc h
 unfolding endsAt
 end-cost h s x = omega (arith, set-cost h)
+
+start-least : (ls : List ℕ) (h : ℕ) (s : Sweep) (x : Row) → 4 ≤ startsAt ls h s x .cost
+unfolding startsAt looking
+start-least ls h s x =
+    let has = otherIn ls (s .active) (x .net) in
+    let i = index ls (x .line) in
+    omega (arith, right-least (λ k. has) i h 1 0, left-least (λ k. has) (suc i) h 1 0, set-cost h)
 
 abbrev is-end : Event → Bool
 is-end (ends i r) = true
@@ -56,6 +64,12 @@ runs-bound ls h s (ends i x ∷ es) =
 runs-bound ls h s (starts i x ∷ es) =
     let t = startsAt ls h s x .value in
     start-more (suc h) (9 * h + 4) (startsAt ls h s x .cost) (runs (step ls h) t es .cost) (count is-end es) (count is-start es) (start-cost ls h s x) (runs-bound ls h t es)
+
+runs-least : (ls : List ℕ) (h : ℕ) (s : Sweep) (es : List Event) → count is-end es + 4 * count is-start es ≤ runs (step ls h) s es .cost
+unfolding runs step fold
+runs-least ls h s [] = zero-le
+runs-least ls h s (ends i x ∷ es) = omega (arith, end-cost h s x, runs-least ls h (endsAt h s x .value) es)
+runs-least ls h s (starts i x ∷ es) = omega (arith, start-least ls h s x, runs-least ls h (startsAt ls h s x .value) es)
 
 -- each segment ends once and starts once
 ends-count : (i : ℕ) (l : List Row) → count is-end (eventsFrom i l) ≡ length l
@@ -86,6 +100,24 @@ sweep-bound l =
       where
         all : (h : ℕ) → suc h + (9 * h + 4) ≡ 10 * h + 5
         all h = omega arith
+
+sweep-least : (l : List Row) → 5 * length l ≤ sweep l .cost
+unfolding sweep events
+sweep-least l =
+    let p = sort-perm eventsInOrder (eventsFrom 0 l) in
+    let g = runs-least (lines l) (levels (length (lines l))) (record { active = []; met = nothing }) (events l) in
+    omega (arith, g, perm-count is-end p, ends-count 0 l, perm-count is-start p, starts-count 0 l)
+
+along-least : (l : List Row) → 5 * atLeastTwo (length l) ≤ along l .cost
+unfolding along
+along-least [] = zero-le
+along-least (r ∷ []) = zero-le
+along-least (r ∷ t ∷ l) = omega (arith, two-or-more (length (r ∷ t ∷ l)) (omega arith), sweep-least (r ∷ t ∷ l))
+
+-- the segments that are swept, five times
+pub walk-least : (l : List Segment) → 5 * (atLeastTwo (length (oriented 1 l)) + atLeastTwo (length (oriented 0 l))) ≤ walkAll l .cost
+unfolding walkAll
+walk-least l = omega (arith, along-least (oriented 1 l), along-least (oriented 0 l))
 
 along-bound : (l : List Row) → along l .cost ≤ bound l
 unfolding along

@@ -18,6 +18,26 @@ unfolding setRun
 set-cost zero = refl
 set-cost (suc h) = ap suc (set-cost h)
 
+-- a search touches the node that it begins at
+leaf-least : (t : Bool) (s : ℕ) → 1 ≤ leaf t s .cost
+leaf-least true s = le-refl 1
+leaf-least false s = le-refl 1
+
+node-least : (t : Bool) (one two : Charged (Option ℕ)) → 1 ≤ node t one two .cost
+node-least true one two = omega arith
+node-least false one two = le-refl 1
+
+module _ (has : ℕ → ℕ → ℕ → Bool) (q : ℕ) where
+  pub right-least : (h k s : ℕ) → 1 ≤ rightmost has q h k s .cost
+  unfolding rightmost
+  right-least zero k s = leaf-least (ltb s q && has k s (s + 1)) s
+  right-least (suc h) k s = node-least (ltb s q && has k s (s + 2 ^ suc h)) (rightmost has q h (2 * k + 1) (s + 2 ^ h)) (rightmost has q h (2 * k) s)
+
+  pub left-least : (h k s : ℕ) → 1 ≤ leftmost has q h k s .cost
+  unfolding leftmost
+  left-least zero k s = leaf-least (ltb q (s + 1) && has k s (s + 1)) s
+  left-least (suc h) k s = node-least (ltb q (s + 2 ^ suc h) && has k s (s + 2 ^ suc h)) (leftmost has q h (2 * k) s) (leftmost has q h (2 * k + 1) (s + 2 ^ h))
+
 -- a search that found v at the cost c
 abbrev found : Option ℕ → ℕ → Charged (Option ℕ)
 found v c = record { value = v; cost = c }

@@ -2,7 +2,7 @@
 use mathlib.Core.Path.{_≡_, sym, ap, _∙_, subst}
 use mathlib.Core.Logic.{inl, inr}
 use mathlib.Core.List.{List}
-use Prim.Native.Nat.{ℕ, _+_, _-_, _*_, _^_, _≤_, _<_}
+use Prim.Native.Nat.{ℕ, _+_, _-_, _*_, _/_, _^_, _≤_, _<_}
 use native.Mathlib.Omega.{arith}
 use borrow.Author.Tests.{ltb-false}
 use lib.ListN.{length}
@@ -24,8 +24,10 @@ use Rattle.drawing.specs.Checks.{separationConditions}
 use Rattle.drawing.specs.Refusals.{firstOf}
 use Rattle.drawing.proofs.FirstRefusal.{passed-head, few, separation-agree}
 use Rattle.drawing.specs.Held.{SegmentHeld}
-use Rattle.rows.specs.Rows.{Row, rowOf, oriented}
+use Rattle.drawing.specs.Lengths.{SegmentsAgree}
+use Rattle.rows.specs.Rows.{Row, rowOf, oriented, segmentsToSweep}
 use Rattle.rows.proofs.Oriented.{mem-oriented}
+use Rattle.rows.proofs.ToSweep.{rows-to-sweep}
 use Rattle.separation.specs.declared.report.SeparationAnswer.{SeparationAnswer}
 use Rattle.separation.specs.declared.report.SeparationAnswer.the-variants.{Report, Refused}
 use Rattle.separation.specs.declared.sweep.Sweeping.{Sweeping}
@@ -36,6 +38,7 @@ use Rattle.separation.specs.Walk.{lesserFigures, along, walkAll}
 use Rattle.separation.specs.Answer.{accepted, separationAnswer}
 use Rattle.separation.specs.Sweeping.{metBy, sweptOf, AtColumns, Remains, Answers}
 use Rattle.separation.proofs.Fit.{Fit, row-rises}
+use Rattle.separation.proofs.Costs.{walk-least}
 use Rattle.separation.proofs.Allowances.{walk-within}
 use Rattle.separation.proofs.Answers.{passed-fit, walk-settles}
 use Rattle.separation.proofs.SweepSteps.{went-is, spent-is}
@@ -64,6 +67,11 @@ module _ (c : SegmentColumns) (words : ℕ) (passed : firstOf (separationConditi
 
     pub at-columns : (o : ℕ) → AtColumns words o c
     at-columns o = record { agree = separation-agree c words passed; few = sizes .0; room = sizes .1; proper = proper o }
+
+-- ---- too few visits, whatever the walk finds
+pub too-few : (c : SegmentColumns) → SegmentsAgree c → (m n : ℕ) → n ≡ segmentsToSweep (c .orientation) → m / 5 < n → Spent ≡ sweptOf (within m (walkAll (segments c)))
+unfolding sweptOf
+too-few c agree m n e h = sym (ap sweptOf (within-short m (walkAll (segments c)) (omega (arith, rows-to-sweep c agree, walk-least (segments c)))))
 
 -- ---- both orientations
 module _ (l : List Segment) (m : ℕ) (first : Swept) (one : first ≡ sweptOf (within m (along (oriented 1 l)))) where

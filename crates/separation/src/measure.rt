@@ -20,6 +20,7 @@ use drawing::Refusal;
 use drawing::check_separation;
 use drawing::clear;
 use drawing::minimum_option;
+use rows::segments_to_sweep;
 
 // The lesser of each figure, with what the second sweep left.
 fn together(across: Sweeping, down: Sweeping) -> Sweeping
@@ -40,6 +41,7 @@ fn together(across: Sweeping, down: Sweeping) -> Sweeping
 }
 
 // The walk over a fit drawing: horizontal segments first, then vertical ones with what is left of the allowance.
+// Each segment that is swept costs 5 visits at least: its start `has_other_at`, two searches and a `set`, its end a `set`. Where the allowance does not reach that, it is spent before any table is made.
 fn walk_segments(
     net: &[u32],
     orientation: &[u8],
@@ -52,6 +54,9 @@ fn walk_segments(
     requires { ⌜ firstOf (separationConditions (segmentColumns (now net) (now orientation) (now fixed) (now start) (now end)) (length (now scratch))) ≡ Passed ⌝ }
     ensures { λ r. ⌜ r ≡ sweptOf (within allowance (walkAll (segments (segmentColumns (now (net .entry)) (now (orientation .entry)) (now (fixed .entry)) (now (start .entry)) (now (end .entry)))))) ⌝ }
 {
+    if allowance / 5 < segments_to_sweep(orientation) {
+        return Swept::Spent;
+    }
     let first = sweep_along(scratch, 1, net, orientation, fixed, start, end, allowance);
     let Swept::Went(across) = first else {
         return Swept::Spent;

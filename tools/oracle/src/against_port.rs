@@ -2,7 +2,7 @@
 //! every call of that measure.
 
 use crate::{
-    drawing::{drawing_d, Drawing, Segment},
+    drawing::{drawing_d, Drawing, Segment, HORIZONTAL, VERTICAL},
     port::{run, run_by_records, run_ratio, scratch_words, Call, Columns, Told, CALLS},
     random::Random,
     reference::{self, Fed, Run},
@@ -84,7 +84,7 @@ fn differences_by(
         ("lists in another order", reordered, more),
     ] {
         let columns = Columns::of(lists);
-        for allowance in allowances(call, measure.allowance(drawing), answer) {
+        for allowance in allowances(call, drawing, answer) {
             let expected = answer.clone().and_then(|report| settle(report, allowance));
             let about = format!("{about}, allowance {allowance}");
             tried.compare(&about, &columns, words, allowance, &expected);
@@ -94,18 +94,27 @@ fn differences_by(
     tried.found
 }
 
-/// Allowances around the visit count; the drawing's own where there is none. A
-/// call that is given no allowance counts as having one that always reaches.
-fn allowances(call: Call, own: u64, answer: &Answer) -> Vec<u64> {
+/// Allowances around the visit count, and around the least that the segments in
+/// orientations holding at least two can cost, 1 each in congestion and 5 in
+/// separation, where the port tells 7 before it walks; the drawing's own where
+/// there is no count. A call that is given no allowance counts as having one that
+/// always reaches.
+fn allowances(call: Call, drawing: &Drawing, answer: &Answer) -> Vec<u64> {
+    let own = call.measure().allowance(drawing);
     match answer {
         _ if call == Call::Congestion => vec![u64::MAX],
         Ok(report) => {
             let visits = report.visits;
+            let swept = swept_segments(drawing);
             vec![
                 visits,
                 visits.saturating_sub(1),
                 visits.saturating_add(1),
                 visits / 2,
+                swept,
+                swept.saturating_sub(1),
+                5 * swept,
+                (5 * swept).saturating_sub(1),
                 0,
                 own,
                 u64::MAX,
@@ -113,6 +122,19 @@ fn allowances(call: Call, own: u64, answer: &Answer) -> Vec<u64> {
         }
         Err(_) => vec![own],
     }
+}
+
+fn swept_segments(drawing: &Drawing) -> u64 {
+    [HORIZONTAL, VERTICAL]
+        .iter()
+        .map(|&orientation| {
+            let segments = drawing.segments.iter();
+            segments
+                .filter(|segment| segment.orientation == orientation)
+                .count() as u64
+        })
+        .filter(|&count| count >= 2)
+        .sum()
 }
 
 /// The refusals that come of what is lent and not of the drawing: a column
