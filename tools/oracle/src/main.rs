@@ -17,10 +17,14 @@ mod drawings;
 mod examine;
 mod file;
 mod generate;
+#[cfg(port)]
+mod kinds;
 mod listing;
 mod maker;
 mod marked;
 mod pairs;
+#[cfg(port)]
+mod plain_tight_pair;
 #[cfg(port)]
 mod port;
 #[cfg(port)]
@@ -80,7 +84,8 @@ usage: oracle COMMAND
   drawings DIR       the files of D and of the marked cases, written to DIR
   sample SEED COUNT  a sample of COUNT files with the Rust's sheets
   bench RUNS [ALLOWANCE]
-                     the times of the Rust and of the port, best of RUNS";
+                     the times of the Rust and of the port, best of RUNS; with an
+                     ALLOWANCE, of calls that have so many visits";
 
 fn main() -> ExitCode {
     let words: Vec<String> = env::args().skip(1).collect();
@@ -118,8 +123,8 @@ fn run(words: &[&str]) -> Result<ExitCode, String> {
             let sample = sample::sample(number(seed)?, count).map_err(|fault| fault.to_string())?;
             output(&sample)
         }
-        ["bench", runs] => bench_runs(number(runs)?, u64::MAX),
-        ["bench", runs, allowance] => bench_runs(number(runs)?, number(allowance)?),
+        ["bench", runs] => bench_runs(number(runs)?, None),
+        ["bench", runs, allowance] => bench_runs(number(runs)?, Some(number(allowance)?)),
         _ => Err(USAGE.to_string()),
     }
 }
@@ -151,13 +156,13 @@ fn shrink_input() -> Result<ExitCode, String> {
 }
 
 #[cfg(port)]
-fn bench_runs(runs: u64, allowance: u64) -> Result<ExitCode, String> {
+fn bench_runs(runs: u64, allowance: Option<u64>) -> Result<ExitCode, String> {
     bench::bench(runs, allowance)?;
     Ok(ExitCode::SUCCESS)
 }
 
 #[cfg(not(port))]
-fn bench_runs(_runs: u64, _allowance: u64) -> Result<ExitCode, String> {
+fn bench_runs(_runs: u64, _allowance: Option<u64>) -> Result<ExitCode, String> {
     Err("the port is not linked: run `tools/build-port` and build again".to_string())
 }
 

@@ -17,8 +17,9 @@ use crate::{
     readability::{
         measure_edge_node_clearance_bounded, measure_parallel_congestion,
         measure_parallel_congestion_profile_bounded, measure_parallel_density_profile_bounded,
-        measure_parallel_separation_bounded, EdgeNodeClearanceError, EdgeNodeSegment,
-        NetNodeRelation, ParallelCongestion, ParallelSegment, ParallelSeparationError,
+        measure_parallel_separation_bounded, EdgeNodeClearance, EdgeNodeClearanceError,
+        EdgeNodeSegment, NetNodeRelation, ParallelCongestion, ParallelSegment, ParallelSeparation,
+        ParallelSeparationError,
     },
     refusals::{before_work, Lent, Refusal},
     report::{Answer, Figure, Measure, Report},
@@ -32,6 +33,33 @@ pub enum Run {
     Unfit,
     Spent,
     Panicked(String),
+}
+
+/// What a measure of the sheet gives, as the reference returns it.
+pub enum Measured {
+    Clearance(Result<EdgeNodeClearance, EdgeNodeClearanceError>),
+    Separation(Result<ParallelSeparation, ParallelSeparationError>),
+    Congestion(Option<(ParallelCongestion, Option<f64>)>),
+}
+
+impl From<Measured> for Run {
+    fn from(measured: Measured) -> Self {
+        match measured {
+            Measured::Clearance(Ok(clearance)) => Self::Done(vec![
+                Figure::Gap(clearance.minimum_clearance),
+                Figure::Count(clearance.violations as u64),
+            ]),
+            Measured::Separation(Ok(separation)) => Self::Done(vec![
+                Figure::Gap(separation.minimum),
+                Figure::Gap(separation.minimum_positive),
+            ]),
+            Measured::Congestion(congestion) => congestion_run(congestion),
+            Measured::Clearance(Err(EdgeNodeClearanceError::InvalidInput))
+            | Measured::Separation(Err(ParallelSeparationError::InvalidInput)) => Self::Unfit,
+            Measured::Clearance(Err(EdgeNodeClearanceError::WorkLimitExceeded))
+            | Measured::Separation(Err(ParallelSeparationError::WorkLimitExceeded)) => Self::Spent,
+        }
+    }
 }
 
 /// The reference did what document 01 leaves no room for.
@@ -99,18 +127,32 @@ impl Fed {
         }
     }
 
-    /// Runs a measure of the sheet under a limit of visits.
-    pub fn run(&self, measure: Measure, limit: u64) -> Run {
-        let limit = usize::try_from(limit).unwrap_or(usize::MAX);
-        catching_panics(|| match measure {
-            Measure::Clearance => self.clearance(limit),
-            Measure::Separation => self.separation(limit),
-            Measure::Congestion => congestion_run(measure_parallel_density_profile_bounded(
+    /// Calls a measure of the sheet and does nothing else, so that it can be
+    /// timed.
+    pub fn measured(&self, measure: Measure, limit: usize) -> Measured {
+        match measure {
+            Measure::Clearance => Measured::Clearance(measure_edge_node_clearance_bounded(
+                &self.routes,
+                &self.nodes,
+                &self.relations,
+                self.threshold,
+                limit,
+            )),
+            Measure::Separation => {
+                Measured::Separation(measure_parallel_separation_bounded(&self.wires, limit))
+            }
+            Measure::Congestion => Measured::Congestion(measure_parallel_density_profile_bounded(
                 &self.wires_with_plus_zeros,
                 self.cutoff,
                 limit,
             )),
-        })
+        }
+    }
+
+    /// Runs a measure of the sheet under a limit of visits.
+    pub fn run(&self, measure: Measure, limit: u64) -> Run {
+        let limit = usize::try_from(limit).unwrap_or(usize::MAX);
+        catching_panics(|| self.measured(measure, limit).into())
     }
 
     /// Runs the congestion call that leaves pair overlap and peak out.
@@ -134,35 +176,6 @@ impl Fed {
             figures.push(Figure::Length(congestion.ratio()));
             Run::Done(figures)
         })
-    }
-
-    fn clearance(&self, limit: usize) -> Run {
-        let measured = measure_edge_node_clearance_bounded(
-            &self.routes,
-            &self.nodes,
-            &self.relations,
-            self.threshold,
-            limit,
-        );
-        match measured {
-            Ok(clearance) => Run::Done(vec![
-                Figure::Gap(clearance.minimum_clearance),
-                Figure::Count(clearance.violations as u64),
-            ]),
-            Err(EdgeNodeClearanceError::InvalidInput) => Run::Unfit,
-            Err(EdgeNodeClearanceError::WorkLimitExceeded) => Run::Spent,
-        }
-    }
-
-    fn separation(&self, limit: usize) -> Run {
-        match measure_parallel_separation_bounded(&self.wires, limit) {
-            Ok(separation) => Run::Done(vec![
-                Figure::Gap(separation.minimum),
-                Figure::Gap(separation.minimum_positive),
-            ]),
-            Err(ParallelSeparationError::InvalidInput) => Run::Unfit,
-            Err(ParallelSeparationError::WorkLimitExceeded) => Run::Spent,
-        }
     }
 }
 

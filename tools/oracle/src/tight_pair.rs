@@ -33,19 +33,22 @@ fn least_clearance(drawing: &Drawing) -> Option<f64> {
     }
 }
 
-/// The answer is absent where there is no least distance, and otherwise a pair
-/// that is not exempt and at that distance.
 fn compare(about: &str, drawing: &Drawing, least: Option<f64>, found: &mut Vec<String>) {
     let told = run_tight_pair(&Columns::of(drawing));
-    let is_well = match (told.status, &told.words[..], least) {
-        (0, [0, 0, 0], None) => true,
-        (0, [1, segment, node], Some(least)) => is_tight(drawing, *segment, *node, least),
-        _ => false,
-    };
-    if !is_well {
+    if !is_answer(&told, drawing, least) {
         found.push(format!(
             "the port's tight pair, {about}: {told:?}, where the least distance is {least:?}"
         ));
+    }
+}
+
+/// Whether what the port tells is absent where there is no least distance, and
+/// otherwise a pair that is not exempt and at that distance.
+pub fn is_answer(told: &Told, drawing: &Drawing, least: Option<f64>) -> bool {
+    match (told.status, &told.words[..], least) {
+        (0, [0, 0, 0], None) => true,
+        (0, [1, segment, node], Some(least)) => is_tight(drawing, *segment, *node, least),
+        _ => false,
     }
 }
 
