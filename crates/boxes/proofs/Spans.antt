@@ -18,7 +18,8 @@ use Rattle.drawing.specs.Entries.{Node}
 use Rattle.drawing.proofs.Fit.{FitNode, across-of, down-of}
 use Rattle.boxes.specs.declared.aabb.Aabb.{Aabb}
 use Rattle.boxes.specs.Boxes.{fromNode, nodeBox, union}
-use Rattle.boxes.proofs.BoxLaws.{Span, FitBox, fit-node, fit-union}
+use Rattle.boxes.specs.Fitting.{Span, FitBox}
+use Rattle.boxes.proofs.BoxLaws.{span-at, fit-node, fit-union}
 
 -- no -0: where the value is not below zero the sign is plus
 abbrev pub Firm : Format → Float → Type 0
@@ -87,7 +88,7 @@ whole-union b c p q = record { fit = fit-union b c (p .fit) (q .fit); right = pi
     picked false x y p q = p
 
 span-good : (a b : Float) → Span a b → Firm binary64 b → Good (sub binary64 b a)
-span-good a b p h = record { num = sub-num binary64 b a (p .high) (p .low); plus = sub-firm binary64 b a (p .high) (p .low) h (p .rising) }
+span-good a b p h = record { num = sub-num binary64 b a (p .high) (p .low); plus = sub-firm binary64 b a (p .high) (p .low) h (span-at a b p) }
 
 pub width-good : (b : Aabb) → Whole b → Good (sub binary64 (b .right) (b .left))
 width-good b p = span-good (b .left) (b .right) (p .fit .across) (p .right)

@@ -28,7 +28,8 @@ use Rattle.drawing.proofs.ListOrders.{nodes-in-order-perm}
 use Rattle.boxes.specs.declared.aabb.Aabb.{Aabb}
 use Rattle.clearance.specs.Tree.{IndexedNode, indexed, indexedRow, indexedInOrder, horizontalWider, hull, build, treeOf}
 use Rattle.drawing.proofs.Fit.{FitNode}
-use Rattle.boxes.proofs.BoxLaws.{at, Span, Alike}
+use Rattle.boxes.specs.Fitting.{Span, Inside}
+use Rattle.boxes.proofs.BoxLaws.{at, low-at, high-at, Alike}
 use Rattle.boxes.proofs.Spans.{Whole, whole-node, whole-union, width-good, height-good}
 use Rattle.clearance.proofs.TreeLaws.{FitIndexed, around-alike, around-perm, hull-around}
 use Rattle.clearance.proofs.UnionTrees.{joined, rejoined}
@@ -37,18 +38,18 @@ abbrev pub WholeIndexed : IndexedNode → Type 0
 WholeIndexed n = Whole (n .bounds)
 
 -- ---- boxes that lie in each other have the same wider axis
-span-alike : (a b c d : Float) → Span a b → Span c d → Good (sub binary64 b a) → Good (sub binary64 d c) → at a ≡ at c → at b ≡ at d → sub binary64 b a ≡ sub binary64 d c
-span-alike a b c d p q g h u v =
+span-alike : (a b c d : Float) → Span a b → Span c d → Good (sub binary64 b a) → Good (sub binary64 d c) → Inside a b c d → Inside c d a b → sub binary64 b a ≡ sub binary64 d c
+span-alike a b c d p q g h x y =
+    let u : at a ≡ at c = le-antisymm (low-at c d a b q p y) (low-at a b c d p q x) in
+    let v : at b ≡ at d = le-antisymm (high-at a b c d p q x) (high-at c d a b q p y) in
     good-one (sub binary64 b a) (sub binary64 d c) g h
     (sub-mag binary64 b a (p .high) (p .low) ∙ (λ i. rnd binary64 (apart (v i) (u i))) ∙ sym (sub-mag binary64 d c (q .high) (q .low)))
 
 wider-alike : (b c : Aabb) → Whole b → Whole c → Alike b c → horizontalWider b ≡ horizontalWider c
 unfolding horizontalWider
 wider-alike b c p q h =
-    let x = h .into in
-    let y = h .back in
-    let w = span-alike (b .left) (b .right) (c .left) (c .right) (p .fit .across) (q .fit .across) (width-good b p) (width-good c q) (le-antisymm (y .across .low) (x .across .low)) (le-antisymm (x .across .high) (y .across .high)) in
-    let v = span-alike (b .top) (b .bottom) (c .top) (c .bottom) (p .fit .down) (q .fit .down) (height-good b p) (height-good c q) (le-antisymm (y .down .low) (x .down .low)) (le-antisymm (x .down .high) (y .down .high)) in
+    let w = span-alike (b .left) (b .right) (c .left) (c .right) (p .fit .across) (q .fit .across) (width-good b p) (width-good c q) (h .into .across) (h .back .across) in
+    let v = span-alike (b .top) (b .bottom) (c .top) (c .bottom) (p .fit .down) (q .fit .down) (height-good b p) (height-good c q) (h .into .down) (h .back .down) in
     λ i. leb (keyOf (v i)) (keyOf (w i))
 
 -- ---- the hull of a list, in any order

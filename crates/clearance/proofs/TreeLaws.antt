@@ -2,7 +2,7 @@
 use mathlib.Core.Path.{sym, subst, _∙_}
 use mathlib.Core.List.{List, [], _∷_, _++_, append-assoc, append-nil, map}
 use Prim.Native.Nat.{ℕ, zero, suc, _/_, _≤_}
-use native.Mathlib.Nat.{le-refl, le-of-eq, not-suc-le-zero}
+use native.Mathlib.Nat.{le-of-eq, not-suc-le-zero}
 use native.Mathlib.Omega.{arith}
 use lib.Ieee.{binary64}
 use lib.ListN.{length, take, drop, length-take, length-drop, take-append-drop, length-map}
@@ -21,7 +21,8 @@ use Rattle.boxes.specs.declared.aabb.Aabb.{Aabb}
 use Rattle.boxes.specs.Boxes.{union}
 use Rattle.clearance.specs.Tree.{IndexedNode, indexed, indexedRow, indexedInOrder, horizontalWider, hull, Tree, bare, leaf, branch, boundsOf, build, treeOf}
 use Rattle.drawing.proofs.Fit.{FitNode}
-use Rattle.boxes.proofs.BoxLaws.{at, Span, FitBox, Within, within-self, within-trans, fit-node, fit-union, union-first, union-second, union-least, Alike}
+use Rattle.boxes.specs.Fitting.{Span, FitBox, Within}
+use Rattle.boxes.proofs.BoxLaws.{le-self, within-self, within-trans, fit-node, fit-union, union-first, union-second, union-least, Alike}
 
 abbrev pub FitIndexed : IndexedNode → Type 0
 FitIndexed n = FitBox (n .bounds)
@@ -50,18 +51,19 @@ pub around-perm : (b : Aabb) {l r : List IndexedNode} → Perm l r → Around b 
 around-perm b p a = record { fit = a .fit; holds = perm-all (In b) p (a .holds); least = λ u h. a .least u (perm-all (In u) (perm-sym p) h) }
 
 pub around-node : (n : IndexedNode) → FitIndexed n → Around (n .bounds) (n ∷ [])
-around-node n h = record { fit = h; holds = (record { fit = h; within = within-self (n .bounds) }, tt); least = λ u i. i .0 .within }
+around-node n h = record { fit = h; holds = (record { fit = h; within = within-self (n .bounds) h }, tt); least = λ u i. i .0 .within }
 
-in-wider : (b u : Aabb) (l : List IndexedNode) → Within b u → All (In b) l → All (In u) l
-in-wider b u l w h = all-map (λ n i. record { fit = i .fit; within = within-trans (n .bounds) b u (i .within) w }) l h
+in-wider : (b u : Aabb) (l : List IndexedNode) → FitBox b → FitBox u → Within b u → All (In b) l → All (In u) l
+in-wider b u l p q w h = all-map (λ n i. record { fit = i .fit; within = within-trans (n .bounds) b u (i .fit) p q (i .within) w }) l h
 
 pub around-union : (b c : Aabb) (l r : List IndexedNode) → Around b l → Around c r → Around (union b c) (l ++ r)
 around-union b c l r p q =
     let u = union b c in
+    let fit = fit-union b c (p .fit) (q .fit) in
     record {
-      fit = fit-union b c (p .fit) (q .fit);
-      holds = all-append (In u) l r (in-wider b u l (union-first b c (p .fit) (q .fit)) (p .holds)) (in-wider c u r (union-second b c (p .fit) (q .fit)) (q .holds));
-      least = λ v h. union-least b c (p .fit) (q .fit) v (p .least v (all-first (In v) l r h)) (q .least v (all-second (In v) l r h));
+      fit = fit;
+      holds = all-append (In u) l r (in-wider b u l (p .fit) fit (union-first b c (p .fit) (q .fit)) (p .holds)) (in-wider c u r (q .fit) fit (union-second b c (p .fit) (q .fit)) (q .holds));
+      least = λ v h. union-least b c v (p .least v (all-first (In v) l r h)) (q .least v (all-second (In v) l r h));
     }
 
 -- a box around r into which the boxes of l are folded, one after another, is around both
@@ -134,14 +136,14 @@ unfolding boundsOf
 sound-box bare h = record { across = nothing; down = nothing }
   where
     nothing : Span plusZero plusZero
-    nothing = let z : Fin binary64 plusZero = zero-num binary64 _ in record { low = z; high = z; rising = le-refl (at plusZero) }
+    nothing = let z : Fin binary64 plusZero = zero-num binary64 _ in record { low = z; high = z; rising = le-self plusZero z }
 sound-box (leaf n) h = h
 sound-box (branch b l r) h = h .0
 
 pub sound-in : (tree : Tree) → Sound tree → All (In (boundsOf tree)) (leaves tree)
 unfolding boundsOf leaves
 sound-in bare h = tt
-sound-in (leaf n) h = (record { fit = h; within = within-self (n .bounds) }, tt)
+sound-in (leaf n) h = (record { fit = h; within = within-self (n .bounds) h }, tt)
 sound-in (branch b l r) h = h .1
 
 pub sound-fit : (tree : Tree) → Sound tree → All FitIndexed (leaves tree)
