@@ -22,7 +22,7 @@ module _ {A : Type 0} where
   mem-at x (y ∷ l) d (inr m) = let g = mem-at x l d m in (suc (g .0), omega (arith, g .1), g .2)
 
 module _ {A : Type 0} (P : A → Type 0) (d : A) where
-  all-at : (l : List A) → All P l → (k : ℕ) → k < length l → P (getD l k d)
+  pub all-at : (l : List A) → All P l → (k : ℕ) → k < length l → P (getD l k d)
   all-at [] h k b = absurd (not-suc-le-zero b)
   all-at (x ∷ l) h zero b = h .0
   all-at (x ∷ l) h (suc k) b = all-at l (h .1) k (le-of-suc-le-suc b)

@@ -1,8 +1,9 @@
--- Charged runs within an allowance: one law for every walk. Assumes nothing.
+-- Charged runs, one after another and within an allowance: one law for every walk. Assumes nothing.
 use mathlib.Core.Path.{_≡_, refl, sym, ap, _∙_}
 use mathlib.Core.Logic.{_⊎_, inl, inr}
-use mathlib.Core.List.{List, [], _∷_}
-use Prim.Native.Nat.{ℕ, suc, _-_, _≤_, _<_}
+use mathlib.Core.List.{List, [], _∷_, _++_}
+use Prim.Native.Nat.{ℕ, suc, _+_, _-_, _≤_, _<_}
+use native.Mathlib.Nat.{add-assoc}
 use native.Mathlib.Omega.{arith}
 use borrow.Author.Tests.{le-leb, lt-leb}
 use lib.Dec.{leb}
@@ -10,6 +11,17 @@ use Rattle.laws.specs.Charged.{Charged, free, visit, after, runs, settle
 use Rattle.laws.specs.Allowance.{Outcome, spent, left, within, onward, reply}
 use Rattle.laws.proofs.Tests.{le-or-lt, cond-true, cond-false}
 
+-- ---- one run after another: with nothing before it or behind it, and three of them grouped either way
+pub nothing-after : {A B : Type 0} (a : A) (f : A → Charged B) → after (free a) f ≡ f a
+nothing-after a f = let e : 0 + f a .cost ≡ f a .cost = omega arith in λ i. record { value = f a .value; cost = e i }
+
+pub after-nothing : {A : Type 0} (c : Charged A) → after c (λ a. free a) ≡ c
+after-nothing c = let e : c .cost + 0 ≡ c .cost = omega arith in λ i. record { value = c .value; cost = e i }
+
+pub after-after : {A B C : Type 0} (c : Charged A) (f : A → Charged B) (g : B → Charged C) → after (after c f) g ≡ after c (λ a. after (f a) g)
+after-after c f g = let e = add-assoc (c .cost) (f (c .value) .cost) (g (f (c .value) .value) .cost) in λ i. record { value = g (f (c .value) .value) .value; cost = e i }
+
+-- ---- a run within an allowance
 module _ {A : Type 0} where
   pub within-enough : (m : ℕ) (c : Charged A) → c .cost ≤ m → within m c ≡ left (c .value) (m - c .cost)
   unfolding within
@@ -55,6 +67,14 @@ module _ {A B : Type 0} where
 
 -- ---- a run for each entry of a list
 module _ {S X : Type 0} (step : S → X → Charged S) where
+  pub runs-append : (l r : List X) (s : S) → runs step s (l ++ r) ≡ after (runs step s l) (λ s′. runs step s′ r)
+  unfolding runs
+  runs-append [] r s = sym (nothing-after s (λ s′. runs step s′ r))
+  runs-append (x ∷ l) r s =
+      let c = step s x in
+      (λ i. record { value = runs-append l r (c .value) i .value; cost = c .cost + runs-append l r (c .value) i .cost })
+      ∙ sym (after-after c (λ s′. runs step s′ l) (λ s′. runs step s′ r))
+
   pub within-none : (m : ℕ) (s : S) → within m (runs step s []) ≡ left s m
   unfolding runs
   within-none m s = within-free m s
