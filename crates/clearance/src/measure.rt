@@ -49,8 +49,8 @@ fn walk_segments(
     let m = id.len();
     if m == 0 {
         return Walked::Went(Walking {
-            least: no_distance(),
             violations: 0,
+            least: no_distance(),
             left: allowance,
         });
     }
@@ -98,8 +98,8 @@ fn walk_drawing(
 {
     if net.len() == 0 {
         return Walked::Went(Walking {
-            least: no_distance(),
             violations: 0,
+            least: no_distance(),
             left: allowance,
         });
     }
