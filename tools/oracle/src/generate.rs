@@ -17,6 +17,7 @@
 //! | one line | every segment on one line, in many nets |
 //! | one net | every segment in one net |
 //! | exempt | most pairs of net and node exempt |
+//! | in reach | 8 to 40 nodes, of which whole parts of the tree are within the threshold, or just not |
 //! | cutoffs | cutoffs that are 0, -0, negative, huge, or off the grid |
 //! | unfit | one value that refusal 5 names (or a threshold of -0, which passes) |
 //! | off grid | one coordinate or cutoff that refusal 6 names |
@@ -59,6 +60,7 @@ pub enum Kind {
     OneLine,
     OneNet,
     Exempt,
+    InReach,
     Cutoffs,
     Unfit,
     OffGrid,
@@ -72,7 +74,7 @@ pub enum Kind {
 }
 
 /// Each kind with its name and its share of the drawings.
-pub const KINDS: [(Kind, &str, usize); 25] = [
+pub const KINDS: [(Kind, &str, usize); 26] = [
     (Kind::Ties, "ties", 600),
     (Kind::Zeros, "zeros", 200),
     (Kind::Grid, "grid", 400),
@@ -88,6 +90,7 @@ pub const KINDS: [(Kind, &str, usize); 25] = [
     (Kind::OneLine, "one line", 150),
     (Kind::OneNet, "one net", 100),
     (Kind::Exempt, "exempt", 150),
+    (Kind::InReach, "in reach", 250),
     (Kind::Cutoffs, "cutoffs", 200),
     (Kind::Unfit, "unfit", 450),
     (Kind::OffGrid, "off grid", 100),
@@ -101,7 +104,7 @@ pub const KINDS: [(Kind, &str, usize); 25] = [
 ];
 
 /// How many kinds, from the front of the table, a small file can hold.
-pub const SMALL_KINDS: usize = 18;
+pub const SMALL_KINDS: usize = 19;
 
 /// What a measure's allowance is to be, once its visit count is known.
 #[derive(Clone, Copy, Debug)]
@@ -192,6 +195,7 @@ pub fn drawing(kind: Kind, most: &Limits, random: &mut Random) -> Drawing {
         Kind::OneLine => shapes::one_line(most, random),
         Kind::OneNet => shapes::one_net(most, random),
         Kind::Exempt => shapes::exempt(most, random),
+        Kind::InReach => shapes::in_reach(most, random),
         Kind::Cutoffs => shapes::cutoffs(most, random),
         Kind::Unfit => shapes::unfit(most, random),
         Kind::OffGrid => shapes::off_grid(most, random),

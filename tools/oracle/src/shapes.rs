@@ -135,6 +135,52 @@ pub fn exempt(most: &Limits, random: &mut Random) -> Drawing {
     drawing
 }
 
+/// The threshold is about as large as the farthest edge of any box lies from some
+/// segment, so that the walk cannot prune in large parts of the tree, or just can.
+pub fn in_reach(most: &Limits, random: &mut Random) -> Drawing {
+    let palette = random.pick(&[
+        TINY, ZEROS, GRID, GRID_EDGE, DECIMALS, NEIGHBOURS, HUGE, SUBNORMAL,
+    ]);
+    let mut lengths = up_to(most, random);
+    lengths.segments = lengths.segments.max(1);
+    lengths.nodes = 8 + random.below(33);
+    let mut drawing = Maker::new(palette, most, random).drawing(lengths);
+    let segment = random.pick(&drawing.segments);
+    let farthest = drawing
+        .nodes
+        .iter()
+        .map(|node| farthest_edge(&segment, node))
+        .fold(0.0, f64::max)
+        .min(f64::MAX / 2.0);
+    drawing.threshold = random.pick(&[
+        farthest.next_up(),
+        farthest,
+        farthest / 2.0,
+        farthest * 1.5,
+        f64::MAX,
+    ]);
+    drawing
+}
+
+/// How far the node's edges lie beyond the segment's box at the most.
+fn farthest_edge(segment: &Segment, node: &Node) -> f64 {
+    let along = [segment.start, segment.end];
+    let across = [segment.fixed, segment.fixed];
+    let ([left, right], [top, bottom]) = if segment.orientation == HORIZONTAL {
+        (along, across)
+    } else {
+        (across, along)
+    };
+    [
+        node.right() - right,
+        left - node.x,
+        node.bottom() - bottom,
+        top - node.y,
+    ]
+    .into_iter()
+    .fold(0.0, f64::max)
+}
+
 pub fn cutoffs(most: &Limits, random: &mut Random) -> Drawing {
     let mut drawing = fit(random.pick(&[TINY, GRID, GRID_EDGE]), most, random);
     drawing.cutoff = random.pick(&[
