@@ -16,6 +16,8 @@ const PROGRAM: &str = "target/bin/sheet";
 
 fn main() -> ExitCode {
     println!("cargo:rerun-if-env-changed=READABILITY_RS");
+    hand_on("OPT_LEVEL", "BUILT_AT_LEVEL");
+    hand_on("CARGO_ENCODED_RUSTFLAGS", "BUILT_WITH_FLAGS");
     let package = env::var("CARGO_MANIFEST_DIR").expect("cargo names the package's folder");
     let root = Path::new(&package).join("../..");
     link_port(&root.join(PORT));
@@ -35,6 +37,12 @@ fn main() -> ExitCode {
             ExitCode::FAILURE
         }
     }
+}
+
+/// What cargo says of this build, for the program that is built.
+fn hand_on(said: &str, name: &str) {
+    let value = env::var(said).unwrap_or_default();
+    println!("cargo:rustc-env={name}={}", value.replace('\u{1f}', " "));
 }
 
 /// Without the library the program still compares the reference with all

@@ -52,7 +52,7 @@ module _ (o : ℕ) (l : List ℕ) (i n : ℕ) (k : Counted o l i n) where
 
 -- ---- both orientations
 -- a byte is not both 1 and 0
-pub both-few : (l : List ℕ) → ofOrientation 1 l + ofOrientation 0 l ≤ length l
+both-few : (l : List ℕ) → ofOrientation 1 l + ofOrientation 0 l ≤ length l
 unfolding fold
 both-few [] = le-refl 0
 both-few (o ∷ l) = go (eqb o 1) (eqb o 0) refl refl (ofOrientation 1 l) (ofOrientation 0 l) (length l) (both-few l)

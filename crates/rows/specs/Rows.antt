@@ -1,4 +1,4 @@
--- The segments of one orientation as rows in order, and their events in order: separation's walk is defined over them, and the code of both sweeps goes over them. Congestion's walk is defined over wires in 64ths.
+-- The segments of one orientation as rows in order, and their events in order: separation's walk is defined over them, and the code of both sweeps goes over them. Congestion's walk is defined over wires in 64ths. How many segments are swept stands here too.
 use mathlib.Core.Bool.{Bool, cond}
 use mathlib.Core.List.{List, [], _∷_}
 use Prim.Native.Nat.{ℕ, suc, _+_}
@@ -44,10 +44,11 @@ unfoldable pub oriented : ℕ → List Segment → List Row
 oriented o l = sortBy rowsInOrder (chosen (λ s. eqb (s .orientation) o) rowOf (segmentsInOrder l))
 
 -- ---- how many are swept
--- of so many orientation bytes, those that are o
+-- how many of these orientation bytes are o
 abbrev pub ofOrientation : ℕ → List ℕ → ℕ
 ofOrientation o l = count (λ b. eqb b o) l
 
+-- n, or 0 where it is less than two
 abbrev pub atLeastTwo : ℕ → ℕ
 atLeastTwo n = cond (ltb n 2) 0 n
 

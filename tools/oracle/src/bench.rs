@@ -62,10 +62,13 @@ pub fn bench(runs: u64, allowance: Option<u64>) -> Result<(), String> {
     Ok(())
 }
 
-/// Other profiles leave the checks on, and RUSTFLAGS may ask for a newer
-/// processor than the port's library does.
+/// Other profiles leave the checks on, and RUSTFLAGS may ask for another level,
+/// other units or a newer processor than the port's library is made for.
 fn is_built_as_said() -> bool {
-    !cfg!(debug_assertions) && !cfg!(target_feature = "sse3")
+    !cfg!(debug_assertions)
+        && !cfg!(target_feature = "sse3")
+        && env!("BUILT_AT_LEVEL") == "3"
+        && env!("BUILT_WITH_FLAGS").is_empty()
 }
 
 /// What a call did, in the place of its visits.
