@@ -1,15 +1,15 @@
 -- The members of a set of places: none beyond the words; one more, one less. Assumes nothing.
-use mathlib.Core.Path.{_≡_, refl, _∙_}
-use mathlib.Core.Logic.{inl, inr}
-use mathlib.Core.Bool.{Bool, false, not, _&&_, _||_}
+use mathlib.Core.Path.{_≡_, refl, sym, _∙_}
+use mathlib.Core.Logic.{_⊎_, inl, inr}
+use mathlib.Core.Bool.{Bool, true, false, not, _&&_, _||_}
 use mathlib.Core.List.{List}
 use Prim.Native.Nat.{ℕ, _+_, _-_, _/_, _%_, _^_, _≤_, _<_}
 use native.Mathlib.Omega.{arith}
-use borrow.Author.Tests.{eq-eqb, ne-eqb}
+use borrow.Author.Tests.{eqb-true, eq-eqb, ne-eqb}
 use lib.Dec.{eqb}
-use lib.ListN.{length, getD, set, length-set, List·getD-eq-default}
+use lib.ListN.{length, getD, set, replicate, length-set, length-replicate, getD-replicate, List·getD-eq-default}
 use lib.Seq.{getD-set-same, getD-set-other, set-out}
-use Rattle.laws.proofs.Tests.{decide, same-or-not}
+use Rattle.laws.proofs.Tests.{decide, or-elim, or-left, or-right, le-or-lt, same-or-not}
 use Rattle.bitset.specs.Members.{bitAt, member, inserted, removed}
 use Rattle.bitset.proofs.Digits.{bit-zero, bit-set, bit-set-other, bit-clear, bit-clear-other}
 
@@ -24,6 +24,13 @@ none-at w p e = rw e (bit-zero (p % 64))
 
 pub member-beyond : (w : List ℕ) (p : ℕ) → length w ≤ p / 64 → member w p ≡ false
 member-beyond w p h = none-at w p (List·getD-eq-default w 0 {n = p / 64} h)
+
+-- where all words are 0
+pub member-none : (n p : ℕ) → member (replicate n 0) p ≡ false
+member-none n p = elim (le-or-lt n (p / 64)) [
+  | inl h ↦ member-beyond (replicate n 0) p (let e = length-replicate {A = ℕ} n 0 in omega arith)
+  | inr h ↦ none-at (replicate n 0) p (getD-replicate n (p / 64) 0 0 h)
+]
 
 -- ---- another word v takes the place of the word of `place`
 module _ (w : List ℕ) (place v : ℕ) (inside : place / 64 < length w) where
@@ -60,6 +67,22 @@ member-inserted w place h p = elim (same-or-not p place) [
 
     k : ℕ
     k = place % 64
+
+module _ (w : List ℕ) (place p : ℕ) where
+  pub member-kept : member w p ≡ true → member (inserted w place) p ≡ true
+  member-kept m = elim (le-or-lt (length w) (place / 64)) [
+    | inl h ↦ rw (inserted-beyond w place h) m
+    | inr h ↦ member-inserted w place h p ∙ or-right (eqb p place) (member w p) m
+  ]
+
+  pub member-new : place / 64 < length w → p ≡ place → member (inserted w place) p ≡ true
+  member-new h e = member-inserted w place h p ∙ or-left (eqb p place) (member w p) (eq-eqb p place e)
+
+  pub member-only : member (inserted w place) p ≡ true → (member w p ≡ true) ⊎ (p ≡ place)
+  member-only m = elim (le-or-lt (length w) (place / 64)) [
+    | inl h ↦ inl (rw (inserted-beyond w place h) at m)
+    | inr h ↦ elim (or-elim (eqb p place) (member w p) (sym (member-inserted w place h p) ∙ m)) [ inl e ↦ inr (eqb-true p place e) | inr k ↦ inl k ]
+  ]
 
 -- ---- a place taken out
 pub length-removed : (w : List ℕ) (place : ℕ) → length (removed w place) ≡ length w

@@ -2,12 +2,23 @@
 // Places beyond the words are never members: putting one in or taking one out leaves the words as they are.
 ghost use mathlib.Core.Path.{_≡_};
 ghost use Prim.Native.Nat.{_+_, _/_, _^_, _≤_, _<_, min};
-ghost use Rattle.bitset.specs.Members.{inserted, removed, restBelow, lastWith};
+ghost use Rattle.bitset.specs.Members.{member, inserted, removed, restBelow, lastWith};
 
 // The greatest member of a range, with the rest below it (see `rest_below`), or that the range has none.
 pub enum Last {
     Found(usize, u64),
     Empty,
+}
+
+// Whether a place is in.
+pub fn contains(words: &[u64], place: usize) -> bool
+    ensures { λ r. ⌜ r ≡ member (now (words .entry)) place ⌝ }
+{
+    let at = place / 64;
+    if words.len() <= at {
+        return false;
+    }
+    (words[at] >> (place % 64)) % 2 == 1
 }
 
 // Puts a place in.
