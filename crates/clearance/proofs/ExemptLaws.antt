@@ -29,7 +29,7 @@ use Rattle.drawing.specs.Lengths.{ExemptionsAgree}
 use Rattle.drawing.proofs.EntryLaws.{length-exemptions}
 use Rattle.clearance.specs.declared.exempt.Range.{Range}
 use Rattle.clearance.specs.Figures.{exempt}
-use Rattle.clearance.specs.Exempting.{word, unpacked, wordAt, nodeOf, Ascending, Rising, Gathered, Bound, Own, InReach, Listed}
+use Rattle.clearance.specs.Exempting.{word, unpacked, wordAt, nodeOf, Ascending, Rising, Holds, Gathered, Bound, Own, InReach, Listed}
 
 -- ---- the search by halving: the place that is looked for is one of the n from `at` on, or the one behind them
 pub record Halving (key : ℕ → ℕ) (a b v at n : ℕ) : Type 0 where
@@ -105,8 +105,12 @@ in-reach words k net r h o = record {
   order = λ i j p q t. omega (arith, o .own i p (omega arith), o .own j (omega arith) t, h .order i j (omega arith) q (omega (arith, o .inside)));
 }
 
+-- the range found among the first k words is that of the net's exemptions
+pub listed-of : (packed : List ℕ) (k net : ℕ) (range : Range) → Own packed k net range → (ex : List Exemption) → Holds packed ex → length ex ≡ k → Listed packed ex net range
+listed-of packed k net range o ex h e = record { holds = h; places = subst (λ (z : ℕ). Own packed z net range) (sym e) o }
+
 -- ---- what a look-up finds
-module _ (words : List ℕ) (ex : List Exemption) (net : ℕ) (r : Range) (l : Listed words ex net r) (id : ℕ) (small : id < 4294967296) where
+module _ (words : List ℕ) (ex : List Exemption) (net : ℕ) (r : Range) (l : Listed words ex net r) (id : ℕ) where
   -- a word stands for the exemption of the net and the node
   test : ℕ → Bool
   test u = eqb (unpacked u .net) net && eqb (unpacked u .node) id
@@ -115,51 +119,47 @@ module _ (words : List ℕ) (ex : List Exemption) (net : ℕ) (r : Range) (l : L
   unfolding exempt test
   by-words = sym (sym (some-map (λ e. eqb (e .net) net && eqb (e .node) id) unpacked (take (length ex) words)) ∙ perm-some (λ e. eqb (e .net) net && eqb (e .node) id) (l .holds .same))
 
-  passes : (u : ℕ) → u ≡ word net id → test u ≡ true
+  passes : (u : ℕ) → unpacked u .net ≡ net → unpacked u .node ≡ id → test u ≡ true
   unfolding test
-  passes u e = and-both (eqb (u / 4294967296) net) (eqb (u % 4294967296) id) (eq-eqb (u / 4294967296) net (omega arith)) (eq-eqb (u % 4294967296) id (omega arith))
+  passes u a b = and-both (eqb (u / 4294967296) net) (eqb (u % 4294967296) id) (eq-eqb (u / 4294967296) net a) (eq-eqb (u % 4294967296) id b)
 
-  passes-only : (u : ℕ) → test u ≡ true → u ≡ word net id
+  passes-only : (u : ℕ) → test u ≡ true → (unpacked u .net ≡ net) × (unpacked u .node ≡ id)
   unfolding test
-  passes-only u t =
-      let a = eqb-true (u / 4294967296) net (and-left (eqb (u / 4294967296) net) (eqb (u % 4294967296) id) t) in
-      let b = eqb-true (u % 4294967296) id (and-right (eqb (u / 4294967296) net) (eqb (u % 4294967296) id) t) in
-      omega arith
+  passes-only u t = (eqb-true (u / 4294967296) net (and-left (eqb (u / 4294967296) net) (eqb (u % 4294967296) id) t), eqb-true (u % 4294967296) id (and-right (eqb (u / 4294967296) net) (eqb (u % 4294967296) id) t))
 
-  listed : (i : ℕ) → i < length ex → getD words i 0 ≡ word net id → true ≡ exempt ex net id
-  listed i h e = elim (decide (some-of test (take (length ex) words))) [
+  pub listed : (i : ℕ) → i < length ex → unpacked (getD words i 0) .net ≡ net → nodeOf words i ≡ id → true ≡ exempt ex net id
+  listed i h a b = elim (decide (some-of test (take (length ex) words))) [
     | inl t ↦ sym (by-words ∙ t)
-    | inr f ↦ clash (test (getD words i 0)) (passes (getD words i 0) e) (first-at (λ u. test u ≡ false) 0 (length ex) words (l .holds .rising .room) (none-all test (take (length ex) words) f) i h)
+    | inr f ↦ clash (test (getD words i 0)) (passes (getD words i 0) a b) (first-at (λ u. test u ≡ false) 0 (length ex) words (l .holds .rising .room) (none-all test (take (length ex) words) f) i h)
   ]
 
-  unlisted : ((i : ℕ) → i < length ex → getD words i 0 ≡ word net id → ⊥) → false ≡ exempt ex net id
+  pub unlisted : ((i : ℕ) → i < length ex → unpacked (getD words i 0) .net ≡ net → nodeOf words i ≡ id → ⊥) → false ≡ exempt ex net id
   unlisted n = elim (decide (some-of test (take (length ex) words))) [
-    | inl t ↦ let w = some-mem test (take (length ex) words) t in absurd (all-mem (λ u. u ≡ word net id → ⊥) (take (length ex) words) (at-first (λ u. u ≡ word net id → ⊥) 0 (length ex) words (l .holds .rising .room) n) (w .0) (w .1) (passes-only (w .0) (w .2)))
+    | inl t ↦
+        let w = some-mem test (take (length ex) words) t in
+        let z = passes-only (w .0) (w .2) in
+        absurd (all-mem (λ u. unpacked u .net ≡ net → unpacked u .node ≡ id → ⊥) (take (length ex) words) (at-first (λ u. unpacked u .net ≡ net → unpacked u .node ≡ id → ⊥) 0 (length ex) words (l .holds .rising .room) n) (w .0) (w .1) (z .0) (z .1))
     | inr f ↦ sym (by-words ∙ f)
   ]
 
-  -- the word stands nowhere but in the net's range
-  in-range : (i : ℕ) → i < length ex → getD words i 0 ≡ word net id → (r .from ≤ i) × (i < r .to)
-  in-range i h e = l .places .others i h (omega arith)
-
   pub none-there : r .from ≡ r .to → false ≡ exempt ex net id
-  none-there e = unlisted (λ i h g. let z = in-range i h g in omega arith)
+  none-there e = unlisted (λ i h a b. let z = l .places .others i h a in omega arith)
 
   module _ (at : ℕ) (b : Bound (nodeOf words) (r .from) (r .to) id at) where
     pub not-found : r .to ≤ at → false ≡ exempt ex net id
-    not-found h = unlisted (λ i k g. let z = in-range i k g in omega (arith, b .below i (z .0) (omega arith)))
+    not-found h = unlisted (λ i k a g. let z = l .places .others i k a in omega (arith, b .below i (z .0) (omega arith)))
 
     pub found : at < r .to → eqb (nodeOf words at) id ≡ exempt ex net id
     found h = elim (decide (eqb (nodeOf words at) id)) [
-      | inl t ↦ t ∙ listed at (omega (arith, l .places .inside)) (omega (arith, eqb-true (nodeOf words at) id t, l .places .own at (b .from) h))
-      | inr f ↦ f ∙ unlisted (λ i k g. eqb-false (nodeOf words at) id f (same i k g))
+      | inl t ↦ t ∙ listed at (omega (arith, l .places .inside)) (l .places .own at (b .from) h) (eqb-true (nodeOf words at) id t)
+      | inr f ↦ f ∙ unlisted (λ i k a g. eqb-false (nodeOf words at) id f (same i k a g))
     ]
       where
         reach : InReach words r
         reach = in-reach words (length ex) net r (l .holds .rising) (l .places)
 
-        same : (i : ℕ) → i < length ex → getD words i 0 ≡ word net id → nodeOf words at ≡ id
-        same i k g = let z = in-range i k g in elim (le-or-lt at i) [
+        same : (i : ℕ) → i < length ex → unpacked (getD words i 0) .net ≡ net → nodeOf words i ≡ id → nodeOf words at ≡ id
+        same i k a g = let z = l .places .others i k a in elim (le-or-lt at i) [
           | inl p ↦ omega (arith, b .above at (omega arith) h, reach .order at i (b .from) p (z .1))
           | inr p ↦ absurd (omega (arith, b .below i (z .0) p))
         ]
@@ -201,17 +201,17 @@ by-word s t i j h = compare-end s t 0 i j (t + i * 0) (t + j * 0) 0 (compare-sta
     row i = le-leb (i * 0 + 0) (length (drop t s)) (omega (arith, mul-zero i))
 
 module _ (s : List ℕ) (n : ℕ) (h : n ≤ length s) where
-  fits : sortable s n n 0 ≡ true
-  fits = sym (no-rows s n n 0 (omega arith) h refl)
+  pub words-sortable : sortable s n n 0 ≡ true
+  words-sortable = sym (no-rows s n n 0 (omega arith) h refl)
 
-  words-rising : Rising (sorted s n n 0) n
+  pub words-rising : Rising (sorted s n n 0) n
   words-rising = record { room = omega (arith, sorted-length s n n 0); order = λ i j z p q. order i j p q }
     where
       t : List ℕ
       t = sorted s n n 0
 
       in-order : Sorted (before (drop n s) 0) (take n t)
-      in-order = subst (Sorted (before (drop n s) 0)) (sym (sorted-column s n n 0 fits)) (sort-sorted (before (drop n s) 0) (before-order (drop n s) 0) (take n s))
+      in-order = subst (Sorted (before (drop n s) 0)) (sym (sorted-column s n n 0 words-sortable)) (sort-sorted (before (drop n s) 0) (before-order (drop n s) 0) (take n s))
 
       order : (i j : ℕ) → i ≤ j → j < n → getD t i 0 ≤ getD t j 0
       order i j p q = subst (λ (x : ℕ). x ≤ getD t j 0) (getD-take n t i 0 (omega arith)) (subst (λ (x : ℕ). getD (take n t) i 0 ≤ x) (getD-take n t j 0 q)
@@ -237,10 +237,10 @@ module _ (c : ExemptionColumns) (a : ExemptionsAgree c) (small : (i : ℕ) → g
   gathered s₀ s s′ i p h e = subst (Gathered c s₀) (sym (e ∙ ap (λ (k : ℕ). sorted s k k 0) (sym count))) (record {
     holds = record {
       rising = words-rising s m room;
-      same = via (perm-map unpacked (sorted-perm s m m 0 (fits s m room))) (perm-eq (ap (map unpacked) front ∙ unpacked-packed ex all-small));
+      same = via (perm-map unpacked (sorted-perm s m m 0 (words-sortable s m room))) (perm-eq (ap (map unpacked) front ∙ unpacked-packed ex all-small));
     };
     count = count;
-    rest = subst (λ (k : ℕ). drop k (sorted s m m 0) ≡ drop k s₀) count (sorted-rest s m m 0 (fits s m room) ∙ back);
+    rest = subst (λ (k : ℕ). drop k (sorted s m m 0) ≡ drop k s₀) count (sorted-rest s m m 0 (words-sortable s m room) ∙ back);
   })
     where
       ex : List Exemption

@@ -5,7 +5,7 @@ use Prim.Native.Nat.{ℕ, suc, _+_, _-_, _*_, _≤_, _<_}
 use native.Mathlib.Omega.{arith}
 use borrow.Rule.Slice.PartMut.{midOf, putMid}
 use lib.Ieee.{binary64, ofBits}
-use lib.ListN.{length, getD, take, drop, length-drop}
+use lib.ListN.{length, getD, take, drop, length-drop, length-append}
 use lib.Seq.{take-at, drop-at, length-take-le, getD-take, getD-drop}
 use Rattle.laws.specs.Lists.{All}
 use Rattle.laws.proofs.Perms.{perm-all, perm-length, perm-sym}
@@ -19,6 +19,7 @@ use Rattle.clearance.specs.Tree.{IndexedNode}
 use Rattle.clearance.specs.LeafOrder.{indexedAt, leafOrder, treeOver, Places, Buildable}
 use Rattle.clearance.specs.Tables.{NodesFilled}
 use Rattle.clearance.specs.Stored.{boxAt, leafFrom, leafAt, storedTree, leavesFrom, LeavesPut, SplitsPut, Grown}
+use Rattle.clearance.specs.Marks.{Lists}
 use Rattle.clearance.proofs.LeafOrders.{ordered, order-perm}
 use Rattle.clearance.proofs.TableLaws.{all-places}
 
@@ -59,7 +60,7 @@ module _ (c : NodeColumns) (agree : NodesAgree c) where
   abbrev m : ℕ
   m = length (c .id)
 
-  module _ (s₀ s₁ s₂ : List ℕ) (room : 20 * length (c .id) ≤ length s₀) (same : length s₁ ≡ length s₀) (placed : s₁ ≡ upTo (length (c .id)) ++ drop (length (c .id)) s₀) (filled : NodesFilled c (length (c .id)) s₁ s₂) where
+  module _ (s₀ s₁ s₂ : List ℕ) (whole : length s₀ ≡ 20 * length (c .id)) (same : length s₁ ≡ length s₀) (placed : s₁ ≡ upTo (length (c .id)) ++ drop (length (c .id)) s₀) (filled : NodesFilled c (length (c .id)) s₁ s₂) where
     places : take m s₂ ≡ upTo m
     places = filled .front ∙ ap (take m) placed ∙ take-at (upTo m) (drop m s₀) m (length-upTo m)
 
@@ -95,15 +96,34 @@ module _ (c : NodeColumns) (agree : NodesAgree c) where
         pub rest-long : 9 * (0 + length (c .id)) ≤ length (midOf (11 * length (c .id)) (length s₄ - 11 * length (c .id)) s₄)
         rest-long = rw (tail-lent (11 * m) s₄) (simp length-drop (omega (arith, put .len, filled .same)))
 
-        pub grown : (e : List ℕ) (b : Aabb) → SplitsPut (midOf (11 * length (c .id)) (length s₄ - 11 * length (c .id)) s₄) e 0 (length (c .id)) b → Grown c (putMid (11 * length (c .id)) (length s₄ - 11 * length (c .id)) s₄ e)
-        grown e b splits =
-            let within : 11 * m ≤ length s₄ = omega (arith, put .len, filled .same) in
-            let back : drop (11 * m) (putMid (11 * m) (length s₄ - 11 * m) s₄ e) ≡ e =
-            ap (drop (11 * m)) (tail-back (11 * m) s₄ e within) ∙ drop-at (take (11 * m) s₄) e (11 * m) (length-take-le (11 * m) s₄ within) in
-            record {
-              tableAcross = drop m s₂;
-              tableDown = drop (m + 5 * m) s₂;
-              across = filled .across;
-              down = filled .down;
-              tree = λ k h. ap (λ (z : List ℕ). storedTree k z 0 m) back ∙ splits .tree k h ∙ ap (λ (z : List ℕ). treeOver k (leavesFrom z 0 m)) (tail-lent (11 * m) s₄) ∙ ap (treeOver k) (leaves ∙ ap (map (indexedAt c)) (in-order k h));
-            }
+        module _ (e : List ℕ) (b : Aabb) (splits : SplitsPut (midOf (11 * length (c .id)) (length s₄ - 11 * length (c .id)) s₄) e 0 (length (c .id)) b) where
+          abbrev s₅ : List ℕ
+          s₅ = putMid (11 * m) (length s₄ - 11 * m) s₄ e
+
+          within : 11 * m ≤ length s₄
+          within = omega (arith, put .len, filled .same)
+
+          joined : s₅ ≡ take (11 * m) s₄ ++ e
+          joined = tail-back (11 * m) s₄ e within
+
+          front-long : length (take (11 * m) s₄) ≡ 11 * m
+          front-long = length-take-le (11 * m) s₄ within
+
+          back : drop (11 * m) s₅ ≡ e
+          back = ap (drop (11 * m)) joined ∙ drop-at (take (11 * m) s₄) e (11 * m) front-long
+
+          pub lists : length (c .id) ≤ 4096 → Lists (putMid (11 * length (c .id)) (length s₄ - 11 * length (c .id)) s₄ e) (length (c .id))
+          lists few = record {
+            whole = ap length joined ∙ length-append (take (11 * m) s₄) e ∙ (let f = splits .len ∙ ap length (tail-lent (11 * m) s₄) ∙ length-drop (11 * m) s₄ in omega (arith, front-long, put .len, filled .same));
+            few = few;
+          }
+
+          -- the tree stays where the words in front of it become the ids in order and the leaves' groups
+          pub grown : (s₆ : List ℕ) → drop (11 * length (c .id)) s₆ ≡ drop (11 * length (c .id)) (putMid (11 * length (c .id)) (length s₄ - 11 * length (c .id)) s₄ e) → Grown c s₆
+          grown s₆ same = record {
+            tableAcross = drop m s₂;
+            tableDown = drop (m + 5 * m) s₂;
+            across = filled .across;
+            down = filled .down;
+            tree = λ k h. ap (λ (z : List ℕ). storedTree k z 0 m) (same ∙ back) ∙ splits .tree k h ∙ ap (λ (z : List ℕ). treeOver k (leavesFrom z 0 m)) (tail-lent (11 * m) s₄) ∙ ap (treeOver k) (leaves ∙ ap (map (indexedAt c)) (in-order k h));
+          }

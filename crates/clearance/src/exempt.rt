@@ -9,8 +9,8 @@ ghost use Rattle.clearance.specs.Figures.{exempt};
 ghost use Rattle.clearance.specs.Exempting.{word, wordAt, nodeOf, Ascending, Rising, Gathered, Bound, Own, InReach, Listed};
 use sorting::sort_indices;
 
-// 2 to the power 32: the upper half of a word is the net.
-const HALF: u64 = 4294967296;
+// 2 to the power 32: the upper half of a word is the net, the lower the node.
+pub(crate) const HALF: u64 = 4294967296;
 
 // The places of one net's exemptions: from `from` on, and before `to`.
 pub(crate) struct Range {
@@ -39,7 +39,7 @@ pub(crate) fn gather(words: &mut [u64], exempt_net: &[u32], exempt_node: &[u32])
 }
 
 // The first place from a on, and before b, whose word is at least v; b where there is none.
-fn first_at_least(words: &[u64], a: usize, b: usize, v: u64) -> usize
+pub(crate) fn first_at_least(words: &[u64], a: usize, b: usize, v: u64) -> usize
     requires { ⌜ (a ≤ b) × (b ≤ length (now words)) × Ascending (wordAt (now words)) a b ⌝ }
     ensures { λ r. ⌜ Bound (wordAt (now (words .entry))) a b v r ⌝ }
 {

@@ -1,5 +1,6 @@
 // The clearance measure: the tree over the nodes, the walk of one segment over it, and the report.
 mod exempt;
+mod marks;
 pub mod measure;
 mod order;
 mod prepare;

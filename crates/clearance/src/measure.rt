@@ -25,7 +25,7 @@ use drawing::Refusal;
 use drawing::check_clearance;
 use drawing::clear;
 
-// The walks of all segments of a fit drawing. The scratch holds 6 words for each segment, for their order, and behind them 20 for each node, for the tree.
+// The walks of all segments of a fit drawing. The scratch holds 6 words for each segment, for their order, and behind them 20 for each node, for the tree and the groups of its leaves.
 fn walk_segments(
     net: &[u32],
     orientation: &[u8],
@@ -58,9 +58,11 @@ fn walk_segments(
     gather(&mut packed, exempt_net, exempt_node);
     order_segments(scratch, net, orientation, fixed, start, end);
     let first = 6 * net.len();
-    prepare_nodes(&mut scratch[first..], id, x, y, width, height);
+    let k = exempt_net.len();
+    let last = first + 20 * m;
+    prepare_nodes(&mut scratch[first..last], id, x, y, width, height, k);
     walk_all(
-        &scratch[first + 11 * m..],
+        &scratch[first + 11 * m..last],
         m,
         &scratch[0..],
         net,
@@ -70,7 +72,9 @@ fn walk_segments(
         end,
         threshold,
         &packed,
-        exempt_net.len(),
+        k,
+        &scratch[first..last],
+        &scratch[first + m..last],
         allowance,
     )
 }

@@ -5,7 +5,7 @@ use Rattle.clearance.proofs.exempt.is_exempt.Statement.{statement}
 use Rattle.clearance.proofs.exempt.is_exempt.Tie as tie
 
 returns : tie.Need-returns
-returns c = λ ex net l. none-there _ ex net _ l _ (c .before .before .fits .id .fits) (c .if1 .taken)
+returns c = λ ex net l. none-there _ ex net _ l _ (c .if1 .taken)
 
 first-node-requires : tie.Need-first-node-requires
 first-node-requires c κs = search needs
@@ -17,10 +17,10 @@ shared-slice-read-result : tie.Need-shared-slice-read-result
 shared-slice-read-result c = search needs
 
 returns-2 : tie.Need-returns-2
-returns-2 c = λ ex net l. found _ ex net _ l _ (c .before .before .before .before .before .fits .id .fits) _ (c .before .before .first-node .ensures) (c .before .if2 .taken)
+returns-2 c = λ ex net l. found _ ex net _ l _ _ (c .before .before .first-node .ensures) (c .before .if2 .taken)
 
 returns-3 : tie.Need-returns-3
-returns-3 c = λ ex net l. not-found _ ex net _ l _ (c .before .before .before .before .fits .id .fits) _ (c .before .first-node .ensures) (c .if2 .left)
+returns-3 c = λ ex net l. not-found _ ex net _ l _ _ (c .before .first-node .ensures) (c .if2 .left)
 
 pub is-exempt-spec : {M : Type 1} → statement M
 is-exempt-spec =

@@ -5,28 +5,16 @@ use Rattle.clearance.proofs.walk.visit_leaf.Statement.{statement}
 use Rattle.clearance.proofs.walk.visit_leaf.Tie as tie
 
 returns : tie.Need-returns
-returns c ex net l = visit-stopped _ _ (c .if1 .taken)
+returns c = visit-stopped _ _ (c .if1 .taken)
 
 sub-left : tie.Need-sub-left
 sub-left c = search needs
 
-mul-leaf-exempt : tie.Need-mul-leaf-exempt
-mul-leaf-exempt c = search needs
-
-add-leaf-exempt : tie.Need-add-leaf-exempt
-add-leaf-exempt c = search needs
-
-mul-leaf-exempt-2 : tie.Need-mul-leaf-exempt-2
-mul-leaf-exempt-2 c = search needs
-
-shared-slice-read-leaf-exempt : tie.Need-shared-slice-read-leaf-exempt
-shared-slice-read-leaf-exempt c = search needs
-
-leaf-exempt-requires : tie.Need-leaf-exempt-requires
-leaf-exempt-requires c κs = search needs
+is-marked-requires : tie.Need-is-marked-requires
+is-marked-requires c κs = search needs
 
 returns-2 : tie.Need-returns-2
-returns-2 c ex net l = visit-passed _ _ _ _ (c .before .before .before .before .if1 .left) (sym (c .before .leaf-exempt .ensures ex net l) ∙ c .if2 .taken)
+returns-2 c = visit-passed _ _ _ _ (c .before .before .before .if1 .left) (sym (c .before .is-marked .ensures) ∙ c .if2 .taken)
 
 least-with-requires : tie.Need-least-with-requires
 least-with-requires c κs = search needs
@@ -35,10 +23,10 @@ add-violations : tie.Need-add-violations
 add-violations c = search needs
 
 returns-3 : tie.Need-returns-3
-returns-3 c ex net l = let q = c .before .before .before in visit-below _ _ _ _ (q .before .before .before .before .if1 .left) (sym (q .before .leaf-exempt .ensures ex net l) ∙ q .if2 .left) (c .before .if3 .taken) _ (c .before .before .least-with .ensures)
+returns-3 c = let q = c .before .before .before in visit-below _ _ _ _ (q .before .before .before .if1 .left) (sym (q .before .is-marked .ensures) ∙ q .if2 .left) (c .before .if3 .taken) _ (c .before .before .least-with .ensures)
 
 returns-4 : tie.Need-returns-4
-returns-4 c ex net l = let q = c .before .before in visit-clear _ _ _ _ (q .before .before .before .before .if1 .left) (sym (q .before .leaf-exempt .ensures ex net l) ∙ q .if2 .left) (c .if3 .left) _ (c .before .least-with .ensures)
+returns-4 c = let q = c .before .before in visit-clear _ _ _ _ (q .before .before .before .if1 .left) (sym (q .before .is-marked .ensures) ∙ q .if2 .left) (c .if3 .left) _ (c .before .least-with .ensures)
 
 pub visit-leaf-spec : {M : Type 1} → statement M
 visit-leaf-spec =
@@ -46,11 +34,7 @@ visit-leaf-spec =
     (tie.spec
     returns
     sub-left
-    mul-leaf-exempt
-    add-leaf-exempt
-    mul-leaf-exempt-2
-    shared-slice-read-leaf-exempt
-    leaf-exempt-requires
+    is-marked-requires
     returns-2
     least-with-requires
     add-violations
