@@ -34,10 +34,10 @@ below : (x y : Float) → Fin binary64 x → Fin binary64 y → lt x y ≡ true 
 below x y p q e = lt→ binary64 x y (fin-num binary64 x p) (fin-num binary64 y q) (of-true (lt x y) e)
 
 -- ---- at most, as places in that order
-pub le-at : (x y : Float) → Fin binary64 x → Fin binary64 y → T (le x y) → at x ≤ at y
+le-at : (x y : Float) → Fin binary64 x → Fin binary64 y → T (le x y) → at x ≤ at y
 le-at x y p q h = le→ binary64 x y (fin-num binary64 x p) (fin-num binary64 y q) h
 
-pub at-le : (x y : Float) → Fin binary64 x → Fin binary64 y → at x ≤ at y → T (le x y)
+at-le : (x y : Float) → Fin binary64 x → Fin binary64 y → at x ≤ at y → T (le x y)
 at-le x y p q h = →le binary64 x y (fin-num binary64 x p) (fin-num binary64 y q) h
 
 pub le-self : (x : Float) → Fin binary64 x → T (le x x)

@@ -1,3 +1,3 @@
 pub mod Boxes
--- what only inner contracts and proofs cite
+-- what only private contracts and proofs cite
 pub mod Fitting

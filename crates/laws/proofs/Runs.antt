@@ -12,7 +12,7 @@ use Rattle.laws.specs.Allowance.{Outcome, spent, left, within, onward, r
 use Rattle.laws.proofs.Tests.{le-or-lt, cond-true, cond-false}
 
 -- ---- one run after another: with nothing before it or behind it, and three of them grouped either way
-pub nothing-after : {A B : Type 0} (a : A) (f : A → Charged B) → after (free a) f ≡ f a
+nothing-after : {A B : Type 0} (a : A) (f : A → Charged B) → after (free a) f ≡ f a
 nothing-after a f = let e : 0 + f a .cost ≡ f a .cost = omega arith in λ i. record { value = f a .value; cost = e i }
 
 pub after-nothing : {A : Type 0} (c : Charged A) → after c (λ a. free a) ≡ c
