@@ -15,7 +15,7 @@ use Rattle.sorting.specs.Sorted.{sorted}
 use Rattle.sorting.proofs.Entries.{sorted-perm, sorted-rest, sorted-length}
 use Rattle.clearance.specs.Stored.{leafAt}
 use Rattle.clearance.specs.Exempting.{wordAt, Rising, Bound}
-use Rattle.clearance.specs.Marks.{Lists, IdsSorted, LeavesGrouped}
+use Rattle.clearance.specs.Marks.{TreeBehind, IdsSorted, LeavesGrouped}
 use Rattle.clearance.proofs.ExemptLaws.{words-sortable, words-rising}
 
 -- the id of leaf j, in the tree behind 11 words for each of m leaves
@@ -31,12 +31,12 @@ id-read s s₀ m j e =
 -- ---- the ids are written one by one, and put in order
 module _ (s₀ : List ℕ) (m : ℕ) where
   pub record Copying (s : List ℕ) (j : ℕ) : Type 0 where
-    pub lists : Lists s₀ m
+    pub lists : TreeBehind s₀ m
     pub same : length s ≡ length s₀
     pub written : (q : ℕ) → q < j → getD s q 0 ≡ idOf s₀ m q
     pub behind : drop m s ≡ drop m s₀
 
-  pub copying-start : Lists s₀ m → Copying s₀ 0
+  pub copying-start : TreeBehind s₀ m → Copying s₀ 0
   copying-start h = record { lists = h; same = refl; written = λ q g. absurd (omega arith); behind = refl }
 
   module _ (s : List ℕ) (j : ℕ) (u : Copying s j) where
@@ -90,7 +90,7 @@ module _ (s₀ : List ℕ) (m : ℕ) where
     pub every : (i : ℕ) → i < m → (q : ℕ) × (q < m) × (wordAt s q ≡ idOf s₀ m i)
     pub written : (i : ℕ) → i < j → Bound (wordAt s) 0 m (idOf s₀ m i) (getD s (m + i) 0)
 
-  pub grouping-start : (b : List ℕ) → Lists b m → IdsSorted b s₀ m → length s₀ ≡ length b → Grouping s₀ 0
+  pub grouping-start : (b : List ℕ) → TreeBehind b m → IdsSorted b s₀ m → length s₀ ≡ length b → Grouping s₀ 0
   grouping-start b lists ids same = record {
     whole = same ∙ lists .whole;
     few = lists .few;

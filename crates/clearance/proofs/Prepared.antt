@@ -19,7 +19,7 @@ use Rattle.clearance.specs.Tree.{IndexedNode}
 use Rattle.clearance.specs.LeafOrder.{indexedAt, leafOrder, treeOver, Places, Buildable}
 use Rattle.clearance.specs.Tables.{NodesFilled}
 use Rattle.clearance.specs.Stored.{boxAt, leafFrom, leafAt, storedTree, leavesFrom, LeavesPut, SplitsPut, Grown}
-use Rattle.clearance.specs.Marks.{Lists}
+use Rattle.clearance.specs.Marks.{TreeBehind}
 use Rattle.clearance.proofs.LeafOrders.{ordered, order-perm}
 use Rattle.clearance.proofs.TableLaws.{all-places}
 
@@ -112,7 +112,7 @@ module _ (c : NodeColumns) (agree : NodesAgree c) where
           back : drop (11 * m) s₅ ≡ e
           back = ap (drop (11 * m)) joined ∙ drop-at (take (11 * m) s₄) e (11 * m) front-long
 
-          pub lists : length (c .id) ≤ 4096 → Lists (putMid (11 * length (c .id)) (length s₄ - 11 * length (c .id)) s₄ e) (length (c .id))
+          pub lists : length (c .id) ≤ 4096 → TreeBehind (putMid (11 * length (c .id)) (length s₄ - 11 * length (c .id)) s₄ e) (length (c .id))
           lists few = record {
             whole = ap length joined ∙ length-append (take (11 * m) s₄) e ∙ (let f = splits .len ∙ ap length (tail-lent (11 * m) s₄) ∙ length-drop (11 * m) s₄ in omega (arith, front-long, put .len, filled .same));
             few = few;

@@ -12,7 +12,7 @@ use Rattle.clearance.specs.Stored.{leafAt}
 use Rattle.clearance.specs.Exempting.{wordAt, Rising, Bound}
 
 -- s holds a tree of m leaves behind 11 words for each, and nothing behind it
-pub record Lists (s : List ℕ) (m : ℕ) : Type 0 where
+pub record TreeBehind (s : List ℕ) (m : ℕ) : Type 0 where
   pub whole : length s ≡ 20 * m
   pub few : m ≤ 4096
 

@@ -7,7 +7,7 @@ ghost use lib.ListN.{length, getD, take};
 ghost use Rattle.bitset.specs.Members.{member};
 ghost use Rattle.drawing.specs.Entries.{Exemption};
 ghost use Rattle.clearance.specs.Exempting.{Rising, Holds};
-ghost use Rattle.clearance.specs.Marks.{Lists, IdsSorted, LeavesGrouped, Grouped, Added, Marked, MarkedFor};
+ghost use Rattle.clearance.specs.Marks.{TreeBehind, IdsSorted, LeavesGrouped, Grouped, Added, Marked, MarkedFor};
 use crate::exempt::HALF;
 use crate::exempt::first_at_least;
 use crate::exempt::range_of;
@@ -21,7 +21,7 @@ pub(crate) const MARK_WORDS: usize = 64;
 
 // Puts the ids of the m leaves in ascending order, in the first words of s. The tree stands behind 11 words for each leaf.
 fn sort_ids(s: &mut [u64], m: usize)
-    requires { ⌜ Lists (now s) m ⌝ }
+    requires { ⌜ TreeBehind (now s) m ⌝ }
     ensures { λ _. ⌜ IdsSorted (now (s .entry)) (now (s .exit)) m ⌝ }
 {
     let mut j = 0;
@@ -34,7 +34,7 @@ fn sort_ids(s: &mut [u64], m: usize)
 
 // Puts the ids in order and, behind them, the groups of the leaves. Without exemptions nothing is marked, and neither is needed.
 pub(crate) fn group_leaves(s: &mut [u64], m: usize, exemptions: usize)
-    requires { ⌜ Lists (now s) m ⌝ }
+    requires { ⌜ TreeBehind (now s) m ⌝ }
     ensures { λ _. ⌜ LeavesGrouped (now (s .entry)) (now (s .exit)) m exemptions ⌝ }
 {
     if exemptions == 0 {
