@@ -50,7 +50,7 @@ use Rattle.records.proofs.Claims.measure_parallel_congestion_by_records.Kinds a
 use Rattle.records.proofs.Claims.measure_parallel_congestion_by_records.Reads as congestionEntryReads
 use Rattle.records.proofs.measure_parallel_congestion_by_records.Symbol as congestionEntryCode
 use Rattle.records.specs.Records.{parallelColumns, edgeNodeColumns}
-use Rattle.readability.specs.Measures.{Says, clearance, separation, density, profile, congestion}
+use Rattle.demands.specs.Measures.{Says, clearance, separation, density, profile, congestion}
 
 -- in every model and under every name: the routine, called where P holds of its arguments, does nothing undefined and returns, and Q holds then. It is the checker's statement of total correctness, which it derives of a function from the function's theorem.
 abbrev pub Meets : (n : ℕ) (ps : List (PK n)) (r : RK n) → Routine → In n ps → Out n ps r → Type 2

@@ -1,0 +1,17 @@
+-- The proofs of what specs/ states, under the same names, and what they lean on.
+pub mod Demand1
+pub mod Demand2
+pub mod Demand3
+pub mod TightPair
+pub mod Marked
+pub mod ShutOut
+-- what they lean on: the first refusal by number, the floats of a report, the facts of each measure, and the demands of one measure from its facts
+mod FirstMet
+mod Numbers
+mod Facts
+mod ClearanceFacts
+mod SeparationFacts
+mod CongestionFacts
+mod AllFacts
+mod OneCall
+mod Counts

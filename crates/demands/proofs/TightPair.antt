@@ -1,0 +1,50 @@
+-- The tight pair. Assumes nothing.
+use mathlib.Core.Path.{_≡_, refl, ap, _∙_}
+use mathlib.Core.Option.{none}
+use Prim.Native.Nat.{ℕ}
+use native.Mathlib.Omega.{arith}
+use lib.Ieee.{Float}
+use Rattle.drawing.specs.declared.gap.Gap.{Gap}
+use Rattle.drawing.specs.declared.gap.Gap.the-variants.{Absent, Present}
+use Rattle.drawing.specs.declared.refusal.Check.{Check}
+use Rattle.drawing.specs.declared.refusal.Check.the-variants.{Passed, Refused as Stopped}
+use Rattle.drawing.specs.Entries.{SegmentColumns, NodeColumns, ExemptionColumns, segments, nodes, exemptions}
+use Rattle.drawing.specs.Gaps.{leastGap}
+use Rattle.drawing.specs.Refusals.{numberOf, firstOf, checked}
+use Rattle.drawing.specs.Checks.{listConditions, entryConditions, tightPairConditions}
+use Rattle.clearance.specs.declared.tight_pair.TightPair.{TightPair}
+use Rattle.clearance.specs.declared.tight_pair.TightPair.the-variants as tightPair
+use Rattle.clearance.specs.Figures.{distances, figures}
+use Rattle.clearance.specs.TightPair.{found, answer, Answered, resultOf}
+use Rattle.demands.specs.Applies.{First, NoneApplies}
+use Rattle.demands.specs.TightPair.{Pair, TightPairs}
+use Rattle.demands.proofs.FirstMet.{Rising, first-refused, none-passed}
+
+rises : (s : SegmentColumns) (n : NodeColumns) (e : ExemptionColumns) → Rising 0 (tightPairConditions s n e)
+unfolding tightPairConditions listConditions entryConditions numberOf
+rises s n e = (omega arith, omega arith, (omega arith, omega arith, (omega arith, omega arith, (omega arith, omega arith, (omega arith, omega arith, (omega arith, omega arith, (omega arith, omega arith, (omega arith, omega arith, tt))))))))
+
+module _ (s : SegmentColumns) (n : NodeColumns) (e : ExemptionColumns) (r : TightPair) (a : Answered s n e r) where
+  -- from what the checks say, and from the least clearance
+  answered : (c : Check) → firstOf (tightPairConditions s n e) ≡ c → (g : Gap) → leastGap (distances (exemptions e) (segments s) (nodes n)) ≡ g → r ≡ checked tightPair.Refused c (found g (a .choice))
+  unfolding answer
+  answered c p g q = a .is ∙ (λ i. checked tightPair.Refused (p i) (found (q i) (a .choice)))
+
+  unfit : (k : ℕ) → First (tightPairConditions s n e) k → resultOf r ≡ (k, none)
+  unfolding resultOf
+  unfit k f =
+      let w = first-refused 0 (tightPairConditions s n e) (rises s n e) k f in
+      ap resultOf (answered (Stopped (w .refusal)) (w .first) _ refl) ∙ ap (λ (j : ℕ). (j, none)) (w .number)
+
+  no-pair : NoneApplies (tightPairConditions s n e) → (threshold : Float) → figures (exemptions e) threshold (segments s) (nodes n) .least ≡ Absent → resultOf r ≡ (0, none)
+  unfolding found resultOf figures
+  no-pair h threshold g = ap resultOf (answered Passed (none-passed (tightPairConditions s n e) h) Absent g)
+
+  some-pair : NoneApplies (tightPairConditions s n e) → (threshold d : Float) → figures (exemptions e) threshold (segments s) (nodes n) .least ≡ Present d → Pair s n e r
+  unfolding found resultOf figures
+  some-pair h threshold d g =
+      let is : r ≡ tightPair.Pair (a .choice .0) (a .choice .1) = answered Passed (none-passed (tightPairConditions s n e) h) (Present d) g in
+      record { segment = a .choice .0; node = a .choice .1; told = ap resultOf is; tight = a .tight (a .choice .0) (a .choice .1) is }
+
+pub tight-pairs : TightPairs
+tight-pairs = record { of-each = λ s n e r a. record { unfit = unfit s n e r a; no-pair = no-pair s n e r a; some-pair = some-pair s n e r a } }

@@ -1,0 +1,37 @@
+-- "Tight pair (added; no threshold, allowance or scratch): checks 2, 3 and 5 of clearance, then answers any pair, by segment and node position, that is not exempt and whose distance is the least clearance, or absent if there is none."
+-- What follows from `Answered`, which is the call's contract (`readability`, specs/Contracts). `proofs/TightPair.antt` proves `TightPairs`.
+use mathlib.Core.Path.{_≡_}
+use mathlib.Core.Option.{none, some}
+use Prim.Native.Nat.{ℕ}
+use lib.Ieee.{Float}
+use Rattle.drawing.specs.declared.gap.Gap.{Gap}
+use Rattle.drawing.specs.declared.gap.Gap.the-variants.{Absent, Present}
+use Rattle.drawing.specs.Entries.{SegmentColumns, NodeColumns, ExemptionColumns, segments, nodes, exemptions}
+use Rattle.drawing.specs.Checks.{tightPairConditions}
+use Rattle.clearance.specs.declared.tight_pair.TightPair.{TightPair}
+use Rattle.clearance.specs.TightPair.{Tight, Answered, resultOf}
+use Rattle.demands.specs.Applies.{First, NoneApplies}
+use Rattle.demands.specs.Measures.{clearance}
+
+module _ (s : SegmentColumns) (n : NodeColumns) (e : ExemptionColumns) (r : TightPair) where
+  -- the least clearance: no threshold changes it
+  abbrev leastClearance : Float → Gap
+  leastClearance threshold = clearance .figures (record { segments = s; nodes = n; exemptions = e }) threshold .least
+
+  -- a pair that is answered
+  pub record Pair : Type 0 where
+    pub segment : ℕ
+    pub node : ℕ
+    pub told : resultOf r ≡ (0, some (segment, node))
+    pub tight : Tight (exemptions e) (segments s) (nodes n) segment node
+
+  pub record Holds : Type 0 where
+    -- "for the tight pair, an absent pair"
+    pub unfit : (k : ℕ) → First (tightPairConditions s n e) k → resultOf r ≡ (k, none)
+    -- "or absent if there is none"
+    pub no-pair : NoneApplies (tightPairConditions s n e) → (threshold : Float) → leastClearance threshold ≡ Absent → resultOf r ≡ (0, none)
+    -- "any pair .. that is not exempt and whose distance is the least clearance"
+    pub some-pair : NoneApplies (tightPairConditions s n e) → (threshold least : Float) → leastClearance threshold ≡ Present least → Pair
+
+pub record TightPairs : Type 0 where
+  pub of-each : (s : SegmentColumns) (n : NodeColumns) (e : ExemptionColumns) (r : TightPair) → Answered s n e r → Holds s n e r

@@ -1,0 +1,22 @@
+-- The whole promise: of the functions themselves, and of every run of them. `proofs/Promise.antt` proves `Promise`.
+use Rattle.demands.specs.Demand1.{Demand1}
+use Rattle.demands.specs.Demand2.{Demand2}
+use Rattle.demands.specs.Demand3.{Demand3}
+use Rattle.demands.specs.TightPair.{TightPairs}
+use Rattle.demands.specs.Marked.{Marked}
+use Rattle.demands.specs.ShutOut.{ShutOut}
+use Rattle.readability.specs.Contracts.{Contracts}
+
+pub record Promise : Type 2 where
+  -- demand 1: "every call ends, for all inputs, with no condition laid on its caller": of the functions themselves, the six by columns and the five by records, with the equations that make a call a run of its measure
+  pub calls : Contracts
+  -- the demands, of every run of the five measures
+  pub demand-1 : Demand1
+  pub demand-2 : Demand2
+  pub demand-3 : Demand3
+  -- the tight pair, of every answer that its contract allows
+  pub tight-pairs : TightPairs
+  -- "The marked cases below form one proved statement over the definitions."
+  pub marked : Marked
+  -- "These are shut out"
+  pub shut-out : ShutOut
