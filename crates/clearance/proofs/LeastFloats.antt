@@ -14,7 +14,7 @@ use Rattle.drawing.specs.declared.gap.Gap.{Gap}
 use Rattle.drawing.specs.declared.gap.Gap.the-variants.{Absent, Present}
 use Rattle.drawing.specs.Gaps.{lesserGap}
 use Rattle.clearance.specs.Walk.{contributes}
-use Rattle.clearance.specs.Walking.{Number, gapOfFloat}
+use Rattle.clearance.specs.State.{Number, gapOfFloat}
 
 -- ---- what it stands for
 pub gap-absent : (x : Float) → ne x x ≡ true → Absent ≡ gapOfFloat x

@@ -1,17 +1,20 @@
-// The clearance measure: the tree over the nodes, the walk of one segment over it, and the report.
-mod exempt;
-mod marks;
-pub mod measure;
-mod order;
-mod prepare;
+// The clearance measure as it is defined, and the small functions that decide on numbers alone.
+// specs/ has what a reader must believe: the figures over all pairs, the tree, the walk over it with no limit, and the answer. proofs/ has the laws of these definitions. The functions that build the tree and walk it are in the crate clearance_call.
+pub mod answer;
+pub mod halves;
+pub mod pruning;
 pub mod report;
-mod stored;
-mod tables;
-pub mod tight_pair;
-mod walk;
-mod walk_all;
+pub mod visit;
 
-pub use measure::measure_edge_node_clearance_bounded;
+pub use answer::answer_of;
+pub use halves::Halves;
+pub use halves::Subtree;
+pub use halves::nearer_first;
+pub use pruning::clearance_subtree_can_contribute;
+pub use pruning::edges_below;
 pub use report::ClearanceAnswer;
 pub use report::EdgeNodeClearance;
-pub use tight_pair::TightPair;
+pub use visit::Walked;
+pub use visit::Walking;
+pub use visit::no_distance;
+pub use visit::visit_pair;

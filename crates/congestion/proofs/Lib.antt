@@ -1,4 +1,4 @@
--- The laws of the definitions. Those that other crates cite:
+-- The laws of the definitions. Those that `readability` and `printing` cite:
 pub mod Fitness
 pub mod SweepTheorem
 pub mod Answers
@@ -8,44 +8,27 @@ pub mod RoundedDrawing
 pub mod RangeTests
 pub mod Examples
 pub mod FoldLaws
--- what they use: cells and counts
+-- what they use, and the code of `density_call`: cells, counts and keys
 mod CellLaws
-mod Sets
+pub mod Sets
+pub mod KeyUnits
+pub mod RangeFloats
 -- the sweep, event by event
-mod Tracking
-mod Moments
-mod Passing
+pub mod Tracking
+pub mod Moments
+pub mod Passing
 mod EventOrder
-mod Beginning
+pub mod Beginning
 mod Meetings
-mod Reaching
+pub mod Reaching
 -- its figures
-mod Bounds
-mod Oriented
-mod Orientations
-mod SweepFigures
-mod FiguresOrder
-mod LeastGap
-mod RoundedSweep
--- the code's tables, and what a wire meets
-mod RangeFloats
-mod RangeSearch
-mod PlaceFolds
-mod VisitLaws
-mod GapFloats
-mod MeetingLaws
-mod MeetingLoop
--- the code's sweep
-mod DueEvents
-mod RowPlaces
-mod Marking
-mod EventSteps
-mod EventLoop
--- rows and their wires, both orientations
-mod RowWires
-mod RowTabled
-mod BothWays
-mod AlongWires
-mod SweptBoth
--- the whole call
-mod WholeCall
+pub mod Bounds
+pub mod Oriented
+pub mod Orientations
+pub mod SweepFigures
+pub mod FiguresOrder
+pub mod LeastGap
+pub mod RoundedSweep
+-- the total and the answers that the code makes
+mod SummedLengths
+mod AnswerCases

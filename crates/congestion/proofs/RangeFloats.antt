@@ -7,22 +7,22 @@ use native.Mathlib.Nat.{mul-pos, zero-mul}
 use native.Mathlib.Omega.{arith}
 use lib.Dec.{T, ltb, lit<}
 use lib.Pow.{pow-pos}
-use lib.Ieee.{Float, nan, inf, fin, binary64, up, round, neg, add, sub, lt, fits, isNan, ofBits, toBits}
+use lib.Ieee.{Float, nan, inf, fin, binary64, up, round, neg, add, sub, lt, fits, isNan}
 use lib.Ieee.Fits.{down-pos}
 use lib.Ieee.Exact.{HasValue}
 use lib.Ieee.Bits.{ofBits-fits, toBits-ofBits}
 use lib.Ieee.Scale.{overflow}
-use Rattle.laws.proofs.Tests.{le-or-lt, ltb-same, same-or-not}
+use Rattle.laws.proofs.Tests.{le-or-lt, ltb-same}
 use Rattle.floats.specs.Values.{canonicalZero}
 use Rattle.floats.specs.TotalOrder.{key, patternAt, keyOf, floatAt}
 use Rattle.floats.specs.Grid.{onGrid, steps, unit, ofUnits}
 use Rattle.floats.proofs.Rank.{mag, sgn, at, rank, rank-is, Num, mag-le, lt-rank, compare-at}
 use Rattle.floats.proofs.Rounding.{round-num, val→mag}
 use Rattle.floats.proofs.Keys.{key-low, key-high, pattern-low, pattern-high}
-use Rattle.floats.proofs.NumberKeys.{float-back, key-of-small, canonical-key}
+use Rattle.floats.proofs.NumberKeys.{canonical-key}
 use Rattle.floats.proofs.Units.{of-units-value, grid-value, steps-bound, unit-bound, sub-units, sub-below}
 use Rattle.congestion.specs.Wires.{cutoffOf}
-use Rattle.congestion.specs.Tables.{Key}
+use Rattle.congestion.specs.Keys.{Key}
 
 -- ---- the word of a number is the key of the float at it
 key-of-pattern : (k : ℕ) → k < 2 ^ 64 → (key (patternAt k) ≡ k) × (patternAt k < 2 ^ 64)
@@ -44,21 +44,6 @@ key-back w h g = let p = key-of-pattern w h in ap key (toBits-ofBits binary64 (p
 float-fits : (w : ℕ) → T (fits binary64 (floatAt w))
 unfolding floatAt
 float-fits w = ofBits-fits binary64 (patternAt w)
-
--- no key is the last of all words, which stands for a NaN other than the one that has a key
-last-word : floatAt (2 ^ 64 - 1) ≡ nan
-unfolding floatAt ofBits patternAt
-last-word = refl
-
-nan-key : keyOf nan < 2 ^ 64 - 1
-unfolding keyOf key toBits
-nan-key = lit< tt
-
-pub key-next : (x : Float) → T (fits binary64 x) → keyOf x + 1 < 2 ^ 64
-key-next x p = elim (same-or-not (keyOf x) (2 ^ 64 - 1)) [
-  | inl e ↦ absurd (let f = ap keyOf (sym (float-back x p) ∙ ap floatAt e ∙ last-word) in omega (arith, nan-key))
-  | inr n ↦ omega (arith, n, key-of-small x p)
-]
 
 -- ---- a float that is so many 64ths above or below 0, with 2 ^ 28 for 0
 record Spot (x : Float) (p : ℕ) : Type 0 where

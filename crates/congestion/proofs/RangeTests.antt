@@ -14,8 +14,8 @@ use Rattle.drawing.specs.Entries.{Segment}
 use Rattle.congestion.specs.Wires.{wireOf, cutoffOf}
 use Rattle.congestion.specs.Sweep.{inRange}
 use Rattle.congestion.specs.Rounded.{inRangeFloats}
-use Rattle.congestion.specs.Tables.{Key}
-use Rattle.congestion.proofs.RowWires.{canonical-fits, key-unit}
+use Rattle.congestion.specs.Keys.{Key}
+use Rattle.congestion.proofs.KeyUnits.{canonical-fits, key-unit}
 use Rattle.congestion.proofs.RangeFloats.{above-low, below-high}
 
 back : (x : Float) → T (fits binary64 x) → floatAt (keyOf (canonicalZero x)) ≡ canonicalZero x

@@ -8,9 +8,6 @@ pub mod Rounded
 pub mod RoundedSweep
 pub mod Answer
 pub mod Ratio
--- what only private contracts cite
-pub mod Tables
-pub mod Ranges
-pub mod Meeting
-pub mod Sweeping
-pub mod Measuring
+-- what only laws and inner contracts cite
+pub mod Keys
+pub mod Answering

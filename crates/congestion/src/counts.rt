@@ -1,10 +1,10 @@
-// Counts, compared.
+// Counts.
 ghost use mathlib.Core.Path.{_≡_};
-ghost use Prim.Native.Nat.{max};
+ghost use Prim.Native.Nat.{_-_};
 
-// The greater of two counts.
-pub(crate) fn greater(a: usize, b: usize) -> usize
-    ensures { λ r. ⌜ r ≡ max a b ⌝ }
+// How much greater the first count is; 0 where it is the lesser one.
+pub(crate) fn saturating_sub(a: usize, b: usize) -> usize
+    ensures { λ r. ⌜ r ≡ a - b ⌝ }
 {
-    if a < b { b } else { a }
+    if a < b { 0 } else { a - b }
 }

@@ -1,16 +1,15 @@
-// The length of wires that run beside a close wire of another net.
-mod along;
+// What the congestion calls answer: the definitions of the figures over all pairs, of the sweep and of the answers, with their laws; the reports and their ratio; and the functions of a call that need no scratch, the total length and the answer. The sweep is in `density_call`, the calls that rest on it in `congestion_call`.
+pub mod answer;
 mod counts;
-pub mod measure;
-mod meet;
-mod ranges;
+pub mod found;
 pub mod report;
-mod run;
-mod sweep;
+pub mod total;
 
-pub use measure::measure_parallel_congestion;
-pub use measure::measure_parallel_congestion_profile_bounded;
-pub use measure::measure_parallel_density_profile_bounded;
+pub use answer::answer_of;
+pub use answer::without_density;
+pub use found::Found;
+pub use found::Swept;
 pub use report::CongestionAnswer;
 pub use report::CongestionReport;
 pub use report::ParallelCongestion;
+pub use total::total_length;

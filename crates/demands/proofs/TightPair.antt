@@ -12,10 +12,10 @@ use Rattle.drawing.specs.Entries.{SegmentColumns, NodeColumns, ExemptionColumns
 use Rattle.drawing.specs.Gaps.{leastGap}
 use Rattle.drawing.specs.Refusals.{numberOf, firstOf, checked}
 use Rattle.drawing.specs.Checks.{listConditions, entryConditions, tightPairConditions}
-use Rattle.clearance.specs.declared.tight_pair.TightPair.{TightPair}
-use Rattle.clearance.specs.declared.tight_pair.TightPair.the-variants as tightPair
+use Rattle.tight_pair.specs.declared.TightPair.{TightPair}
+use Rattle.tight_pair.specs.declared.TightPair.the-variants as tightPair
 use Rattle.clearance.specs.Figures.{distances, figures}
-use Rattle.clearance.specs.TightPair.{found, answer, Answered, resultOf}
+use Rattle.tight_pair.specs.TightPair.{found, answer, Answered, resultOf}
 use Rattle.demands.specs.Applies.{First, NoneApplies}
 use Rattle.demands.specs.TightPair.{Pair, TightPairs}
 use Rattle.demands.proofs.FirstMet.{Rising, first-refused, none-passed}

@@ -8,8 +8,8 @@ use Rattle.drawing.specs.declared.gap.Gap.{Gap}
 use Rattle.drawing.specs.declared.gap.Gap.the-variants.{Absent, Present}
 use Rattle.drawing.specs.Entries.{SegmentColumns, NodeColumns, ExemptionColumns, segments, nodes, exemptions}
 use Rattle.drawing.specs.Checks.{tightPairConditions}
-use Rattle.clearance.specs.declared.tight_pair.TightPair.{TightPair}
-use Rattle.clearance.specs.TightPair.{Tight, Answered, resultOf}
+use Rattle.tight_pair.specs.declared.TightPair.{TightPair}
+use Rattle.tight_pair.specs.TightPair.{Tight, Answered, resultOf}
 use Rattle.demands.specs.Applies.{First, NoneApplies}
 use Rattle.demands.specs.Measures.{clearance}
 

@@ -8,8 +8,8 @@ use Rattle.drawing.specs.declared.gap.Gap.{Gap}
 use Rattle.drawing.specs.declared.gap.Gap.the-variants.{Absent, Present}
 use Rattle.drawing.specs.Entries.{SegmentColumns, NodeColumns, ExemptionColumns}
 use Rattle.clearance.specs.declared.report.EdgeNodeClearance.{EdgeNodeClearance}
-use Rattle.clearance.specs.declared.tight_pair.TightPair.{TightPair}
-use Rattle.clearance.specs.TightPair.{Answered, resultOf}
+use Rattle.tight_pair.specs.declared.TightPair.{TightPair}
+use Rattle.tight_pair.specs.TightPair.{Answered, resultOf}
 use Rattle.separation.specs.declared.report.ParallelSeparation.{ParallelSeparation}
 use Rattle.congestion.specs.declared.report.CongestionReport.{CongestionReport}
 

@@ -9,12 +9,12 @@ ghost use Rattle.printing.specs.Sheet.{measured, sheet};
 ghost use Rattle.printing.specs.TextPut.{Put};
 use crate::lines::file_refused;
 use crate::lines::three_lines;
-use clearance::measure_edge_node_clearance_bounded;
-use congestion::measure_parallel_density_profile_bounded;
+use clearance_call::measure_edge_node_clearance_bounded;
+use density_call::measure_parallel_density_profile_bounded;
 use file::Header;
 use file::Reading;
 use file::read_drawing;
-use separation::measure_parallel_separation_bounded;
+use separation_call::measure_parallel_separation_bounded;
 
 // The three lines of a drawing that has been read.
 fn put_lines(

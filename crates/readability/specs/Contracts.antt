@@ -15,25 +15,25 @@ use mathlib.Core.Path.{_≡_}
 use mathlib.Core.Bool.{false}
 use Rattle.drawing.specs.Entries.{Segment, segments, columnsOf, segmentColumns, nodeColumns, exemptionColumns}
 use Rattle.drawing.specs.Checks.{segmentsDiffer}
-use Rattle.clearance.specs.TightPair.{Answered}
-use Rattle.clearance.proofs.measure.measure_edge_node_clearance_bounded.Kinds as clearanceKinds
-use Rattle.clearance.proofs.measure.measure_edge_node_clearance_bounded.Reads as clearanceReads
-use Rattle.clearance.proofs.measure.measure_edge_node_clearance_bounded.Symbol as clearanceCode
-use Rattle.clearance.proofs.tight_pair.tight_pair.Kinds as tightPairKinds
-use Rattle.clearance.proofs.tight_pair.tight_pair.Reads as tightPairReads
-use Rattle.clearance.proofs.tight_pair.tight_pair.Symbol as tightPairCode
-use Rattle.separation.proofs.measure.measure_parallel_separation_bounded.Kinds as separationKinds
-use Rattle.separation.proofs.measure.measure_parallel_separation_bounded.Reads as separationReads
-use Rattle.separation.proofs.measure.measure_parallel_separation_bounded.Symbol as separationCode
-use Rattle.congestion.proofs.measure.measure_parallel_density_profile_bounded.Kinds as densityKinds
-use Rattle.congestion.proofs.measure.measure_parallel_density_profile_bounded.Reads as densityReads
-use Rattle.congestion.proofs.measure.measure_parallel_density_profile_bounded.Symbol as densityCode
-use Rattle.congestion.proofs.measure.measure_parallel_congestion_profile_bounded.Kinds as profileKinds
-use Rattle.congestion.proofs.measure.measure_parallel_congestion_profile_bounded.Reads as profileReads
-use Rattle.congestion.proofs.measure.measure_parallel_congestion_profile_bounded.Symbol as profileCode
-use Rattle.congestion.proofs.measure.measure_parallel_congestion.Kinds as congestionKinds
-use Rattle.congestion.proofs.measure.measure_parallel_congestion.Reads as congestionReads
-use Rattle.congestion.proofs.measure.measure_parallel_congestion.Symbol as congestionCode
+use Rattle.tight_pair.specs.TightPair.{Answered}
+use Rattle.clearance_call.proofs.measure.measure_edge_node_clearance_bounded.Kinds as clearanceKinds
+use Rattle.clearance_call.proofs.measure.measure_edge_node_clearance_bounded.Reads as clearanceReads
+use Rattle.clearance_call.proofs.measure.measure_edge_node_clearance_bounded.Symbol as clearanceCode
+use Rattle.tight_pair.proofs.tight_pair.Kinds as tightPairKinds
+use Rattle.tight_pair.proofs.tight_pair.Reads as tightPairReads
+use Rattle.tight_pair.proofs.tight_pair.Symbol as tightPairCode
+use Rattle.separation_call.proofs.measure.measure_parallel_separation_bounded.Kinds as separationKinds
+use Rattle.separation_call.proofs.measure.measure_parallel_separation_bounded.Reads as separationReads
+use Rattle.separation_call.proofs.measure.measure_parallel_separation_bounded.Symbol as separationCode
+use Rattle.density_call.proofs.measure.measure_parallel_density_profile_bounded.Kinds as densityKinds
+use Rattle.density_call.proofs.measure.measure_parallel_density_profile_bounded.Reads as densityReads
+use Rattle.density_call.proofs.measure.measure_parallel_density_profile_bounded.Symbol as densityCode
+use Rattle.congestion_call.proofs.measure.measure_parallel_congestion_profile_bounded.Kinds as profileKinds
+use Rattle.congestion_call.proofs.measure.measure_parallel_congestion_profile_bounded.Reads as profileReads
+use Rattle.congestion_call.proofs.measure.measure_parallel_congestion_profile_bounded.Symbol as profileCode
+use Rattle.congestion_call.proofs.measure.measure_parallel_congestion.Kinds as congestionKinds
+use Rattle.congestion_call.proofs.measure.measure_parallel_congestion.Reads as congestionReads
+use Rattle.congestion_call.proofs.measure.measure_parallel_congestion.Symbol as congestionCode
 use Rattle.records.proofs.Claims.measure_edge_node_clearance_bounded_by_records.Kinds as clearanceEntryKinds
 use Rattle.records.proofs.Claims.measure_edge_node_clearance_bounded_by_records.Reads as clearanceEntryReads
 use Rattle.records.proofs.measure_edge_node_clearance_bounded_by_records.Symbol as clearanceEntryCode

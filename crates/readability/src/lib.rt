@@ -1,15 +1,13 @@
 // The measures of a drawing under the Rust's names, each from the crate that has it. By columns a call has the Rust's name alone; the thin entries, whose names end in `_by_records`, take the Rust's list of records. What is promised of them is in specs/Promise.
 pub use clearance::ClearanceAnswer;
 pub use clearance::EdgeNodeClearance;
-pub use clearance::TightPair;
-pub use clearance::measure_edge_node_clearance_bounded;
-pub use clearance::tight_pair::tight_pair;
+pub use clearance_call::measure_edge_node_clearance_bounded;
 pub use congestion::CongestionAnswer;
 pub use congestion::CongestionReport;
 pub use congestion::ParallelCongestion;
-pub use congestion::measure_parallel_congestion;
-pub use congestion::measure_parallel_congestion_profile_bounded;
-pub use congestion::measure_parallel_density_profile_bounded;
+pub use congestion_call::measure_parallel_congestion;
+pub use congestion_call::measure_parallel_congestion_profile_bounded;
+pub use density_call::measure_parallel_density_profile_bounded;
 pub use drawing::Gap;
 pub use drawing::Refusal;
 pub use drawing::number;
@@ -22,4 +20,6 @@ pub use records::measure_parallel_density_profile_bounded_by_records;
 pub use records::measure_parallel_separation_bounded_by_records;
 pub use separation::ParallelSeparation;
 pub use separation::SeparationAnswer;
-pub use separation::measure_parallel_separation_bounded;
+pub use separation_call::measure_parallel_separation_bounded;
+pub use tight_pair::TightPair;
+pub use tight_pair::tight_pair;

@@ -1,4 +1,4 @@
 -- The columns that a list of records stands for.
 pub mod Records
 -- what only private contracts cite
-pub mod Lines
+pub mod NoRecord

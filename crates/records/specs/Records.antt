@@ -1,15 +1,9 @@
 -- The columns that a lent list of records stands for. "`&[ParallelSegment]` and the like: the core takes columns of equal length (net, orientation byte 1 horizontal or 0 vertical, fixed, start, end). Afterwards, one thin entry for each measure takes the lent list of segment records as the Rust does."
-use mathlib.Core.Bool.{Bool, true, false}
 use mathlib.Core.List.{List, map}
-use Prim.Native.Nat.{ℕ}
 use Rattle.drawing.specs.Entries.{Segment, SegmentColumns, columnsOf}
+use Rattle.lines.specs.Lines.{orientationByte}
 use Rattle.records.specs.declared.parallel.ParallelSegment.{ParallelSegment}
 use Rattle.records.specs.declared.edge_node.EdgeNodeSegment.{EdgeNodeSegment}
-
--- "orientation byte 1 horizontal or 0 vertical"
-unfoldable pub orientationByte : Bool → ℕ
-orientationByte true = 1
-orientationByte false = 0
 
 -- the entry that a record stands for
 unfoldable pub ofParallel : ParallelSegment → Segment

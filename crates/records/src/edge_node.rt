@@ -9,13 +9,14 @@ ghost use Rattle.drawing.specs.Entries.{nodeColumns, exemptionColumns};
 ghost use Rattle.drawing.specs.Checks.{clearanceConditions};
 ghost use Rattle.drawing.specs.Held.{Binary64, SegmentsHeld, NodesHeld};
 ghost use Rattle.clearance.specs.Answer.{clearanceAnswer};
+ghost use Rattle.lines.specs.Lines.{entryOf};
 ghost use Rattle.records.specs.Records.{ofEdgeNode, edgeNodeColumns};
-ghost use Rattle.records.specs.Lines.{entryOf, noEdgeNode};
-use crate::line::Line;
-use crate::line::orientation_byte;
-use crate::line::unpacked;
-use crate::of_lines::clearance_of_lines;
+ghost use Rattle.records.specs.NoRecord.{noEdgeNode};
 use clearance::ClearanceAnswer;
+use clearance_lines::clearance_of_lines;
+use lines::Line;
+use lines::orientation_byte;
+use lines::unpacked;
 
 // A straight wire segment, as clearance takes it.
 #[repr(C)]

@@ -1,7 +1,5 @@
 // The thin entries: each measure takes the lent list of segment records, as the Rust does, and answers what its call by columns answers of the columns that the list stands for.
 pub mod edge_node;
-pub(crate) mod line;
-pub(crate) mod of_lines;
 pub mod parallel;
 
 pub use edge_node::EdgeNodeSegment;

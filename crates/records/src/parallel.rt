@@ -9,17 +9,18 @@ ghost use Rattle.drawing.specs.Checks.{separationConditions, congestionConditio
 ghost use Rattle.drawing.specs.Held.{Binary64, SegmentsHeld};
 ghost use Rattle.separation.specs.Answer.{separationAnswer};
 ghost use Rattle.congestion.specs.Answer.{densityAnswer, profileAnswer, congestionAnswer};
+ghost use Rattle.lines.specs.Lines.{entryOf};
 ghost use Rattle.records.specs.Records.{ofParallel, parallelColumns};
-ghost use Rattle.records.specs.Lines.{entryOf, noParallel};
-use crate::line::Line;
-use crate::line::orientation_byte;
-use crate::line::unpacked;
-use crate::of_lines::congestion_of_lines;
-use crate::of_lines::density_of_lines;
-use crate::of_lines::profile_of_lines;
-use crate::of_lines::separation_of_lines;
+ghost use Rattle.records.specs.NoRecord.{noParallel};
 use congestion::CongestionAnswer;
+use congestion_lines::congestion_of_lines;
+use congestion_lines::density_of_lines;
+use congestion_lines::profile_of_lines;
+use lines::Line;
+use lines::orientation_byte;
+use lines::unpacked;
 use separation::SeparationAnswer;
+use separation_lines::separation_of_lines;
 
 // A straight wire segment, as separation and congestion take it.
 #[repr(C)]

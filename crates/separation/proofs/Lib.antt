@@ -14,20 +14,6 @@ pub mod WalkFigures
 pub mod AnyOrder
 pub mod Answers
 pub mod Examples
--- what code that pays for each visit and stores summaries leans on
+-- what code that pays for each visit leans on
 pub mod Allowances
-pub mod Trees
-pub mod NetCounts
-pub mod StoredTree
-pub mod StoredSearches
-pub mod StoredSets
-pub mod ActiveNets
-pub mod LineNumbering
-pub mod SlotLaws
-pub mod SweepSteps
-pub mod SweepWork
-pub mod SweepRun
-pub mod SweepLoop
-pub mod TablesMade
-pub mod AlongColumns
-pub mod WholeCall
+pub mod States

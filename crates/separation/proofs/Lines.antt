@@ -2,9 +2,9 @@
 use mathlib.Core.Path.{_≡_, refl, sym, ap, _∙_}
 use mathlib.Core.Logic.{_⊎_, inl, inr}
 use mathlib.Core.List.{List, [], _∷_, map}
-use mathlib.Core.Bool.{Bool, true, false, not, _&&_}
+use mathlib.Core.Bool.{Bool, true, false, not, _&&_, _||_}
 use Prim.Native.Nat.{ℕ, suc, _-_, _+_, _*_, _^_, _≤_, _<_}
-use native.Mathlib.Nat.{pow-succ'}
+use native.Mathlib.Nat.{le-refl, le-antisymm, pow-succ'}
 use native.Mathlib.Omega.{arith}
 use borrow.Author.Tests.{lt-ltb, le-ltb, ltb-true, leb-true, le-leb, eqb-true, eqb-false, ne-eqb, not-true, not-false}
 use lib.Dec.{ltb, leb, eqb}
@@ -13,15 +13,16 @@ use lib.Ieee.Digits.{size-lt, size-le}
 use lib.Pow.{pow-pos, pow-mono}
 use lib.Count.{leadingZeros, leading-length}
 use lib.Ieee.{size}
-use Rattle.laws.specs.Lists.{Mem, put}
+use Rattle.laws.specs.Lists.{Mem, put, some-of}
 use Rattle.laws.specs.Rows.{rowLe}
 use Rattle.laws.specs.Sort.{Sorted}
-use Rattle.laws.proofs.Tests.{clash, and-left, and-right, and-both, le-or-lt}
+use Rattle.laws.proofs.Tests.{clash, and-left, and-right, and-both, le-or-lt, or-elim, or-left, or-right}
 use Rattle.laws.proofs.ListLaws.{mem-map, map-mem, some-mem, mem-some}
 use Rattle.laws.proofs.RowLaws.{row-more}
 use Rattle.rows.specs.Rows.{Row, words, rowsInOrder}
 use Rattle.separation.specs.Lines.{differs, distinct, lines, index, levels}
 use Rattle.separation.specs.Searches.{otherIn}
+use Rattle.separation.proofs.Summaries.{otherThan, both}
 
 -- ---- the next power of two
 pub levels-enough : (n : ℕ) → n ≤ 2 ^ levels n
@@ -179,3 +180,29 @@ module _ (ls : List ℕ) (active : List Row) (n : ℕ) where
 
   pub other-widen : (a b c d : ℕ) → c ≤ a → b ≤ d → otherIn ls active n a b ≡ true → otherIn ls active n c d ≡ true
   other-widen a b c d h k t = let g = other→ a b t in →other c d (g .0) (g .1) (g .2 .0, omega (arith, g .2 .1), omega (arith, g .2 .2))
+
+-- ---- two neighbouring ranges
+module _ (ls : List ℕ) (active : List Row) where
+  pub other-join : (n a b c : ℕ) → a ≤ b → b ≤ c → (otherIn ls active n a b || otherIn ls active n b c) ≡ otherIn ls active n a c
+  other-join n a b c h k =
+      let x = otherIn ls active n a b in
+      let y = otherIn ls active n b c in
+      both (x || y) (otherIn ls active n a c)
+      (λ t. elim (or-elim x y t) [ inl u ↦ other-widen ls active n a b a c (le-refl a) k u | inr u ↦ other-widen ls active n b c a c h (le-refl c) u ])
+      (λ t. elim (other-splits ls active n a b c t) [ inl u ↦ or-left x y u | inr u ↦ or-right x y u ])
+
+  -- a leaf: any list of the nets that are active on its line, in any order, one net once or more often
+  module _ (i : ℕ) (l : List ℕ) (f : (m : ℕ) → Mem m l → (r : Row) × Mem r active × (index ls (r .line) ≡ i) × (r .net ≡ m)) (g : (r : Row) → Mem r active → index ls (r .line) ≡ i → Mem (r .net) l) where
+    pub leaf-nets : (n : ℕ) → some-of (otherThan n) l ≡ otherIn ls active n i (i + 1)
+    leaf-nets n = both (some-of (otherThan n) l) (otherIn ls active n i (i + 1)) to from
+      where
+        to : some-of (otherThan n) l ≡ true → otherIn ls active n i (i + 1) ≡ true
+        to t =
+            let x = some-mem (otherThan n) l t in
+            let r = f (x .0) (x .1) in
+            →other ls active n i (i + 1) (r .0) (r .1) ((λ e. eqb-false (x .0) n (not-true (eqb (x .0) n) (x .2)) (sym (r .3) ∙ e)), omega (arith, r .2), omega (arith, r .2))
+
+        from : otherIn ls active n i (i + 1) ≡ true → some-of (otherThan n) l ≡ true
+        from t =
+            let x = other→ ls active n i (i + 1) t in
+            mem-some (otherThan n) (x .0 .net) l (g (x .0) (x .1) (le-antisymm (omega (arith, x .2 .2)) (x .2 .1))) (ap not (ne-eqb (x .0 .net) n (x .2 .0)))

@@ -3,15 +3,16 @@ use mathlib.Core.Path.{_≡_, refl, sym, ap, _∙_, subst}
 use mathlib.Core.Logic.{inl, inr}
 use mathlib.Core.Bool.{Bool, true, false, not, _||_}
 use mathlib.Core.List.{List, [], _∷_}
-use Prim.Native.Nat.{ℕ}
-use borrow.Author.Tests.{ne-eqb, eqb-true, eqb-false, not-true}
+use Prim.Native.Nat.{ℕ, _+_, _-_, _≤_, _<_}
+use native.Mathlib.Omega.{arith}
+use borrow.Author.Tests.{ne-eqb, eqb-true, eqb-false, not-true, le-leb, lt-leb}
 use lib.Dec.{eqb}
 use Rattle.laws.specs.Lists.{Mem, some-of, keep}
 use Rattle.laws.proofs.Tests.{decide, is-true, of-true, same-test, or-false}
 use Rattle.laws.proofs.ListLaws.{mem-some, some-mem, mem-chosen, chosen-mem}
 use Rattle.separation.specs.declared.summary.NetSummary.{NetSummary}
 use Rattle.separation.specs.declared.summary.NetSummary.the-variants.{Nothing, One, Two}
-use Rattle.separation.specs.Summaries.{hasOther}
+use Rattle.separation.specs.Summaries.{hasOther, summaryOfWord}
 
 -- ---- the summary of a list of nets
 abbrev pub otherThan : ℕ → ℕ → Bool
@@ -130,3 +131,23 @@ module _ (s : NetSummary) (n : ℕ) where
   pub other-two : s ≡ Two → true ≡ hasOther s n
   unfolding hasOther
   other-two e = rw e
+
+-- ---- words
+pub word-nothing : (w : ℕ) → w ≡ 0 → Nothing ≡ summaryOfWord w
+unfolding summaryOfWord
+word-nothing w e = rw e
+
+pub word-one : (w : ℕ) → (w ≡ 0 → ⊥) → w ≤ 4294967296 → One (w - 1) ≡ summaryOfWord w
+unfolding summaryOfWord
+word-one w n h = rw (ne-eqb w 0 n, le-leb w 4294967296 h)
+
+pub word-two : (w : ℕ) → (w ≡ 0 → ⊥) → 4294967296 < w → Two ≡ summaryOfWord w
+unfolding summaryOfWord
+word-two w n h = rw (ne-eqb w 0 n, lt-leb w 4294967296 h)
+
+pub one-word : (net : ℕ) → net < 4294967296 → summaryOfWord (net + 1) ≡ One net
+one-word net h = sym (word-one (net + 1) (λ e. omega arith) (omega arith)) ∙ ap One (omega arith)
+
+-- the word of two words' summaries together
+pub merged-words : (a b r : ℕ) (x y z : NetSummary) → x ≡ summaryOfWord a → y ≡ summaryOfWord b → ((n : ℕ) → hasOther z n ≡ (hasOther x n || hasOther y n)) → summaryOfWord r ≡ z → (n : ℕ) → hasOther (summaryOfWord r) n ≡ (hasOther (summaryOfWord a) n || hasOther (summaryOfWord b) n)
+merged-words a b r x y z e f m g n = ap (λ (w : NetSummary). hasOther w n) g ∙ m n ∙ (λ i. hasOther (e i) n || hasOther (f i) n)

@@ -20,7 +20,7 @@ use Rattle.separation.specs.Lines.{index}
 use Rattle.separation.specs.Searches.{otherIn}
 use Rattle.separation.specs.TwoNets.{TwoNets, insert, insertAll, fromNets, listed, merged, isOther, hasOther, summaryOver}
 use Rattle.separation.proofs.Summaries.{otherThan, two-decide}
-use Rattle.separation.proofs.Trees.{other-join, leaf-nets}
+use Rattle.separation.proofs.Lines.{other-join, leaf-nets}
 
 -- the places fill from the first on, and two nets differ
 abbrev Apart : Option ℕ → Option ℕ → Type 0

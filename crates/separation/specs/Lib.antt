@@ -5,10 +5,6 @@ pub mod Searches
 pub mod Walk
 pub mod TwoNets
 pub mod Answer
--- what only private contracts cite
+-- what only the contracts of inner functions cite
 pub mod Summaries
-pub mod ActiveTree
-pub mod ActiveNets
-pub mod Prepared
-pub mod Numbered
-pub mod Sweeping
+pub mod States

@@ -9,8 +9,8 @@ use Rattle.laws.specs.Lists.{some-of}
 use Rattle.laws.specs.Charged.{Charged, free, visit, after}
 use Rattle.laws.specs.Allowance.{Outcome, spent, left}
 use Rattle.rows.specs.Rows.{Row}
-use Rattle.separation.specs.declared.tree.Search.{Search}
-use Rattle.separation.specs.declared.tree.Search.the-variants.{Found, Empty, Spent}
+use Rattle.separation.specs.declared.search.Search.{Search}
+use Rattle.separation.specs.declared.search.Search.the-variants.{Found, Empty, Spent}
 use Rattle.separation.specs.Lines.{index}
 
 -- some active segment of another net than n lies on a line from a on, before b: what the Rust's summaries decide (`two-nets-decide` in proofs/TwoNets.antt)

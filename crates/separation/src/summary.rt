@@ -2,10 +2,10 @@
 ghost use mathlib.Core.Path.{_≡_};
 ghost use mathlib.Core.Bool.{_||_};
 ghost use Prim.Native.Nat.{ℕ};
-ghost use Rattle.separation.specs.Summaries.{hasOther};
+ghost use Rattle.separation.specs.Summaries.{hasOther, summaryOfWord};
 
 // No net, one, or two different ones at least. The Rust keeps two of these; which two is of no matter, since of two different nets one is always another than the net asked for.
-pub(crate) enum NetSummary {
+pub enum NetSummary {
     Nothing,
     One(u32),
     Two,
@@ -13,7 +13,7 @@ pub(crate) enum NetSummary {
 
 impl NetSummary {
     // The summary of two ranges together.
-    pub(crate) fn merged(left: NetSummary, right: NetSummary) -> NetSummary
+    pub fn merged(left: NetSummary, right: NetSummary) -> NetSummary
         ensures { λ r. ⌜ ((n : ℕ) → hasOther r n ≡ (hasOther left n || hasOther right n)) ⌝ }
     {
         match left {
@@ -34,7 +34,7 @@ impl NetSummary {
     }
 
     // Whether some net of the summary is not the excluded one.
-    pub(crate) fn has_other(self, excluded: u32) -> bool
+    pub fn has_other(self, excluded: u32) -> bool
         ensures { λ r. ⌜ r ≡ hasOther self excluded ⌝ }
     {
         match self {
@@ -43,4 +43,37 @@ impl NetSummary {
             NetSummary::Two => true,
         }
     }
+}
+
+// A summary as a word: 0 is no net, a net and one more is that net, and any greater word is two nets.
+pub fn summary_of_word(word: u64) -> NetSummary
+    ensures { λ r. ⌜ r ≡ summaryOfWord word ⌝ }
+{
+    if word == 0 {
+        NetSummary::Nothing
+    } else if word <= 4294967296 {
+        NetSummary::One((word - 1) as u32)
+    } else {
+        NetSummary::Two
+    }
+}
+
+// The least word of a summary.
+pub fn word_of(summary: NetSummary) -> u64
+    ensures { λ r. ⌜ summaryOfWord r ≡ summary ⌝ }
+{
+    match summary {
+        NetSummary::Nothing => 0,
+        NetSummary::One(net) => net as u64 + 1,
+        NetSummary::Two => 4294967297,
+    }
+}
+
+// The word of two ranges together.
+pub fn merged_word(low: u64, high: u64) -> u64
+    ensures { λ r. ⌜ ((n : ℕ) → hasOther (summaryOfWord r) n ≡ (hasOther (summaryOfWord low) n || hasOther (summaryOfWord high) n)) ⌝ }
+{
+    let left = summary_of_word(low);
+    let right = summary_of_word(high);
+    word_of(NetSummary::merged(left, right))
 }

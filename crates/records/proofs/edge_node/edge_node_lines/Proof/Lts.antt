@@ -1,10 +1,10 @@
 -- Made by tools/records-proofs. Make it again when the code of the function changes.
 use denote.Memory as Pointee
 use Prim.Native.Nat
+use Rattle.lines.proofs.line.Line
+use Rattle.lines.proofs.line.Line.Laws
 use Rattle.records.proofs.edge_node.EdgeNodeSegment
-use Rattle.records.proofs.edge_node.EdgeNodeSegment.Laws
-use Rattle.records.proofs.line.Line
-use Rattle.records.proofs.line.Line.Laws as Laws'
+use Rattle.records.proofs.edge_node.EdgeNodeSegment.Laws as Laws'
 use borrow.Author.Called
 use borrow.Author.Tests
 use borrow.Fn.Any
@@ -67,7 +67,7 @@ abbrev y1 : Syntax.Ty
 y1 = Syntax.tyRef (Syntax.named 0) Syntax.imm y0
 
 abbrev y2 : Syntax.Ty
-y2 = Syntax.tyStruct (114 ∷ 101 ∷ 99 ∷ 111 ∷ 114 ∷ 100 ∷ 115 ∷ 58 ∷ 58 ∷ 108 ∷ 105 ∷ 110 ∷ 101 ∷ 58 ∷ 58 ∷ 76 ∷ 105 ∷ 110 ∷ 101 ∷ []) (Syntax.tcons (Syntax.tyInt Syntax.w32) (Syntax.tcons (Syntax.tyInt Syntax.w8) (Syntax.tcons (Syntax.tyFloat Ieee.binary64) (Syntax.tcons (Syntax.tyFloat Ieee.binary64) (Syntax.tcons (Syntax.tyFloat Ieee.binary64) Syntax.tnil)))))
+y2 = Syntax.tyStruct (108 ∷ 105 ∷ 110 ∷ 101 ∷ 115 ∷ 58 ∷ 58 ∷ 108 ∷ 105 ∷ 110 ∷ 101 ∷ 58 ∷ 58 ∷ 76 ∷ 105 ∷ 110 ∷ 101 ∷ []) (Syntax.tcons (Syntax.tyInt Syntax.w32) (Syntax.tcons (Syntax.tyInt Syntax.w8) (Syntax.tcons (Syntax.tyFloat Ieee.binary64) (Syntax.tcons (Syntax.tyFloat Ieee.binary64) (Syntax.tcons (Syntax.tyFloat Ieee.binary64) Syntax.tnil)))))
 
 abbrev y3 : Syntax.Ty
 y3 = Syntax.tyStruct (114 ∷ 101 ∷ 99 ∷ 111 ∷ 114 ∷ 100 ∷ 115 ∷ 58 ∷ 58 ∷ 101 ∷ 100 ∷ 103 ∷ 101 ∷ 95 ∷ 110 ∷ 111 ∷ 100 ∷ 101 ∷ 58 ∷ 58 ∷ 69 ∷ 100 ∷ 103 ∷ 101 ∷ 78 ∷ 111 ∷ 100 ∷ 101 ∷ 83 ∷ 101 ∷ 103 ∷ 109 ∷ 101 ∷ 110 ∷ 116 ∷ []) (Syntax.tcons (Syntax.tyInt Syntax.w32) (Syntax.tcons Syntax.tyBool (Syntax.tcons (Syntax.tyFloat Ieee.binary64) (Syntax.tcons (Syntax.tyFloat Ieee.binary64) (Syntax.tcons (Syntax.tyFloat Ieee.binary64) Syntax.tnil)))))
@@ -157,7 +157,7 @@ abbrev pub ps : List.List (Kinds.PK 1)
 ps = (ShrSlice.pShrS EdgeNodeSegment.the-row 0 tt) ∷ []
 
 abbrev pub r : Kinds.RK 1
-r = Array.rArr (Array.eStruct Line.the-type Laws'.the-laws Laws'.the-copy) (Array.eStruct-laws Line.the-type Laws'.the-laws Laws'.the-copy Laws'.the-plain) 4097
+r = Array.rArr (Array.eStruct Line.the-type Laws.the-laws Laws.the-copy) (Array.eStruct-laws Line.the-type Laws.the-laws Laws.the-copy Laws.the-plain) 4097
 
 abbrev pub xs : List.List Syntax.Ty
 xs = (Syntax.tyInt Syntax.w64) ∷ y2 ∷ (Syntax.tyArray y2 4097) ∷ (Syntax.tyInt Syntax.w64) ∷ y3 ∷ (Syntax.tyInt Syntax.w64) ∷ Syntax.tyBool ∷ y2 ∷ (Syntax.tyInt Syntax.w64) ∷ Syntax.tyPtr ∷ Syntax.tyPtr ∷ []
@@ -175,13 +175,13 @@ abbrev pub ps·1 : List.List (Kinds.PK 1)
 ps·1 = (ShrSlice.pShrS EdgeNodeSegment.the-row 0 tt) ∷ (Num.pNum Syntax.w64) ∷ []
 
 abbrev pub r·1 : Kinds.RK 1
-r·1 = Value.rVal record { ty = Declared.row EdgeNodeSegment.the-type; one = Path'.refl; val = Laws''.val EdgeNodeSegment.the-type Laws.the-laws; tells = Laws''.tells EdgeNodeSegment.the-type Laws.the-laws; still = Laws''.still EdgeNodeSegment.the-type Laws.the-copy Exit.yes; row = Rows'.whole (Declared.row EdgeNodeSegment.the-type); rd = λ x. x; mk = λ x. x } λ M 𝓤 H A W. record { copies = Laws''.copy EdgeNodeSegment.the-type Laws.the-copy 𝓤 H A W; lawful = Laws''.lawful EdgeNodeSegment.the-type Laws.the-laws 𝓤 H A W; makes = Laws''.makes EdgeNodeSegment.the-type Laws.the-plain 𝓤 H A; in-mem = Local.mem-whole 𝓤 H A W (Declared.row EdgeNodeSegment.the-type); of-mem = Local.whole-mem 𝓤 H A W (Declared.row EdgeNodeSegment.the-type) }
+r·1 = Value.rVal record { ty = Declared.row EdgeNodeSegment.the-type; one = Path'.refl; val = Laws''.val EdgeNodeSegment.the-type Laws'.the-laws; tells = Laws''.tells EdgeNodeSegment.the-type Laws'.the-laws; still = Laws''.still EdgeNodeSegment.the-type Laws'.the-copy Exit.yes; row = Rows'.whole (Declared.row EdgeNodeSegment.the-type); rd = λ x. x; mk = λ x. x } λ M 𝓤 H A W. record { copies = Laws''.copy EdgeNodeSegment.the-type Laws'.the-copy 𝓤 H A W; lawful = Laws''.lawful EdgeNodeSegment.the-type Laws'.the-laws 𝓤 H A W; makes = Laws''.makes EdgeNodeSegment.the-type Laws'.the-plain 𝓤 H A; in-mem = Local.mem-whole 𝓤 H A W (Declared.row EdgeNodeSegment.the-type); of-mem = Local.whole-mem 𝓤 H A W (Declared.row EdgeNodeSegment.the-type) }
 
 abbrev pub ps·2 : List.List (Kinds.PK 0)
-ps·2 = (Value.pVal record { ty = Declared.row EdgeNodeSegment.the-type; one = Path'.refl; val = Laws''.val EdgeNodeSegment.the-type Laws.the-laws; tells = Laws''.tells EdgeNodeSegment.the-type Laws.the-laws; still = Laws''.still EdgeNodeSegment.the-type Laws.the-copy Exit.yes; row = Rows'.whole (Declared.row EdgeNodeSegment.the-type); rd = λ x. x; mk = λ x. x } λ M 𝓤 H A W. record { copies = Laws''.copy EdgeNodeSegment.the-type Laws.the-copy 𝓤 H A W; lawful = Laws''.lawful EdgeNodeSegment.the-type Laws.the-laws 𝓤 H A W; makes = Laws''.makes EdgeNodeSegment.the-type Laws.the-plain 𝓤 H A; in-mem = Local.mem-whole 𝓤 H A W (Declared.row EdgeNodeSegment.the-type); of-mem = Local.whole-mem 𝓤 H A W (Declared.row EdgeNodeSegment.the-type) }) ∷ []
+ps·2 = (Value.pVal record { ty = Declared.row EdgeNodeSegment.the-type; one = Path'.refl; val = Laws''.val EdgeNodeSegment.the-type Laws'.the-laws; tells = Laws''.tells EdgeNodeSegment.the-type Laws'.the-laws; still = Laws''.still EdgeNodeSegment.the-type Laws'.the-copy Exit.yes; row = Rows'.whole (Declared.row EdgeNodeSegment.the-type); rd = λ x. x; mk = λ x. x } λ M 𝓤 H A W. record { copies = Laws''.copy EdgeNodeSegment.the-type Laws'.the-copy 𝓤 H A W; lawful = Laws''.lawful EdgeNodeSegment.the-type Laws'.the-laws 𝓤 H A W; makes = Laws''.makes EdgeNodeSegment.the-type Laws'.the-plain 𝓤 H A; in-mem = Local.mem-whole 𝓤 H A W (Declared.row EdgeNodeSegment.the-type); of-mem = Local.whole-mem 𝓤 H A W (Declared.row EdgeNodeSegment.the-type) }) ∷ []
 
 abbrev pub r·2 : Kinds.RK 0
-r·2 = Value.rVal record { ty = Declared.row Line.the-type; one = Path'.refl; val = Laws''.val Line.the-type Laws'.the-laws; tells = Laws''.tells Line.the-type Laws'.the-laws; still = Laws''.still Line.the-type Laws'.the-copy Exit.yes; row = Rows'.whole (Declared.row Line.the-type); rd = λ x. x; mk = λ x. x } λ M 𝓤 H A W. record { copies = Laws''.copy Line.the-type Laws'.the-copy 𝓤 H A W; lawful = Laws''.lawful Line.the-type Laws'.the-laws 𝓤 H A W; makes = Laws''.makes Line.the-type Laws'.the-plain 𝓤 H A; in-mem = Local.mem-whole 𝓤 H A W (Declared.row Line.the-type); of-mem = Local.whole-mem 𝓤 H A W (Declared.row Line.the-type) }
+r·2 = Value.rVal record { ty = Declared.row Line.the-type; one = Path'.refl; val = Laws''.val Line.the-type Laws.the-laws; tells = Laws''.tells Line.the-type Laws.the-laws; still = Laws''.still Line.the-type Laws.the-copy Exit.yes; row = Rows'.whole (Declared.row Line.the-type); rd = λ x. x; mk = λ x. x } λ M 𝓤 H A W. record { copies = Laws''.copy Line.the-type Laws.the-copy 𝓤 H A W; lawful = Laws''.lawful Line.the-type Laws.the-laws 𝓤 H A W; makes = Laws''.makes Line.the-type Laws.the-plain 𝓤 H A; in-mem = Local.mem-whole 𝓤 H A W (Declared.row Line.the-type); of-mem = Local.whole-mem 𝓤 H A W (Declared.row Line.the-type) }
 
 abbrev pub hs : List.List Syntax.Home
 hs = Syntax.valueLocal ∷ Syntax.valueLocal ∷ Syntax.valueLocal ∷ Syntax.valueLocal ∷ Syntax.memorySlot ∷ Syntax.valueLocal ∷ Syntax.valueLocal ∷ Syntax.valueLocal ∷ Syntax.valueLocal ∷ Syntax.valueLocal ∷ Syntax.valueLocal ∷ Syntax.valueLocal ∷ Syntax.valueLocal ∷ []
@@ -190,7 +190,7 @@ abbrev b0 : Syntax.Body
 b0 = Syntax.assign (Syntax.place 7 []) (Syntax.rvOpd (Syntax.copy (Syntax.place 1 ((Syntax.field 1) ∷ []))))
 
 abbrev b1 : Syntax.Body
-b1 = Syntax.call "records::line::unpacked" ((Syntax.copy (Syntax.place 7 [])) ∷ []) (Syntax.place 2 [])
+b1 = Syntax.call "lines::line::unpacked" ((Syntax.copy (Syntax.place 7 [])) ∷ []) (Syntax.place 2 [])
 
 abbrev b2 : Syntax.Body
 b2 = Syntax.assign (Syntax.place 3 []) (Syntax.aggregate ((Syntax.int Syntax.w32 0) ∷ (Syntax.int Syntax.w8 0) ∷ (Syntax.float Ieee.binary64 0) ∷ (Syntax.float Ieee.binary64 0) ∷ (Syntax.float Ieee.binary64 0) ∷ []))
@@ -577,7 +577,7 @@ module _ (claims· : Claims) where
   module _ (Pre· : (κs : Lifetimes.Lfts 1) → Kinds.Dens κs ps → Type 0) (Post· : (κs : Lifetimes.Lfts 1) → (a : Kinds.Dens κs ps) → Kinds.Plain 1 ps r κs) where
     module _ (M : Type 1) where
       abbrev pub Closed : Type 2
-      Closed = (𝓤 : URA.URA M) (H : Wp.Heap 𝓤) (A : Atoms.Atoms 𝓤) (W : Kit.Given 𝓤 H A) (𝓣 : Wp.Tables 𝓤 H) (known0 : Plain.Known 𝓤 H A W 𝓣 0 ps·0 r·0 (claims· .0) (claims· .1) "records::line::unpacked") (known1 : Plain.Known 𝓤 H A W 𝓣 1 ps·1 r·1 (claims· .2) (claims· .3) "records::edge_node::edge_node_at") (known2 : Plain.Known 𝓤 H A W 𝓣 0 ps·2 r·2 (claims· .4) (claims· .5) "records::edge_node::edge_node_line") → Statement.Triple 𝓤 (Wp.WpFn 𝓤 H (𝓣 .C) (𝓣 .Λ) (Function.fnOf 1 ps r xs m hs body)) (Function.plainOf 𝓤 H A 1 ps r Pre· Post·)
+      Closed = (𝓤 : URA.URA M) (H : Wp.Heap 𝓤) (A : Atoms.Atoms 𝓤) (W : Kit.Given 𝓤 H A) (𝓣 : Wp.Tables 𝓤 H) (known0 : Plain.Known 𝓤 H A W 𝓣 0 ps·0 r·0 (claims· .0) (claims· .1) "lines::line::unpacked") (known1 : Plain.Known 𝓤 H A W 𝓣 1 ps·1 r·1 (claims· .2) (claims· .3) "records::edge_node::edge_node_at") (known2 : Plain.Known 𝓤 H A W 𝓣 0 ps·2 r·2 (claims· .4) (claims· .5) "records::edge_node::edge_node_line") → Statement.Triple 𝓤 (Wp.WpFn 𝓤 H (𝓣 .C) (𝓣 .Λ) (Function.fnOf 1 ps r xs m hs body)) (Function.plainOf 𝓤 H A 1 ps r Pre· Post·)
 
     module _ (Inv·0 : InvT-loop) (μ·0 : MeasureT-loop) where
       abbrev at0 : (bs : List.List Nat.ℕ) → Typed.TF T14 O4
@@ -693,7 +693,7 @@ module _ (claims· : Claims) where
 
       module _ {M : Type 1} (𝓤 : URA.URA M) (H : Wp.Heap 𝓤) (A : Atoms.Atoms 𝓤) (W : Kit.Given 𝓤 H A) (𝓣 : Wp.Tables 𝓤 H) where
         abbrev Knowns : Type 1
-        Knowns = Plain.Known 𝓤 H A W 𝓣 0 ps·0 r·0 (claims· .0) (claims· .1) "records::line::unpacked" × Plain.Known 𝓤 H A W 𝓣 1 ps·1 r·1 (claims· .2) (claims· .3) "records::edge_node::edge_node_at" × Plain.Known 𝓤 H A W 𝓣 0 ps·2 r·2 (claims· .4) (claims· .5) "records::edge_node::edge_node_line"
+        Knowns = Plain.Known 𝓤 H A W 𝓣 0 ps·0 r·0 (claims· .0) (claims· .1) "lines::line::unpacked" × Plain.Known 𝓤 H A W 𝓣 1 ps·1 r·1 (claims· .2) (claims· .3) "records::edge_node::edge_node_at" × Plain.Known 𝓤 H A W 𝓣 0 ps·2 r·2 (claims· .4) (claims· .5) "records::edge_node::edge_node_line"
 
       module _ (κs : Lifetimes.Lfts 1) (qs : Lifetimes.Shares 1) where
         abbrev G0 : Row.Cx
@@ -839,7 +839,7 @@ module _ (claims· : Claims) where
           d8 = Typed.g-pre 𝓤 H A W 𝓣 E G23 G24 b15 Δ3 (Typed.pass T23 T24 (s20 bs)) (at7 bs) (Scalar.g-room 𝓤 H A W E G23 9 y2 (Local.room-whole 𝓤 H A W (Declared.row Line.the-type) y2 Path'.refl)) d7
 
           d9 : Typed.Typed 𝓤 H A 𝓣 E G22 b16 Δ3 (at9 bs)
-          d9 = Typed.s-seq 𝓤 H A W 𝓣 E G22 G23 b14 b15 Δ3 (Typed.ask (s19 bs)) (at8 bs) (Move.t-arr-set-from 𝓤 H A W E 𝓣 (Declared.row Line.the-type) Path'.refl (Init.scaled (Declared.row Line.the-type)) (λ ρ. Unit) G22 4 12 9 4097 0 y2 y2 (Rows'.whole (Declared.row Line.the-type)) (λ x. x) (λ x. x) (λ x. x) (λ x. x) (λ u. u .1 .1 .1 .1 .1 .0) Path'.refl Path'.refl (Own.told-none 𝓤 H A (G22 .slots)) (Reads'.as-is 𝓤 H A (Rows.arrF (Declared.row Line.the-type) 4097 0)) (Reads'.as-is 𝓤 H A (Rows'.sc-here Row.sPtr)) (Yields.yields-copy 𝓤 H A W (λ ρ. Unit) (Declared.row Line.the-type) Path'.refl (Copies.cStruct Line.the-type Laws'.the-laws Laws'.the-copy .copy 𝓤 H A W) (Rows'.whole (Declared.row Line.the-type)) (λ x. x) (λ x. x) (λ ρ told. Local.mem-whole 𝓤 H A W (Declared.row Line.the-type) ρ) λ ρ told. Local.whole-mem 𝓤 H A W (Declared.row Line.the-type) ρ) Path'.refl Path'.refl) d8
+          d9 = Typed.s-seq 𝓤 H A W 𝓣 E G22 G23 b14 b15 Δ3 (Typed.ask (s19 bs)) (at8 bs) (Move.t-arr-set-from 𝓤 H A W E 𝓣 (Declared.row Line.the-type) Path'.refl (Init.scaled (Declared.row Line.the-type)) (λ ρ. Unit) G22 4 12 9 4097 0 y2 y2 (Rows'.whole (Declared.row Line.the-type)) (λ x. x) (λ x. x) (λ x. x) (λ x. x) (λ u. u .1 .1 .1 .1 .1 .0) Path'.refl Path'.refl (Own.told-none 𝓤 H A (G22 .slots)) (Reads'.as-is 𝓤 H A (Rows.arrF (Declared.row Line.the-type) 4097 0)) (Reads'.as-is 𝓤 H A (Rows'.sc-here Row.sPtr)) (Yields.yields-copy 𝓤 H A W (λ ρ. Unit) (Declared.row Line.the-type) Path'.refl (Copies.cStruct Line.the-type Laws.the-laws Laws.the-copy .copy 𝓤 H A W) (Rows'.whole (Declared.row Line.the-type)) (λ x. x) (λ x. x) (λ ρ told. Local.mem-whole 𝓤 H A W (Declared.row Line.the-type) ρ) λ ρ told. Local.whole-mem 𝓤 H A W (Declared.row Line.the-type) ρ) Path'.refl Path'.refl) d8
 
           d10 : Typed.Typed 𝓤 H A 𝓣 E G21 b16 Δ3 (at10 bs)
           d10 = Typed.g-pre 𝓤 H A W 𝓣 E G21 G22 b16 Δ3 (Typed.pass T21 T22 (s18 bs)) (at9 bs) (Scalar.g-room 𝓤 H A W E G21 11 Syntax.tyPtr (Scalar.room-sc 𝓤 H A W Row.sPtr)) d9
@@ -857,7 +857,7 @@ module _ (claims· : Claims) where
           d14 = Typed.g-pre 𝓤 H A W 𝓣 E G17 G18 b19 Δ3 (Typed.pass T17 T18 (s14 bs)) (at13 bs) (Scalar.g-room 𝓤 H A W E G17 6 y3 (Local.room-whole 𝓤 H A W (Declared.row EdgeNodeSegment.the-type) y3 Path'.refl)) d13
 
           d15 : Typed.Typed 𝓤 H A 𝓣 E G16 b20 Δ3 (at15 bs)
-          d15 = Typed.s-seq 𝓤 H A W 𝓣 E G16 G17 b10 b19 Δ3 (Typed.both (s13 bs)) (at14 bs) (Plain.t-call-plain 𝓤 H A W 𝓣 0 ps·2 r·2 (claims· .4) (claims· .5) "records::edge_node::edge_node_line" (known .2) E (λ pos β. β) G16 (record { pos = 6; st = []; d = 0; at = λ x. x }, tt) 9 [] (Call.sub-id 𝓤 H A W (G16 .slots)) ((Yields.yields-copy 𝓤 H A W (λ ρ. Unit) (Declared.row EdgeNodeSegment.the-type) Path'.refl (Copies.cStruct EdgeNodeSegment.the-type Laws.the-laws Laws.the-copy .copy 𝓤 H A W) (Rows'.whole (Declared.row EdgeNodeSegment.the-type)) (λ x. x) (λ x. x) (λ ρ told. Local.mem-whole 𝓤 H A W (Declared.row EdgeNodeSegment.the-type) ρ) λ ρ told. Local.whole-mem 𝓤 H A W (Declared.row EdgeNodeSegment.the-type) ρ, Path'.refl), tt) (Reads'.room-gone 𝓤 H A y2) tt Path'.refl) d14
+          d15 = Typed.s-seq 𝓤 H A W 𝓣 E G16 G17 b10 b19 Δ3 (Typed.both (s13 bs)) (at14 bs) (Plain.t-call-plain 𝓤 H A W 𝓣 0 ps·2 r·2 (claims· .4) (claims· .5) "records::edge_node::edge_node_line" (known .2) E (λ pos β. β) G16 (record { pos = 6; st = []; d = 0; at = λ x. x }, tt) 9 [] (Call.sub-id 𝓤 H A W (G16 .slots)) ((Yields.yields-copy 𝓤 H A W (λ ρ. Unit) (Declared.row EdgeNodeSegment.the-type) Path'.refl (Copies.cStruct EdgeNodeSegment.the-type Laws'.the-laws Laws'.the-copy .copy 𝓤 H A W) (Rows'.whole (Declared.row EdgeNodeSegment.the-type)) (λ x. x) (λ x. x) (λ ρ told. Local.mem-whole 𝓤 H A W (Declared.row EdgeNodeSegment.the-type) ρ) λ ρ told. Local.whole-mem 𝓤 H A W (Declared.row EdgeNodeSegment.the-type) ρ, Path'.refl), tt) (Reads'.room-gone 𝓤 H A y2) tt Path'.refl) d14
 
           d16 : Typed.Typed 𝓤 H A 𝓣 E G13 b21 Δ3 (at16 bs)
           d16 = Typed.s-seq 𝓤 H A W 𝓣 E G13 G16 b9 b20 Δ3 (Typed.both (s12 bs)) (at15 bs) (Plain.t-call-plain 𝓤 H A W 𝓣 1 ps·1 r·1 (claims· .2) (claims· .3) "records::edge_node::edge_node_at" (known .1) E (λ pos β. β) G13 (record { pos = 1; ty = Syntax.tyRef (Syntax.named 0) Syntax.imm y0; ref = λ x. x }, (Num.vAt 5 λ x. x, tt)) 6 (0 ∷ []) (Call.sub-id 𝓤 H A W (G13 .slots)) (ShrSlice.spares-sslice 𝓤 H A W EdgeNodeSegment.the-row y1 0, Shared.reads-sslice 𝓤 H A W EdgeNodeSegment.the-row y1 0, Path'.refl, ((Scalar.reads-sc 𝓤 H A W (Row.sInt Syntax.w64), Path'.refl), tt)) (Reads'.room-gone 𝓤 H A y3) (tt, tt) Path'.refl) d15
@@ -887,7 +887,7 @@ module _ (claims· : Claims) where
           d24 = Typed.g-pre 𝓤 H A W 𝓣 E G28 G29 b27 Δ0 (Typed.pass T28 T29 (s25 bs)) (at23 bs) (Scalar.g-room 𝓤 H A W E G28 2 (Syntax.tyInt Syntax.w64) (Scalar.room-sc 𝓤 H A W (Row.sInt Syntax.w64))) d23
 
           d25 : Typed.Typed 𝓤 H A 𝓣 E G11 b28 Δ0 (at25 bs)
-          d25 = Typed.s-seq 𝓤 H A W 𝓣 E G11 G28 b26 b27 Δ0 (Typed.pass T11 T28 (s24 bs)) (at24 bs) (LocalCopy.t-val-copy 𝓤 H A W E 𝓣 (λ ρ. Unit) G11 4 0 (Array'.Array (Declared.row Line.the-type) 4097) (Syntax.tyArray y2 4097) (Syntax.tyArray y2 4097) (Rows.arrF (Declared.row Line.the-type) 4097 0) (Rows.arrF (Declared.row Line.the-type) 4097 0) (λ x. x) (λ x. x) (λ x. x) Path'.refl (Own.told-none 𝓤 H A (G11 .slots)) (Yields.yields-copy 𝓤 H A W (λ ρ. Unit) (Array'.Array (Declared.row Line.the-type) 4097) Path'.refl (Copies.cArr (Declared.row Line.the-type) (Copies.cStruct Line.the-type Laws'.the-laws Laws'.the-copy) 4097 .copy 𝓤 H A W) (Rows.arrF (Declared.row Line.the-type) 4097 0) (λ x. x) (λ x. x) (λ ρ told. Whole.mem-arr 𝓤 H A W (Declared.row Line.the-type) 4097 ρ) λ ρ told. Whole.arr-mem 𝓤 H A W (Declared.row Line.the-type) 4097 tt ρ) (Reads'.room-gone 𝓤 H A (Syntax.tyArray y2 4097)) (Yields.makes-mem 𝓤 H A W (λ ρ. Unit) (Array'.Array (Declared.row Line.the-type) 4097) Path'.refl (Rows.arrF (Declared.row Line.the-type) 4097 0) (λ x. x) λ ρ told. Whole.arr-mem 𝓤 H A W (Declared.row Line.the-type) 4097 tt ρ) Path'.refl Path'.refl) d24
+          d25 = Typed.s-seq 𝓤 H A W 𝓣 E G11 G28 b26 b27 Δ0 (Typed.pass T11 T28 (s24 bs)) (at24 bs) (LocalCopy.t-val-copy 𝓤 H A W E 𝓣 (λ ρ. Unit) G11 4 0 (Array'.Array (Declared.row Line.the-type) 4097) (Syntax.tyArray y2 4097) (Syntax.tyArray y2 4097) (Rows.arrF (Declared.row Line.the-type) 4097 0) (Rows.arrF (Declared.row Line.the-type) 4097 0) (λ x. x) (λ x. x) (λ x. x) Path'.refl (Own.told-none 𝓤 H A (G11 .slots)) (Yields.yields-copy 𝓤 H A W (λ ρ. Unit) (Array'.Array (Declared.row Line.the-type) 4097) Path'.refl (Copies.cArr (Declared.row Line.the-type) (Copies.cStruct Line.the-type Laws.the-laws Laws.the-copy) 4097 .copy 𝓤 H A W) (Rows.arrF (Declared.row Line.the-type) 4097 0) (λ x. x) (λ x. x) (λ ρ told. Whole.mem-arr 𝓤 H A W (Declared.row Line.the-type) 4097 ρ) λ ρ told. Whole.arr-mem 𝓤 H A W (Declared.row Line.the-type) 4097 tt ρ) (Reads'.room-gone 𝓤 H A (Syntax.tyArray y2 4097)) (Yields.makes-mem 𝓤 H A W (λ ρ. Unit) (Array'.Array (Declared.row Line.the-type) 4097) Path'.refl (Rows.arrF (Declared.row Line.the-type) 4097 0) (λ x. x) λ ρ told. Whole.arr-mem 𝓤 H A W (Declared.row Line.the-type) 4097 tt ρ) Path'.refl Path'.refl) d24
 
           d26 : Typed.Typed 𝓤 H A 𝓣 E G10 b29 Δ0 (at26 bs)
           d26 = Typed.t-seq 𝓤 H A W 𝓣 E G10 G11 b25 b28 Δ0 (at20 bs) (at25 bs) d20 d25
@@ -902,19 +902,19 @@ module _ (claims· : Claims) where
           d29 = Typed.g-pre 𝓤 H A W 𝓣 E G7 G8 b30 Δ0 (Typed.pass T7 T8 (s6 bs)) (at28 bs) (AtSlots.g-as-by 𝓤 H A W E (λ ρ. Unit) G7 4 (Rows.arrF (Declared.row Line.the-type) 4097 0) (λ x. x) (Own.told-none 𝓤 H A (G7 .slots)) λ ρ told. Repeat.whole-arr 𝓤 H A W (Declared.row Line.the-type) 4097 tt ρ) d28
 
           d30 : Typed.Typed 𝓤 H A 𝓣 E G6 b31 Δ0 (at30 bs)
-          d30 = Typed.s-seq 𝓤 H A W 𝓣 E G6 G7 b3 b30 Δ0 (Typed.pass T6 T7 (s5 bs)) (at29 bs) (Repeat.t-repeat-by 𝓤 H A W E 𝓣 (Declared.row Line.the-type) (Laws''.lawful Line.the-type Laws'.the-laws 𝓤 H A W) (Copies.cStruct Line.the-type Laws'.the-laws Laws'.the-copy .copy 𝓤 H A W) 4097 G6 4 (Scalar.oAt 3 y2 λ x. Steps.only (Copies.cStruct Line.the-type Laws'.the-laws Laws'.the-copy .vals x)) (λ m. m .1 .1 .1 .0) (λ ρ. Unit) (Reads'.room-gone 𝓤 H A (Syntax.tyArray y2 4097)) (Reads.reads-struct 𝓤 H A W Line.the-type Laws'.the-laws, Path'.refl) Path'.refl (Own.told-none 𝓤 H A (G6 .slots)) λ ρ m pf wa. Gives.elem-local 𝓤 H A W E ρ (Declared.row Line.the-type) (λ x. Steps.only (Copies.cStruct Line.the-type Laws'.the-laws Laws'.the-copy .vals x)) (Copies.cStruct Line.the-type Laws'.the-laws Laws'.the-copy .tells) (Row.out 4 (G6 .locals)) m (λ ρ. Unit) pf 3 y2 (λ x. x) (Yields.yields-copy 𝓤 H A W (λ ρ. Unit) (Declared.row Line.the-type) Path'.refl (Copies.cStruct Line.the-type Laws'.the-laws Laws'.the-copy .copy 𝓤 H A W) (Rows'.whole (Declared.row Line.the-type)) (λ x. x) (λ x. x) (λ ρ told. Local.mem-whole 𝓤 H A W (Declared.row Line.the-type) ρ) λ ρ told. Local.whole-mem 𝓤 H A W (Declared.row Line.the-type) ρ)) d29
+          d30 = Typed.s-seq 𝓤 H A W 𝓣 E G6 G7 b3 b30 Δ0 (Typed.pass T6 T7 (s5 bs)) (at29 bs) (Repeat.t-repeat-by 𝓤 H A W E 𝓣 (Declared.row Line.the-type) (Laws''.lawful Line.the-type Laws.the-laws 𝓤 H A W) (Copies.cStruct Line.the-type Laws.the-laws Laws.the-copy .copy 𝓤 H A W) 4097 G6 4 (Scalar.oAt 3 y2 λ x. Steps.only (Copies.cStruct Line.the-type Laws.the-laws Laws.the-copy .vals x)) (λ m. m .1 .1 .1 .0) (λ ρ. Unit) (Reads'.room-gone 𝓤 H A (Syntax.tyArray y2 4097)) (Reads.reads-struct 𝓤 H A W Line.the-type Laws.the-laws, Path'.refl) Path'.refl (Own.told-none 𝓤 H A (G6 .slots)) λ ρ m pf wa. Gives.elem-local 𝓤 H A W E ρ (Declared.row Line.the-type) (λ x. Steps.only (Copies.cStruct Line.the-type Laws.the-laws Laws.the-copy .vals x)) (Copies.cStruct Line.the-type Laws.the-laws Laws.the-copy .tells) (Row.out 4 (G6 .locals)) m (λ ρ. Unit) pf 3 y2 (λ x. x) (Yields.yields-copy 𝓤 H A W (λ ρ. Unit) (Declared.row Line.the-type) Path'.refl (Copies.cStruct Line.the-type Laws.the-laws Laws.the-copy .copy 𝓤 H A W) (Rows'.whole (Declared.row Line.the-type)) (λ x. x) (λ x. x) (λ ρ told. Local.mem-whole 𝓤 H A W (Declared.row Line.the-type) ρ) λ ρ told. Local.whole-mem 𝓤 H A W (Declared.row Line.the-type) ρ)) d29
 
           d31 : Typed.Typed 𝓤 H A 𝓣 E G5 b31 Δ0 (at31 bs)
           d31 = Typed.g-pre 𝓤 H A W 𝓣 E G5 G6 b31 Δ0 (Typed.pass T5 T6 (s4 bs)) (at30 bs) (AtSlots.g-as-by 𝓤 H A W E (λ ρ. Unit) G5 3 (Rows'.whole (Declared.row Line.the-type)) (λ v. Line.struct .make v tt) (Own.told-none 𝓤 H A (G5 .slots)) λ ρ told v b. Apart.folds 𝓤 H A Line.the-type (Line.struct .Ghost) (Line.struct .make) (λ v g. Path'.refl) ρ v tt b) d30
 
           d32 : Typed.Typed 𝓤 H A 𝓣 E G4 b32 Δ0 (at32 bs)
-          d32 = Typed.s-seq 𝓤 H A W 𝓣 E G4 G5 b2 b31 Δ0 (Typed.pass T4 T5 (s3 bs)) (at31 bs) (Make.t-struct-make 𝓤 H A W E 𝓣 (Apart.apartT Line.the-type) Laws'.the-laws Laws'.the-plain G4 3 ((Scalar.oInt Syntax.w32 0) ∷ (Scalar.oInt Syntax.w8 0) ∷ (Scalar.oFloat Ieee.binary64 0) ∷ (Scalar.oFloat Ieee.binary64 0) ∷ (Scalar.oFloat Ieee.binary64 0) ∷ []) (λ m. (0, (0, (Ieee.ofBits Ieee.binary64 0, (Ieee.ofBits Ieee.binary64 0, (Ieee.ofBits Ieee.binary64 0, tt)))))) (Reads'.room-gone 𝓤 H A y2) (tt, (tt, (tt, (tt, (tt, tt))))) Path'.refl (λ u. Path'.refl) λ m. Make.is-wt (Apart.apartT Line.the-type) Laws'.the-laws (Make.u32-wt, (Make.u8-wt, (Make.f64-wt, (Make.f64-wt, (Make.f64-wt, tt))))) (0, (0, (Ieee.ofBits Ieee.binary64 0, (Ieee.ofBits Ieee.binary64 0, (Ieee.ofBits Ieee.binary64 0, tt)))))) d31
+          d32 = Typed.s-seq 𝓤 H A W 𝓣 E G4 G5 b2 b31 Δ0 (Typed.pass T4 T5 (s3 bs)) (at31 bs) (Make.t-struct-make 𝓤 H A W E 𝓣 (Apart.apartT Line.the-type) Laws.the-laws Laws.the-plain G4 3 ((Scalar.oInt Syntax.w32 0) ∷ (Scalar.oInt Syntax.w8 0) ∷ (Scalar.oFloat Ieee.binary64 0) ∷ (Scalar.oFloat Ieee.binary64 0) ∷ (Scalar.oFloat Ieee.binary64 0) ∷ []) (λ m. (0, (0, (Ieee.ofBits Ieee.binary64 0, (Ieee.ofBits Ieee.binary64 0, (Ieee.ofBits Ieee.binary64 0, tt)))))) (Reads'.room-gone 𝓤 H A y2) (tt, (tt, (tt, (tt, (tt, tt))))) Path'.refl (λ u. Path'.refl) λ m. Make.is-wt (Apart.apartT Line.the-type) Laws.the-laws (Make.u32-wt, (Make.u8-wt, (Make.f64-wt, (Make.f64-wt, (Make.f64-wt, tt))))) (0, (0, (Ieee.ofBits Ieee.binary64 0, (Ieee.ofBits Ieee.binary64 0, (Ieee.ofBits Ieee.binary64 0, tt)))))) d31
 
           d33 : Typed.Typed 𝓤 H A 𝓣 E G3 b32 Δ0 (at33 bs)
           d33 = Typed.g-pre 𝓤 H A W 𝓣 E G3 G4 b32 Δ0 (Typed.pass T3 T4 (s2 bs)) (at32 bs) (Scalar.g-room 𝓤 H A W E G3 7 (Syntax.tyInt Syntax.w64) (Scalar.room-sc 𝓤 H A W (Row.sInt Syntax.w64))) d32
 
           d34 : Typed.Typed 𝓤 H A 𝓣 E G2 b33 Δ0 (at34 bs)
-          d34 = Typed.s-seq 𝓤 H A W 𝓣 E G2 G3 b1 b32 Δ0 (Typed.both (s1 bs)) (at33 bs) (Plain.t-call-plain 𝓤 H A W 𝓣 0 ps·0 r·0 (claims· .0) (claims· .1) "records::line::unpacked" (known .0) E (λ pos β. β) G2 (Num.vAt 7 λ x. x, tt) 2 [] (Call.sub-id 𝓤 H A W (G2 .slots)) ((Scalar.reads-sc 𝓤 H A W (Row.sInt Syntax.w64), Path'.refl), tt) (Reads'.room-gone 𝓤 H A (Syntax.tyInt Syntax.w64)) tt Path'.refl) d33
+          d34 = Typed.s-seq 𝓤 H A W 𝓣 E G2 G3 b1 b32 Δ0 (Typed.both (s1 bs)) (at33 bs) (Plain.t-call-plain 𝓤 H A W 𝓣 0 ps·0 r·0 (claims· .0) (claims· .1) "lines::line::unpacked" (known .0) E (λ pos β. β) G2 (Num.vAt 7 λ x. x, tt) 2 [] (Call.sub-id 𝓤 H A W (G2 .slots)) ((Scalar.reads-sc 𝓤 H A W (Row.sInt Syntax.w64), Path'.refl), tt) (Reads'.room-gone 𝓤 H A (Syntax.tyInt Syntax.w64)) tt Path'.refl) d33
 
           d35 : Typed.Typed 𝓤 H A 𝓣 E G0 b34 Δ0 (at35 bs)
           d35 = Typed.s-seq 𝓤 H A W 𝓣 E G0 G2 b0 b33 Δ0 (Typed.pass T0 T2 (s0 bs)) (at34 bs) (Scalar.t-use 𝓤 H A W E 𝓣 G0 (Scalar.oFld 1 ((Syntax.field 1) ∷ []) (Syntax.tyInt Syntax.w64) 8 Shared.lenV) 7 (Rows'.sc-here (Row.sInt Syntax.w64)) (Syntax.tyInt Syntax.w64) (Row.valS (Row.sInt Syntax.w64)) (Row.sInt Syntax.w64 .of) (Shared.reads-sslice-len 𝓤 H A W EdgeNodeSegment.the-row y1 0 8 Path'.refl, Path'.refl) (Reads'.room-gone 𝓤 H A (Syntax.tyInt Syntax.w64)) (Scalar.holds-sc 𝓤 H A W (Row.sInt Syntax.w64)) Path'.refl (λ u. Path'.refl) λ u. tt) d34
@@ -1159,6 +1159,6 @@ module _ (claims· : Claims) where
           pub asked : (a : Kinds.Dens κs ps) → (good : Kinds.GoodsP κs ps a) → (pre : Pre· κs a) → (bs : List.List Nat.ℕ) → Φ bs (Any.wantQ 1 ps r xs m κs qs a (Post· κs a)) (Function.init 1 ps r xs m κs qs a)
           asked = λ a good pre bs. laid record { κs = κs; args = record { records = a .0 }; blocks = bs; good = good; pre = pre }
 
-        module _ {M : Type 1} (𝓤 : URA.URA M) (H : Wp.Heap 𝓤) (A : Atoms.Atoms 𝓤) (W : Kit.Given 𝓤 H A) (𝓣 : Wp.Tables 𝓤 H) (known0 : Plain.Known 𝓤 H A W 𝓣 0 ps·0 r·0 (claims· .0) (claims· .1) "records::line::unpacked") (known1 : Plain.Known 𝓤 H A W 𝓣 1 ps·1 r·1 (claims· .2) (claims· .3) "records::edge_node::edge_node_at") (known2 : Plain.Known 𝓤 H A W 𝓣 0 ps·2 r·2 (claims· .4) (claims· .5) "records::edge_node::edge_node_line") where
+        module _ {M : Type 1} (𝓤 : URA.URA M) (H : Wp.Heap 𝓤) (A : Atoms.Atoms 𝓤) (W : Kit.Given 𝓤 H A) (𝓣 : Wp.Tables 𝓤 H) (known0 : Plain.Known 𝓤 H A W 𝓣 0 ps·0 r·0 (claims· .0) (claims· .1) "lines::line::unpacked") (known1 : Plain.Known 𝓤 H A W 𝓣 1 ps·1 r·1 (claims· .2) (claims· .3) "records::edge_node::edge_node_at") (known2 : Plain.Known 𝓤 H A W 𝓣 0 ps·2 r·2 (claims· .4) (claims· .5) "records::edge_node::edge_node_line") where
           pub spec : Statement.Triple 𝓤 (Wp.WpFn 𝓤 H (𝓣 .C) (𝓣 .Λ) (Function.fnOf 1 ps r xs m hs body)) (Function.plainOf 𝓤 H A 1 ps r Pre· Post·)
           spec = Plain.t-fn-plain 𝓤 H A W 𝓣 1 ps r xs m hs body (λ κs qs bs. Φ bs) (λ κs qs bs bd. typed κs qs 𝓤 H A W 𝓣 (known0, known1, known2) bs bd) Pre· Post· asked

@@ -4,8 +4,8 @@ use denote.Memory as Pointee
 use Prim.Native.Nat
 use Rattle.clearance.proofs.report.ClearanceAnswer
 use Rattle.clearance.proofs.report.ClearanceAnswer.Laws
-use Rattle.records.proofs.line.Line
-use Rattle.records.proofs.line.Line.Laws as Laws'
+use Rattle.lines.proofs.line.Line
+use Rattle.lines.proofs.line.Line.Laws as Laws'
 use borrow.Author.Called
 use borrow.Fn.Any
 use borrow.Fn.Call
@@ -99,7 +99,7 @@ abbrev y13 : Syntax.Ty
 y13 = Syntax.tyStruct (99 ∷ 108 ∷ 101 ∷ 97 ∷ 114 ∷ 97 ∷ 110 ∷ 99 ∷ 101 ∷ 58 ∷ 58 ∷ 114 ∷ 101 ∷ 112 ∷ 111 ∷ 114 ∷ 116 ∷ 58 ∷ 58 ∷ 69 ∷ 100 ∷ 103 ∷ 101 ∷ 78 ∷ 111 ∷ 100 ∷ 101 ∷ 67 ∷ 108 ∷ 101 ∷ 97 ∷ 114 ∷ 97 ∷ 110 ∷ 99 ∷ 101 ∷ []) (Syntax.tcons y12 (Syntax.tcons (Syntax.tyInt Syntax.w64) (Syntax.tcons (Syntax.tyInt Syntax.w64) Syntax.tnil)))
 
 abbrev y14 : Syntax.Ty
-y14 = Syntax.tyStruct (114 ∷ 101 ∷ 99 ∷ 111 ∷ 114 ∷ 100 ∷ 115 ∷ 58 ∷ 58 ∷ 108 ∷ 105 ∷ 110 ∷ 101 ∷ 58 ∷ 58 ∷ 76 ∷ 105 ∷ 110 ∷ 101 ∷ []) (Syntax.tcons (Syntax.tyInt Syntax.w32) (Syntax.tcons (Syntax.tyInt Syntax.w8) (Syntax.tcons (Syntax.tyFloat Ieee.binary64) (Syntax.tcons (Syntax.tyFloat Ieee.binary64) (Syntax.tcons (Syntax.tyFloat Ieee.binary64) Syntax.tnil)))))
+y14 = Syntax.tyStruct (108 ∷ 105 ∷ 110 ∷ 101 ∷ 115 ∷ 58 ∷ 58 ∷ 108 ∷ 105 ∷ 110 ∷ 101 ∷ 58 ∷ 58 ∷ 76 ∷ 105 ∷ 110 ∷ 101 ∷ []) (Syntax.tcons (Syntax.tyInt Syntax.w32) (Syntax.tcons (Syntax.tyInt Syntax.w8) (Syntax.tcons (Syntax.tyFloat Ieee.binary64) (Syntax.tcons (Syntax.tyFloat Ieee.binary64) (Syntax.tcons (Syntax.tyFloat Ieee.binary64) Syntax.tnil)))))
 
 abbrev y15 : Syntax.Ty
 y15 = Syntax.tyEnum (100 ∷ 114 ∷ 97 ∷ 119 ∷ 105 ∷ 110 ∷ 103 ∷ 58 ∷ 58 ∷ 114 ∷ 101 ∷ 102 ∷ 117 ∷ 115 ∷ 97 ∷ 108 ∷ 58 ∷ 58 ∷ 82 ∷ 101 ∷ 102 ∷ 117 ∷ 115 ∷ 97 ∷ 108 ∷ []) (Syntax.ttcons Syntax.tnil (Syntax.ttcons Syntax.tnil (Syntax.ttcons Syntax.tnil (Syntax.ttcons Syntax.tnil (Syntax.ttcons Syntax.tnil (Syntax.ttcons Syntax.tnil (Syntax.ttcons Syntax.tnil Syntax.ttnil)))))))
@@ -222,7 +222,7 @@ abbrev b3 : Syntax.Body
 b3 = Syntax.assign (Syntax.place 15 []) (Syntax.aggregate ((Syntax.copy (Syntax.place 14 [])) ∷ (Syntax.copy (Syntax.place 11 ((Syntax.field 1) ∷ []))) ∷ []))
 
 abbrev b4 : Syntax.Body
-b4 = Syntax.call "records::of_lines::clearance_of_lines" ((Syntax.copy (Syntax.place 13 [])) ∷ (Syntax.copy (Syntax.place 12 [])) ∷ (Syntax.copy (Syntax.place 2 [])) ∷ (Syntax.copy (Syntax.place 3 [])) ∷ (Syntax.copy (Syntax.place 4 [])) ∷ (Syntax.copy (Syntax.place 5 [])) ∷ (Syntax.copy (Syntax.place 6 [])) ∷ (Syntax.copy (Syntax.place 7 [])) ∷ (Syntax.copy (Syntax.place 8 [])) ∷ (Syntax.copy (Syntax.place 9 [])) ∷ (Syntax.copy (Syntax.place 10 [])) ∷ (Syntax.copy (Syntax.place 15 [])) ∷ []) (Syntax.place 0 [])
+b4 = Syntax.call "clearance_lines::clearance_of_lines" ((Syntax.copy (Syntax.place 13 [])) ∷ (Syntax.copy (Syntax.place 12 [])) ∷ (Syntax.copy (Syntax.place 2 [])) ∷ (Syntax.copy (Syntax.place 3 [])) ∷ (Syntax.copy (Syntax.place 4 [])) ∷ (Syntax.copy (Syntax.place 5 [])) ∷ (Syntax.copy (Syntax.place 6 [])) ∷ (Syntax.copy (Syntax.place 7 [])) ∷ (Syntax.copy (Syntax.place 8 [])) ∷ (Syntax.copy (Syntax.place 9 [])) ∷ (Syntax.copy (Syntax.place 10 [])) ∷ (Syntax.copy (Syntax.place 15 [])) ∷ []) (Syntax.place 0 [])
 
 abbrev b5 : Syntax.Body
 b5 = Syntax.return
@@ -408,7 +408,7 @@ module _ (claims· : Claims) where
   module _ (Pre· : (κs : Lifetimes.Lfts 9) → Kinds.Dens κs ps → Type 0) (Post· : (κs : Lifetimes.Lfts 9) → (a : Kinds.Dens κs ps) → Kinds.Plain 9 ps r κs) where
     module _ (M : Type 1) where
       abbrev pub Closed : Type 2
-      Closed = (𝓤 : URA.URA M) (H : Wp.Heap 𝓤) (A : Atoms.Atoms 𝓤) (W : Kit.Given 𝓤 H A) (𝓣 : Wp.Tables 𝓤 H) (known0 : Plain.Known 𝓤 H A W 𝓣 1 ps·0 r·0 (claims· .0) (claims· .1) "records::edge_node::edge_node_lines") (known1 : Plain.Known 𝓤 H A W 𝓣 8 ps·1 r·1 (claims· .2) (claims· .3) "records::of_lines::clearance_of_lines") → Statement.Triple 𝓤 (Wp.WpFn 𝓤 H (𝓣 .C) (𝓣 .Λ) (Function.fnOf 9 ps r xs m hs body)) (Function.plainOf 𝓤 H A 9 ps r Pre· Post·)
+      Closed = (𝓤 : URA.URA M) (H : Wp.Heap 𝓤) (A : Atoms.Atoms 𝓤) (W : Kit.Given 𝓤 H A) (𝓣 : Wp.Tables 𝓤 H) (known0 : Plain.Known 𝓤 H A W 𝓣 1 ps·0 r·0 (claims· .0) (claims· .1) "records::edge_node::edge_node_lines") (known1 : Plain.Known 𝓤 H A W 𝓣 8 ps·1 r·1 (claims· .2) (claims· .3) "clearance_lines::clearance_of_lines") → Statement.Triple 𝓤 (Wp.WpFn 𝓤 H (𝓣 .C) (𝓣 .Λ) (Function.fnOf 9 ps r xs m hs body)) (Function.plainOf 𝓤 H A 9 ps r Pre· Post·)
 
     module _ where
       abbrev at0 : Typed.TF T23 O0
@@ -485,7 +485,7 @@ module _ (claims· : Claims) where
 
       module _ {M : Type 1} (𝓤 : URA.URA M) (H : Wp.Heap 𝓤) (A : Atoms.Atoms 𝓤) (W : Kit.Given 𝓤 H A) (𝓣 : Wp.Tables 𝓤 H) where
         abbrev Knowns : Type 1
-        Knowns = Plain.Known 𝓤 H A W 𝓣 1 ps·0 r·0 (claims· .0) (claims· .1) "records::edge_node::edge_node_lines" × Plain.Known 𝓤 H A W 𝓣 8 ps·1 r·1 (claims· .2) (claims· .3) "records::of_lines::clearance_of_lines"
+        Knowns = Plain.Known 𝓤 H A W 𝓣 1 ps·0 r·0 (claims· .0) (claims· .1) "records::edge_node::edge_node_lines" × Plain.Known 𝓤 H A W 𝓣 8 ps·1 r·1 (claims· .2) (claims· .3) "clearance_lines::clearance_of_lines"
 
       module _ (κs : Lifetimes.Lfts 9) (qs : Lifetimes.Shares 9) where
         abbrev g4 : List.List Row.Entry
@@ -610,7 +610,7 @@ module _ (claims· : Claims) where
           d8 = Typed.g-pre 𝓤 H A W 𝓣 E G15 G16 b5 Δ0 (Typed.pass T15 T16 s14) at7 (Scalar.g-room 𝓤 H A W E G15 12 (Syntax.tyInt Syntax.w64) (Scalar.room-sc 𝓤 H A W (Row.sInt Syntax.w64))) d7
 
           d9 : Typed.Typed 𝓤 H A 𝓣 E G14 b6 Δ0 at9
-          d9 = Typed.s-seq 𝓤 H A W 𝓣 E G14 G15 b4 b5 Δ0 (Typed.both s13) at8 (Plain.t-call-plain 𝓤 H A W 𝓣 8 ps·1 r·1 (claims· .2) (claims· .3) "records::of_lines::clearance_of_lines" (known .1) E (λ pos β. β) G14 (record { pos = 13; st = []; d = 0; at = λ x. x }, (Num.vAt 12 λ x. x, (record { pos = 2; ty = Syntax.tyRef (Syntax.named 1) Syntax.imm (Syntax.tyInt Syntax.w32); ref = λ x. x }, (record { pos = 3; ty = Syntax.tyRef (Syntax.named 2) Syntax.imm (Syntax.tyFloat Ieee.binary64); ref = λ x. x }, (record { pos = 4; ty = Syntax.tyRef (Syntax.named 3) Syntax.imm (Syntax.tyFloat Ieee.binary64); ref = λ x. x }, (record { pos = 5; ty = Syntax.tyRef (Syntax.named 4) Syntax.imm (Syntax.tyFloat Ieee.binary64); ref = λ x. x }, (record { pos = 6; ty = Syntax.tyRef (Syntax.named 5) Syntax.imm (Syntax.tyFloat Ieee.binary64); ref = λ x. x }, (record { pos = 7; ty = Syntax.tyRef (Syntax.named 6) Syntax.imm (Syntax.tyInt Syntax.w32); ref = λ x. x }, (record { pos = 8; ty = Syntax.tyRef (Syntax.named 7) Syntax.imm (Syntax.tyInt Syntax.w32); ref = λ x. x }, (Float.fAt 9 λ x. x, (Num.vAt 10 λ x. x, (record { pos = 15; ty = Syntax.tyRef Syntax.erased Syntax.mut (Syntax.tyInt Syntax.w64); ref = λ x. x }, tt)))))))))))) 0 (1 ∷ 2 ∷ 3 ∷ 4 ∷ 5 ∷ 6 ∷ 7 ∷ 9 ∷ []) (Call.sub-id 𝓤 H A W (G14 .slots)) ((Array.arr-yields 𝓤 H A W (Array.eStruct Line.the-type Laws'.the-laws Laws'.the-copy) (Array.eStruct-laws Line.the-type Laws'.the-laws Laws'.the-copy Laws'.the-plain) 4097, Path'.refl), ((Scalar.reads-sc 𝓤 H A W (Row.sInt Syntax.w64), Path'.refl), (ShrSlice.spares-sslice 𝓤 H A W (Referent.rtF (Referent.fInt Syntax.w32)) y3 1, Shared.reads-sslice 𝓤 H A W (Referent.rtF (Referent.fInt Syntax.w32)) y3 1, Path'.refl, (ShrSlice.spares-sslice 𝓤 H A W (Referent.rtF (Referent.fFloat Ieee.binary64)) y7 2, Shared.reads-sslice 𝓤 H A W (Referent.rtF (Referent.fFloat Ieee.binary64)) y7 2, Path'.refl, (ShrSlice.spares-sslice 𝓤 H A W (Referent.rtF (Referent.fFloat Ieee.binary64)) y8 3, Shared.reads-sslice 𝓤 H A W (Referent.rtF (Referent.fFloat Ieee.binary64)) y8 3, Path'.refl, (ShrSlice.spares-sslice 𝓤 H A W (Referent.rtF (Referent.fFloat Ieee.binary64)) y9 4, Shared.reads-sslice 𝓤 H A W (Referent.rtF (Referent.fFloat Ieee.binary64)) y9 4, Path'.refl, (ShrSlice.spares-sslice 𝓤 H A W (Referent.rtF (Referent.fFloat Ieee.binary64)) y10 5, Shared.reads-sslice 𝓤 H A W (Referent.rtF (Referent.fFloat Ieee.binary64)) y10 5, Path'.refl, (ShrSlice.spares-sslice 𝓤 H A W (Referent.rtF (Referent.fInt Syntax.w32)) y4 6, Shared.reads-sslice 𝓤 H A W (Referent.rtF (Referent.fInt Syntax.w32)) y4 6, Path'.refl, (ShrSlice.spares-sslice 𝓤 H A W (Referent.rtF (Referent.fInt Syntax.w32)) y5 7, Shared.reads-sslice 𝓤 H A W (Referent.rtF (Referent.fInt Syntax.w32)) y5 7, Path'.refl, ((Scalar.reads-sc 𝓤 H A W (Row.sFloat Ieee.binary64), Path'.refl), ((Scalar.reads-sc 𝓤 H A W (Row.sInt Syntax.w64), Path'.refl), (Reads.as-is 𝓤 H A (Mut.mslice (Referent.rtF (Referent.fInt Syntax.w64)) y2 9), Mut.reads-mslice 𝓤 H A W (Referent.rtF (Referent.fInt Syntax.w64)) y2 9, Path'.refl, tt)))))))))))) (Reads.room-gone 𝓤 H A y16) (tt, (tt, (tt, (tt, (tt, (tt, (tt, (tt, tt)))))))) Path'.refl) d8
+          d9 = Typed.s-seq 𝓤 H A W 𝓣 E G14 G15 b4 b5 Δ0 (Typed.both s13) at8 (Plain.t-call-plain 𝓤 H A W 𝓣 8 ps·1 r·1 (claims· .2) (claims· .3) "clearance_lines::clearance_of_lines" (known .1) E (λ pos β. β) G14 (record { pos = 13; st = []; d = 0; at = λ x. x }, (Num.vAt 12 λ x. x, (record { pos = 2; ty = Syntax.tyRef (Syntax.named 1) Syntax.imm (Syntax.tyInt Syntax.w32); ref = λ x. x }, (record { pos = 3; ty = Syntax.tyRef (Syntax.named 2) Syntax.imm (Syntax.tyFloat Ieee.binary64); ref = λ x. x }, (record { pos = 4; ty = Syntax.tyRef (Syntax.named 3) Syntax.imm (Syntax.tyFloat Ieee.binary64); ref = λ x. x }, (record { pos = 5; ty = Syntax.tyRef (Syntax.named 4) Syntax.imm (Syntax.tyFloat Ieee.binary64); ref = λ x. x }, (record { pos = 6; ty = Syntax.tyRef (Syntax.named 5) Syntax.imm (Syntax.tyFloat Ieee.binary64); ref = λ x. x }, (record { pos = 7; ty = Syntax.tyRef (Syntax.named 6) Syntax.imm (Syntax.tyInt Syntax.w32); ref = λ x. x }, (record { pos = 8; ty = Syntax.tyRef (Syntax.named 7) Syntax.imm (Syntax.tyInt Syntax.w32); ref = λ x. x }, (Float.fAt 9 λ x. x, (Num.vAt 10 λ x. x, (record { pos = 15; ty = Syntax.tyRef Syntax.erased Syntax.mut (Syntax.tyInt Syntax.w64); ref = λ x. x }, tt)))))))))))) 0 (1 ∷ 2 ∷ 3 ∷ 4 ∷ 5 ∷ 6 ∷ 7 ∷ 9 ∷ []) (Call.sub-id 𝓤 H A W (G14 .slots)) ((Array.arr-yields 𝓤 H A W (Array.eStruct Line.the-type Laws'.the-laws Laws'.the-copy) (Array.eStruct-laws Line.the-type Laws'.the-laws Laws'.the-copy Laws'.the-plain) 4097, Path'.refl), ((Scalar.reads-sc 𝓤 H A W (Row.sInt Syntax.w64), Path'.refl), (ShrSlice.spares-sslice 𝓤 H A W (Referent.rtF (Referent.fInt Syntax.w32)) y3 1, Shared.reads-sslice 𝓤 H A W (Referent.rtF (Referent.fInt Syntax.w32)) y3 1, Path'.refl, (ShrSlice.spares-sslice 𝓤 H A W (Referent.rtF (Referent.fFloat Ieee.binary64)) y7 2, Shared.reads-sslice 𝓤 H A W (Referent.rtF (Referent.fFloat Ieee.binary64)) y7 2, Path'.refl, (ShrSlice.spares-sslice 𝓤 H A W (Referent.rtF (Referent.fFloat Ieee.binary64)) y8 3, Shared.reads-sslice 𝓤 H A W (Referent.rtF (Referent.fFloat Ieee.binary64)) y8 3, Path'.refl, (ShrSlice.spares-sslice 𝓤 H A W (Referent.rtF (Referent.fFloat Ieee.binary64)) y9 4, Shared.reads-sslice 𝓤 H A W (Referent.rtF (Referent.fFloat Ieee.binary64)) y9 4, Path'.refl, (ShrSlice.spares-sslice 𝓤 H A W (Referent.rtF (Referent.fFloat Ieee.binary64)) y10 5, Shared.reads-sslice 𝓤 H A W (Referent.rtF (Referent.fFloat Ieee.binary64)) y10 5, Path'.refl, (ShrSlice.spares-sslice 𝓤 H A W (Referent.rtF (Referent.fInt Syntax.w32)) y4 6, Shared.reads-sslice 𝓤 H A W (Referent.rtF (Referent.fInt Syntax.w32)) y4 6, Path'.refl, (ShrSlice.spares-sslice 𝓤 H A W (Referent.rtF (Referent.fInt Syntax.w32)) y5 7, Shared.reads-sslice 𝓤 H A W (Referent.rtF (Referent.fInt Syntax.w32)) y5 7, Path'.refl, ((Scalar.reads-sc 𝓤 H A W (Row.sFloat Ieee.binary64), Path'.refl), ((Scalar.reads-sc 𝓤 H A W (Row.sInt Syntax.w64), Path'.refl), (Reads.as-is 𝓤 H A (Mut.mslice (Referent.rtF (Referent.fInt Syntax.w64)) y2 9), Mut.reads-mslice 𝓤 H A W (Referent.rtF (Referent.fInt Syntax.w64)) y2 9, Path'.refl, tt)))))))))))) (Reads.room-gone 𝓤 H A y16) (tt, (tt, (tt, (tt, (tt, (tt, (tt, (tt, tt)))))))) Path'.refl) d8
 
           d10 : Typed.Typed 𝓤 H A 𝓣 E G13 b7 Δ0 at10
           d10 = Typed.s-seq 𝓤 H A W 𝓣 E G13 G14 b3 b6 Δ0 (Typed.ask s12) at9 (Relend.t-sl-aggregate 𝓤 H A W E (Referent.rtF (Referent.fInt Syntax.w64)) 𝓣 (Relend.asMut (Referent.rtF (Referent.fInt Syntax.w64))) G13 14 15 9 y2 y2 (λ x. x) (Scalar.oFld 11 ((Syntax.field 1) ∷ []) (Syntax.tyInt Syntax.w64) 8 λ v. Shared.lenV (v .0)) (Reads.as-is 𝓤 H A (Relend.msptr (Referent.rtF (Referent.fInt Syntax.w64)) y2 9)) (Reads.room-gone 𝓤 H A y11) (Relend.reads-owed-len 𝓤 H A W (Referent.rtF (Referent.fInt Syntax.w64)) y6 8 9 (Row.lease (κs .1 .1 .1 .1 .1 .1 .1 .1 .0) (qs .1 .1 .1 .1 .1 .1 .1 .1 .0)) 8 Path'.refl, Path'.refl) Path'.refl Path'.refl λ b o k. tt) d9
@@ -881,6 +881,6 @@ module _ (claims· : Claims) where
           pub asked : (a : Kinds.Dens κs ps) → (good : Kinds.GoodsP κs ps a) → (pre : Pre· κs a) → (bs : List.List Nat.ℕ) → Φ (Any.wantQ 9 ps r xs m κs qs a (Post· κs a)) (Function.init 9 ps r xs m κs qs a)
           asked = λ a good pre bs. laid record { κs = κs; args = record { records = a .0; id = a .1 .0; x = a .1 .1 .0; y = a .1 .1 .1 .0; width = a .1 .1 .1 .1 .0; height = a .1 .1 .1 .1 .1 .0; exempt-net = a .1 .1 .1 .1 .1 .1 .0; exempt-node = a .1 .1 .1 .1 .1 .1 .1 .0; threshold = a .1 .1 .1 .1 .1 .1 .1 .1 .0; allowance = a .1 .1 .1 .1 .1 .1 .1 .1 .1 .0; scratch = a .1 .1 .1 .1 .1 .1 .1 .1 .1 .1 .0 }; good = good; fits = record { allowance = record { fits = good .1 .1 .1 .1 .1 .1 .1 .1 .1 .0 .1 } }; pre = pre }
 
-        module _ {M : Type 1} (𝓤 : URA.URA M) (H : Wp.Heap 𝓤) (A : Atoms.Atoms 𝓤) (W : Kit.Given 𝓤 H A) (𝓣 : Wp.Tables 𝓤 H) (known0 : Plain.Known 𝓤 H A W 𝓣 1 ps·0 r·0 (claims· .0) (claims· .1) "records::edge_node::edge_node_lines") (known1 : Plain.Known 𝓤 H A W 𝓣 8 ps·1 r·1 (claims· .2) (claims· .3) "records::of_lines::clearance_of_lines") where
+        module _ {M : Type 1} (𝓤 : URA.URA M) (H : Wp.Heap 𝓤) (A : Atoms.Atoms 𝓤) (W : Kit.Given 𝓤 H A) (𝓣 : Wp.Tables 𝓤 H) (known0 : Plain.Known 𝓤 H A W 𝓣 1 ps·0 r·0 (claims· .0) (claims· .1) "records::edge_node::edge_node_lines") (known1 : Plain.Known 𝓤 H A W 𝓣 8 ps·1 r·1 (claims· .2) (claims· .3) "clearance_lines::clearance_of_lines") where
           pub spec : Statement.Triple 𝓤 (Wp.WpFn 𝓤 H (𝓣 .C) (𝓣 .Λ) (Function.fnOf 9 ps r xs m hs body)) (Function.plainOf 𝓤 H A 9 ps r Pre· Post·)
           spec = Plain.t-fn-plain 𝓤 H A W 𝓣 9 ps r xs m hs body (λ κs qs bs. Φ) (λ κs qs bs bd. typed κs qs 𝓤 H A W 𝓣 (known0, known1) bs bd) Pre· Post· asked

@@ -4,8 +4,8 @@ use denote.Memory as Pointee
 use Prim.Native.Nat
 use Rattle.congestion.proofs.report.CongestionAnswer
 use Rattle.congestion.proofs.report.CongestionAnswer.Laws
-use Rattle.records.proofs.line.Line
-use Rattle.records.proofs.line.Line.Laws as Laws'
+use Rattle.lines.proofs.line.Line
+use Rattle.lines.proofs.line.Line.Laws as Laws'
 use borrow.Author.Called
 use borrow.Fn.Any
 use borrow.Fn.Call
@@ -74,7 +74,7 @@ abbrev y5 : Syntax.Ty
 y5 = Syntax.tyEnum (100 ∷ 114 ∷ 97 ∷ 119 ∷ 105 ∷ 110 ∷ 103 ∷ 58 ∷ 58 ∷ 103 ∷ 97 ∷ 112 ∷ 58 ∷ 58 ∷ 71 ∷ 97 ∷ 112 ∷ []) (Syntax.ttcons Syntax.tnil (Syntax.ttcons (Syntax.tcons (Syntax.tyFloat Ieee.binary64) Syntax.tnil) Syntax.ttnil))
 
 abbrev y6 : Syntax.Ty
-y6 = Syntax.tyStruct (114 ∷ 101 ∷ 99 ∷ 111 ∷ 114 ∷ 100 ∷ 115 ∷ 58 ∷ 58 ∷ 108 ∷ 105 ∷ 110 ∷ 101 ∷ 58 ∷ 58 ∷ 76 ∷ 105 ∷ 110 ∷ 101 ∷ []) (Syntax.tcons (Syntax.tyInt Syntax.w32) (Syntax.tcons (Syntax.tyInt Syntax.w8) (Syntax.tcons (Syntax.tyFloat Ieee.binary64) (Syntax.tcons (Syntax.tyFloat Ieee.binary64) (Syntax.tcons (Syntax.tyFloat Ieee.binary64) Syntax.tnil)))))
+y6 = Syntax.tyStruct (108 ∷ 105 ∷ 110 ∷ 101 ∷ 115 ∷ 58 ∷ 58 ∷ 108 ∷ 105 ∷ 110 ∷ 101 ∷ 58 ∷ 58 ∷ 76 ∷ 105 ∷ 110 ∷ 101 ∷ []) (Syntax.tcons (Syntax.tyInt Syntax.w32) (Syntax.tcons (Syntax.tyInt Syntax.w8) (Syntax.tcons (Syntax.tyFloat Ieee.binary64) (Syntax.tcons (Syntax.tyFloat Ieee.binary64) (Syntax.tcons (Syntax.tyFloat Ieee.binary64) Syntax.tnil)))))
 
 abbrev y7 : Syntax.Ty
 y7 = Syntax.tyEnum (100 ∷ 114 ∷ 97 ∷ 119 ∷ 105 ∷ 110 ∷ 103 ∷ 58 ∷ 58 ∷ 114 ∷ 101 ∷ 102 ∷ 117 ∷ 115 ∷ 97 ∷ 108 ∷ 58 ∷ 58 ∷ 82 ∷ 101 ∷ 102 ∷ 117 ∷ 115 ∷ 97 ∷ 108 ∷ []) (Syntax.ttcons Syntax.tnil (Syntax.ttcons Syntax.tnil (Syntax.ttcons Syntax.tnil (Syntax.ttcons Syntax.tnil (Syntax.ttcons Syntax.tnil (Syntax.ttcons Syntax.tnil (Syntax.ttcons Syntax.tnil Syntax.ttnil)))))))
@@ -182,7 +182,7 @@ abbrev b3 : Syntax.Body
 b3 = Syntax.assign (Syntax.place 8 []) (Syntax.aggregate ((Syntax.copy (Syntax.place 7 [])) ∷ (Syntax.copy (Syntax.place 4 ((Syntax.field 1) ∷ []))) ∷ []))
 
 abbrev b4 : Syntax.Body
-b4 = Syntax.call "records::of_lines::density_of_lines" ((Syntax.copy (Syntax.place 6 [])) ∷ (Syntax.copy (Syntax.place 5 [])) ∷ (Syntax.copy (Syntax.place 2 [])) ∷ (Syntax.copy (Syntax.place 3 [])) ∷ (Syntax.copy (Syntax.place 8 [])) ∷ []) (Syntax.place 0 [])
+b4 = Syntax.call "congestion_lines::density::density_of_lines" ((Syntax.copy (Syntax.place 6 [])) ∷ (Syntax.copy (Syntax.place 5 [])) ∷ (Syntax.copy (Syntax.place 2 [])) ∷ (Syntax.copy (Syntax.place 3 [])) ∷ (Syntax.copy (Syntax.place 8 [])) ∷ []) (Syntax.place 0 [])
 
 abbrev b5 : Syntax.Body
 b5 = Syntax.return
@@ -326,7 +326,7 @@ module _ (claims· : Claims) where
   module _ (Pre· : (κs : Lifetimes.Lfts 2) → Kinds.Dens κs ps → Type 0) (Post· : (κs : Lifetimes.Lfts 2) → (a : Kinds.Dens κs ps) → Kinds.Plain 2 ps r κs) where
     module _ (M : Type 1) where
       abbrev pub Closed : Type 2
-      Closed = (𝓤 : URA.URA M) (H : Wp.Heap 𝓤) (A : Atoms.Atoms 𝓤) (W : Kit.Given 𝓤 H A) (𝓣 : Wp.Tables 𝓤 H) (known0 : Plain.Known 𝓤 H A W 𝓣 1 ps·0 r·0 (claims· .0) (claims· .1) "records::parallel::parallel_lines") (known1 : Plain.Known 𝓤 H A W 𝓣 1 ps·1 r·1 (claims· .2) (claims· .3) "records::of_lines::density_of_lines") → Statement.Triple 𝓤 (Wp.WpFn 𝓤 H (𝓣 .C) (𝓣 .Λ) (Function.fnOf 2 ps r xs m hs body)) (Function.plainOf 𝓤 H A 2 ps r Pre· Post·)
+      Closed = (𝓤 : URA.URA M) (H : Wp.Heap 𝓤) (A : Atoms.Atoms 𝓤) (W : Kit.Given 𝓤 H A) (𝓣 : Wp.Tables 𝓤 H) (known0 : Plain.Known 𝓤 H A W 𝓣 1 ps·0 r·0 (claims· .0) (claims· .1) "records::parallel::parallel_lines") (known1 : Plain.Known 𝓤 H A W 𝓣 1 ps·1 r·1 (claims· .2) (claims· .3) "congestion_lines::density::density_of_lines") → Statement.Triple 𝓤 (Wp.WpFn 𝓤 H (𝓣 .C) (𝓣 .Λ) (Function.fnOf 2 ps r xs m hs body)) (Function.plainOf 𝓤 H A 2 ps r Pre· Post·)
 
     module _ where
       abbrev at0 : Typed.TF T16 O0
@@ -382,7 +382,7 @@ module _ (claims· : Claims) where
 
       module _ {M : Type 1} (𝓤 : URA.URA M) (H : Wp.Heap 𝓤) (A : Atoms.Atoms 𝓤) (W : Kit.Given 𝓤 H A) (𝓣 : Wp.Tables 𝓤 H) where
         abbrev Knowns : Type 1
-        Knowns = Plain.Known 𝓤 H A W 𝓣 1 ps·0 r·0 (claims· .0) (claims· .1) "records::parallel::parallel_lines" × Plain.Known 𝓤 H A W 𝓣 1 ps·1 r·1 (claims· .2) (claims· .3) "records::of_lines::density_of_lines"
+        Knowns = Plain.Known 𝓤 H A W 𝓣 1 ps·0 r·0 (claims· .0) (claims· .1) "records::parallel::parallel_lines" × Plain.Known 𝓤 H A W 𝓣 1 ps·1 r·1 (claims· .2) (claims· .3) "congestion_lines::density::density_of_lines"
 
       module _ (κs : Lifetimes.Lfts 2) (qs : Lifetimes.Shares 2) where
         abbrev g4 : List.List Row.Entry
@@ -486,7 +486,7 @@ module _ (claims· : Claims) where
           d8 = Typed.g-pre 𝓤 H A W 𝓣 E G8 G9 b5 Δ0 (Typed.pass T8 T9 s7) at7 (Scalar.g-room 𝓤 H A W E G8 5 (Syntax.tyInt Syntax.w64) (Scalar.room-sc 𝓤 H A W (Row.sInt Syntax.w64))) d7
 
           d9 : Typed.Typed 𝓤 H A 𝓣 E G7 b6 Δ0 at9
-          d9 = Typed.s-seq 𝓤 H A W 𝓣 E G7 G8 b4 b5 Δ0 (Typed.both s6) at8 (Plain.t-call-plain 𝓤 H A W 𝓣 1 ps·1 r·1 (claims· .2) (claims· .3) "records::of_lines::density_of_lines" (known .1) E (λ pos β. β) G7 (record { pos = 6; st = []; d = 0; at = λ x. x }, (Num.vAt 5 λ x. x, (Float.fAt 2 λ x. x, (Num.vAt 3 λ x. x, (record { pos = 8; ty = Syntax.tyRef Syntax.erased Syntax.mut (Syntax.tyInt Syntax.w64); ref = λ x. x }, tt))))) 0 (2 ∷ []) (Call.sub-id 𝓤 H A W (G7 .slots)) ((Array.arr-yields 𝓤 H A W (Array.eStruct Line.the-type Laws'.the-laws Laws'.the-copy) (Array.eStruct-laws Line.the-type Laws'.the-laws Laws'.the-copy Laws'.the-plain) 4097, Path'.refl), ((Scalar.reads-sc 𝓤 H A W (Row.sInt Syntax.w64), Path'.refl), ((Scalar.reads-sc 𝓤 H A W (Row.sFloat Ieee.binary64), Path'.refl), ((Scalar.reads-sc 𝓤 H A W (Row.sInt Syntax.w64), Path'.refl), (Reads.as-is 𝓤 H A (Mut.mslice (Referent.rtF (Referent.fInt Syntax.w64)) y2 2), Mut.reads-mslice 𝓤 H A W (Referent.rtF (Referent.fInt Syntax.w64)) y2 2, Path'.refl, tt))))) (Reads.room-gone 𝓤 H A y10) (tt, tt) Path'.refl) d8
+          d9 = Typed.s-seq 𝓤 H A W 𝓣 E G7 G8 b4 b5 Δ0 (Typed.both s6) at8 (Plain.t-call-plain 𝓤 H A W 𝓣 1 ps·1 r·1 (claims· .2) (claims· .3) "congestion_lines::density::density_of_lines" (known .1) E (λ pos β. β) G7 (record { pos = 6; st = []; d = 0; at = λ x. x }, (Num.vAt 5 λ x. x, (Float.fAt 2 λ x. x, (Num.vAt 3 λ x. x, (record { pos = 8; ty = Syntax.tyRef Syntax.erased Syntax.mut (Syntax.tyInt Syntax.w64); ref = λ x. x }, tt))))) 0 (2 ∷ []) (Call.sub-id 𝓤 H A W (G7 .slots)) ((Array.arr-yields 𝓤 H A W (Array.eStruct Line.the-type Laws'.the-laws Laws'.the-copy) (Array.eStruct-laws Line.the-type Laws'.the-laws Laws'.the-copy Laws'.the-plain) 4097, Path'.refl), ((Scalar.reads-sc 𝓤 H A W (Row.sInt Syntax.w64), Path'.refl), ((Scalar.reads-sc 𝓤 H A W (Row.sFloat Ieee.binary64), Path'.refl), ((Scalar.reads-sc 𝓤 H A W (Row.sInt Syntax.w64), Path'.refl), (Reads.as-is 𝓤 H A (Mut.mslice (Referent.rtF (Referent.fInt Syntax.w64)) y2 2), Mut.reads-mslice 𝓤 H A W (Referent.rtF (Referent.fInt Syntax.w64)) y2 2, Path'.refl, tt))))) (Reads.room-gone 𝓤 H A y10) (tt, tt) Path'.refl) d8
 
           d10 : Typed.Typed 𝓤 H A 𝓣 E G6 b7 Δ0 at10
           d10 = Typed.s-seq 𝓤 H A W 𝓣 E G6 G7 b3 b6 Δ0 (Typed.ask s5) at9 (Relend.t-sl-aggregate 𝓤 H A W E (Referent.rtF (Referent.fInt Syntax.w64)) 𝓣 (Relend.asMut (Referent.rtF (Referent.fInt Syntax.w64))) G6 7 8 2 y2 y2 (λ x. x) (Scalar.oFld 4 ((Syntax.field 1) ∷ []) (Syntax.tyInt Syntax.w64) 8 λ v. Shared.lenV (v .0)) (Reads.as-is 𝓤 H A (Relend.msptr (Referent.rtF (Referent.fInt Syntax.w64)) y2 2)) (Reads.room-gone 𝓤 H A y4) (Relend.reads-owed-len 𝓤 H A W (Referent.rtF (Referent.fInt Syntax.w64)) y3 1 2 (Row.lease (κs .1 .0) (qs .1 .0)) 8 Path'.refl, Path'.refl) Path'.refl Path'.refl λ b o k. tt) d9
@@ -652,6 +652,6 @@ module _ (claims· : Claims) where
           pub asked : (a : Kinds.Dens κs ps) → (good : Kinds.GoodsP κs ps a) → (pre : Pre· κs a) → (bs : List.List Nat.ℕ) → Φ (Any.wantQ 2 ps r xs m κs qs a (Post· κs a)) (Function.init 2 ps r xs m κs qs a)
           asked = λ a good pre bs. laid record { κs = κs; args = record { records = a .0; cutoff = a .1 .0; allowance = a .1 .1 .0; scratch = a .1 .1 .1 .0 }; good = good; fits = record { allowance = record { fits = good .1 .1 .0 .1 } }; pre = pre }
 
-        module _ {M : Type 1} (𝓤 : URA.URA M) (H : Wp.Heap 𝓤) (A : Atoms.Atoms 𝓤) (W : Kit.Given 𝓤 H A) (𝓣 : Wp.Tables 𝓤 H) (known0 : Plain.Known 𝓤 H A W 𝓣 1 ps·0 r·0 (claims· .0) (claims· .1) "records::parallel::parallel_lines") (known1 : Plain.Known 𝓤 H A W 𝓣 1 ps·1 r·1 (claims· .2) (claims· .3) "records::of_lines::density_of_lines") where
+        module _ {M : Type 1} (𝓤 : URA.URA M) (H : Wp.Heap 𝓤) (A : Atoms.Atoms 𝓤) (W : Kit.Given 𝓤 H A) (𝓣 : Wp.Tables 𝓤 H) (known0 : Plain.Known 𝓤 H A W 𝓣 1 ps·0 r·0 (claims· .0) (claims· .1) "records::parallel::parallel_lines") (known1 : Plain.Known 𝓤 H A W 𝓣 1 ps·1 r·1 (claims· .2) (claims· .3) "congestion_lines::density::density_of_lines") where
           pub spec : Statement.Triple 𝓤 (Wp.WpFn 𝓤 H (𝓣 .C) (𝓣 .Λ) (Function.fnOf 2 ps r xs m hs body)) (Function.plainOf 𝓤 H A 2 ps r Pre· Post·)
           spec = Plain.t-fn-plain 𝓤 H A W 𝓣 2 ps r xs m hs body (λ κs qs bs. Φ) (λ κs qs bs bd. typed κs qs 𝓤 H A W 𝓣 (known0, known1) bs bd) Pre· Post· asked

@@ -1,0 +1,50 @@
+// The tests by which the walk leaves out a part of the tree, or the distances of its branches.
+ghost use mathlib.Core.Path.{_≡_};
+ghost use Rattle.clearance.specs.Walk.{contributes};
+ghost use Rattle.clearance.specs.State.{Number, gapOfFloat, axisBelow, edgesBelow};
+use boxes::Aabb;
+
+// Whether a part whose box is at this distance may still change the figures. A NaN is at most nothing. The walk hands over distances of boxes, which are numbers.
+pub fn clearance_subtree_can_contribute(lower: f64, threshold: f64, least: f64) -> bool
+    ensures { λ r. ⌜ (Number lower → r ≡ contributes lower threshold (gapOfFloat least)) ⌝ }
+{
+    if lower < threshold {
+        true
+    } else {
+        !(least <= lower)
+    }
+}
+
+// Along one axis: whether d lies less than the threshold beyond b, and c less than the threshold before a. Then nothing in c..d is as far from a..b as the threshold, where that is above 0.
+fn axis_below(a: f64, b: f64, c: f64, d: f64, threshold: f64) -> bool
+    ensures { λ r. ⌜ r ≡ axisBelow a b c d threshold ⌝ }
+{
+    if d - b < threshold {
+        a - c < threshold
+    } else {
+        false
+    }
+}
+
+// Whether the farthest edges of the box `around` are nearer to the given box than the threshold. Then so is every box in it, where the threshold is above 0.
+pub fn edges_below(bounds: Aabb, around: Aabb, threshold: f64) -> bool
+    ensures { λ r. ⌜ r ≡ edgesBelow bounds around threshold ⌝ }
+{
+    if axis_below(
+        bounds.left,
+        bounds.right,
+        around.left,
+        around.right,
+        threshold,
+    ) {
+        axis_below(
+            bounds.top,
+            bounds.bottom,
+            around.top,
+            around.bottom,
+            threshold,
+        )
+    } else {
+        false
+    }
+}

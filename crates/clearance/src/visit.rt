@@ -1,0 +1,71 @@
+// The state of a walk, and the visit of one pair of a segment and a node.
+ghost use mathlib.Core.Path.{_≡_};
+ghost use Prim.Native.Nat.{_+_, _^_, _<_};
+ghost use lib.Ieee.{nan};
+ghost use Rattle.laws.specs.Charged.{free, visit};
+ghost use Rattle.laws.specs.Allowance.{within};
+ghost use Rattle.drawing.specs.declared.gap.Gap.the-variants.{Present};
+ghost use Rattle.drawing.specs.Gaps.{lesserGap};
+ghost use Rattle.clearance.specs.Walk.{withPair};
+ghost use Rattle.clearance.specs.State.{Number, gapOfFloat, soFar, outcomeOf};
+use std::num::wrapping_add_usize;
+
+// The figures so far, and how many visits are left. The least distance is a NaN where there is none yet: no distance is a NaN, and +infinity may be one.
+pub struct Walking {
+    pub violations: usize,
+    pub least: f64,
+    pub left: usize,
+}
+
+// The walk stops where a visit is due and none is left.
+pub enum Walked {
+    Spent,
+    Went(Walking),
+}
+
+// No distance yet.
+pub fn no_distance() -> f64
+    ensures { λ r. ⌜ r ≡ nan ⌝ }
+{
+    0.0 / 0.0
+}
+
+// The least distance so far with one more.
+fn least_with(least: f64, distance: f64) -> f64
+    ensures { λ r. ⌜ (Number distance → gapOfFloat r ≡ lesserGap (gapOfFloat least) (Present distance)) ⌝ }
+{
+    if least <= distance { least } else { distance }
+}
+
+// The visit of a pair at the given distance: charged first, then counted unless the pair is exempt. The walk hands over distances of boxes, which are numbers, and states whose violations and visits left fit a word together, so that no count wraps.
+pub fn visit_pair(exempt: bool, distance: f64, threshold: f64, state: Walking) -> Walked
+    ensures { λ r. ⌜ (Number distance → state .violations + state .left < 2 ^ 64 → outcomeOf r ≡ within (state .left) (visit (free (withPair exempt threshold distance (soFar state))))) ⌝ }
+{
+    if state.left == 0 {
+        return Walked::Spent;
+    }
+    let left = state.left - 1;
+    let charged = Walking {
+        violations: state.violations,
+        least: state.least,
+        left: left,
+    };
+    if exempt {
+        return Walked::Went(charged);
+    }
+    let least = least_with(state.least, distance);
+    if distance < threshold {
+        let violations = wrapping_add_usize(state.violations, 1);
+        Walked::Went(Walking {
+            violations: violations,
+            least: least,
+            left: left,
+        })
+    } else {
+        Walked::Went(Walking {
+            violations: state.violations,
+            least: least,
+            left: left,
+        })
+    }
+}

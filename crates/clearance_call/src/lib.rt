@@ -1,0 +1,11 @@
+// The clearance call: the tree over the nodes, the walk of one segment over it, and the report. What it answers is defined in the crate clearance.
+mod marks;
+pub mod measure;
+mod order;
+mod prepare;
+mod stored;
+mod tables;
+mod walk;
+mod walk_all;
+
+pub use measure::measure_edge_node_clearance_bounded;

@@ -1,0 +1,187 @@
+// The clearance measure by columns.
+ghost use mathlib.Core.Path.{_≡_};
+ghost use lib.ListN.{length};
+ghost use Rattle.laws.specs.Allowance.{within};
+ghost use Rattle.drawing.specs.declared.refusal.Check.the-variants.{Passed};
+ghost use Rattle.drawing.specs.Refusals.{firstOf, scratchAfter};
+ghost use Rattle.drawing.specs.Entries.{segmentColumns, nodeColumns, exemptionColumns, segments, nodes, exemptions};
+ghost use Rattle.drawing.specs.Checks.{clearanceConditions};
+ghost use Rattle.drawing.specs.Held.{Binary64, SegmentsHeld, NodesHeld};
+ghost use Rattle.clearance.specs.Walk.{walkAll};
+ghost use Rattle.clearance.specs.State.{outcomeOf};
+ghost use Rattle.clearance.specs.Answer.{clearanceAnswer};
+use crate::prepare::prepare_nodes;
+use crate::tables::order_segments;
+use crate::walk_all::walk_all;
+use clearance::ClearanceAnswer;
+use clearance::Walked;
+use clearance::Walking;
+use clearance::answer_of;
+use clearance::no_distance;
+use drawing::Check;
+use drawing::check_clearance;
+use drawing::clear;
+use exemptions::gather;
+
+// The walks of all segments of a fit drawing. The scratch holds 6 words for each segment, for their order, and behind them 20 for each node, for the tree and the groups of its leaves.
+fn walk_segments(
+    net: &[u32],
+    orientation: &[u8],
+    fixed: &[f64],
+    start: &[f64],
+    end: &[f64],
+    id: &[u32],
+    x: &[f64],
+    y: &[f64],
+    width: &[f64],
+    height: &[f64],
+    exempt_net: &[u32],
+    exempt_node: &[u32],
+    threshold: f64,
+    allowance: usize,
+    scratch: &mut [u64],
+) -> Walked
+    requires { ⌜ firstOf (clearanceConditions (segmentColumns (now net) (now orientation) (now fixed) (now start) (now end)) (nodeColumns (now id) (now x) (now y) (now width) (now height)) (exemptionColumns (now «exempt_net») (now «exempt_node»)) threshold (length (now scratch))) ≡ Passed ⌝ }
+    ensures { λ r. ⌜ outcomeOf r ≡ within allowance (walkAll (exemptions (exemptionColumns (now («exempt_net» .entry)) (now («exempt_node» .entry)))) threshold (segments (segmentColumns (now (net .entry)) (now (orientation .entry)) (now (fixed .entry)) (now (start .entry)) (now (end .entry)))) (nodes (nodeColumns (now (id .entry)) (now (x .entry)) (now (y .entry)) (now (width .entry)) (now (height .entry))))) ⌝ }
+{
+    let m = id.len();
+    if m == 0 {
+        return Walked::Went(Walking {
+            violations: 0,
+            least: no_distance(),
+            left: allowance,
+        });
+    }
+    let mut packed = [0; 4096];
+    gather(&mut packed, exempt_net, exempt_node);
+    order_segments(scratch, net, orientation, fixed, start, end);
+    let first = 6 * net.len();
+    let k = exempt_net.len();
+    let last = first + 20 * m;
+    prepare_nodes(&mut scratch[first..last], id, x, y, width, height, k);
+    walk_all(
+        &scratch[first + 11 * m..last],
+        m,
+        &scratch[0..],
+        net,
+        orientation,
+        fixed,
+        start,
+        end,
+        threshold,
+        &packed,
+        k,
+        &scratch[first..last],
+        &scratch[first + m..last],
+        allowance,
+    )
+}
+
+// The same, with nothing put in order where there is no segment.
+fn walk_drawing(
+    net: &[u32],
+    orientation: &[u8],
+    fixed: &[f64],
+    start: &[f64],
+    end: &[f64],
+    id: &[u32],
+    x: &[f64],
+    y: &[f64],
+    width: &[f64],
+    height: &[f64],
+    exempt_net: &[u32],
+    exempt_node: &[u32],
+    threshold: f64,
+    allowance: usize,
+    scratch: &mut [u64],
+) -> Walked
+    requires { ⌜ firstOf (clearanceConditions (segmentColumns (now net) (now orientation) (now fixed) (now start) (now end)) (nodeColumns (now id) (now x) (now y) (now width) (now height)) (exemptionColumns (now «exempt_net») (now «exempt_node»)) threshold (length (now scratch))) ≡ Passed ⌝ }
+    ensures { λ r. ⌜ outcomeOf r ≡ within allowance (walkAll (exemptions (exemptionColumns (now («exempt_net» .entry)) (now («exempt_node» .entry)))) threshold (segments (segmentColumns (now (net .entry)) (now (orientation .entry)) (now (fixed .entry)) (now (start .entry)) (now (end .entry)))) (nodes (nodeColumns (now (id .entry)) (now (x .entry)) (now (y .entry)) (now (width .entry)) (now (height .entry))))) ⌝ }
+{
+    if net.len() == 0 {
+        return Walked::Went(Walking {
+            violations: 0,
+            least: no_distance(),
+            left: allowance,
+        });
+    }
+    walk_segments(
+        net,
+        orientation,
+        fixed,
+        start,
+        end,
+        id,
+        x,
+        y,
+        width,
+        height,
+        exempt_net,
+        exempt_node,
+        threshold,
+        allowance,
+        scratch,
+    )
+}
+
+pub fn measure_edge_node_clearance_bounded(
+    net: &[u32],
+    orientation: &[u8],
+    fixed: &[f64],
+    start: &[f64],
+    end: &[f64],
+    id: &[u32],
+    x: &[f64],
+    y: &[f64],
+    width: &[f64],
+    height: &[f64],
+    exempt_net: &[u32],
+    exempt_node: &[u32],
+    threshold: f64,
+    allowance: usize,
+    scratch: &mut [u64],
+) -> ClearanceAnswer
+    ensures { λ r. ⌜ r ≡ clearanceAnswer (segmentColumns (now (net .entry)) (now (orientation .entry)) (now (fixed .entry)) (now (start .entry)) (now (end .entry))) (nodeColumns (now (id .entry)) (now (x .entry)) (now (y .entry)) (now (width .entry)) (now (height .entry))) (exemptionColumns (now («exempt_net» .entry)) (now («exempt_node» .entry))) threshold allowance (length (now (scratch .entry))) ⌝ }
+    ensures { λ _. ⌜ now (scratch .exit) ≡ scratchAfter (firstOf (clearanceConditions (segmentColumns (now (net .entry)) (now (orientation .entry)) (now (fixed .entry)) (now (start .entry)) (now (end .entry))) (nodeColumns (now (id .entry)) (now (x .entry)) (now (y .entry)) (now (width .entry)) (now (height .entry))) (exemptionColumns (now («exempt_net» .entry)) (now («exempt_node» .entry))) threshold (length (now (scratch .entry))))) (now (scratch .entry)) ⌝ }
+    ensures { λ _. ⌜ (firstOf (clearanceConditions (segmentColumns (now (net .entry)) (now (orientation .entry)) (now (fixed .entry)) (now (start .entry)) (now (end .entry))) (nodeColumns (now (id .entry)) (now (x .entry)) (now (y .entry)) (now (width .entry)) (now (height .entry))) (exemptionColumns (now («exempt_net» .entry)) (now («exempt_node» .entry))) threshold (length (now (scratch .entry)))) ≡ Passed → SegmentsHeld (segmentColumns (now (net .entry)) (now (orientation .entry)) (now (fixed .entry)) (now (start .entry)) (now (end .entry))) × NodesHeld (nodeColumns (now (id .entry)) (now (x .entry)) (now (y .entry)) (now (width .entry)) (now (height .entry))) × Binary64 threshold) ⌝ }
+{
+    let words = scratch.len();
+    let check = check_clearance(
+        net,
+        orientation,
+        fixed,
+        start,
+        end,
+        id,
+        x,
+        y,
+        width,
+        height,
+        exempt_net,
+        exempt_node,
+        threshold,
+        words,
+    );
+    if let Check::Refused(why) = check {
+        return ClearanceAnswer::Refused(why);
+    }
+    let walked = walk_drawing(
+        net,
+        orientation,
+        fixed,
+        start,
+        end,
+        id,
+        x,
+        y,
+        width,
+        height,
+        exempt_net,
+        exempt_node,
+        threshold,
+        allowance,
+        scratch,
+    );
+    clear(scratch);
+    answer_of(walked, allowance)
+}

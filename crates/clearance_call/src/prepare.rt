@@ -1,0 +1,36 @@
+// The tree over the nodes and the groups of its leaves, prepared in the scratch. Of 20 words for each node the first is its place in leaf order, the next ten are its rows along the two axes, and the last nine are a leaf of the tree. Once the tree is built, the words in front of it are free again: the first for each node are the ids in order, the second the leaves' groups.
+ghost use mathlib.Core.Path.{_≡_};
+ghost use Prim.Native.Nat.{_*_, _≤_, _<_};
+ghost use lib.ListN.{length, drop};
+ghost use Rattle.drawing.specs.Entries.{nodeColumns};
+ghost use Rattle.drawing.specs.Lengths.{NodesAgree};
+ghost use Rattle.clearance_call.specs.Stored.{Grown};
+ghost use Rattle.clearance_call.specs.Marks.{Grouped};
+use crate::marks::group_leaves;
+use crate::order::build_clearance_bvh;
+use crate::stored::put_leaves;
+use crate::stored::put_splits;
+use crate::tables::fill_node_tables;
+use crate::tables::places_in_front;
+
+pub(crate) fn prepare_nodes(
+    s: &mut [u64],
+    id: &[u32],
+    x: &[f64],
+    y: &[f64],
+    width: &[f64],
+    height: &[f64],
+    exemptions: usize,
+)
+    requires { ⌜ NodesAgree (nodeColumns (now id) (now x) (now y) (now width) (now height)) × (1 ≤ length (now id)) × (length (now id) ≤ 4096) × (length (now s) ≡ 20 * length (now id)) ⌝ }
+    ensures { λ _. ⌜ Grown (nodeColumns (now (id .entry)) (now (x .entry)) (now (y .entry)) (now (width .entry)) (now (height .entry))) (now (s .exit)) ⌝ }
+    ensures { λ _. ⌜ (0 < exemptions → Grouped (now (s .exit)) (drop (length (now (id .entry))) (now (s .exit))) (drop (11 * length (now (id .entry))) (now (s .exit))) (length (now (id .entry)))) ⌝ }
+{
+    let m = id.len();
+    places_in_front(s, m);
+    fill_node_tables(s, m, id, x, y, width, height);
+    build_clearance_bvh(s, m, m, id, x, y, width, height);
+    put_leaves(s, 11 * m, id, x, y, width, height);
+    put_splits(&mut s[11 * m..], 0, m);
+    group_leaves(s, m, exemptions);
+}

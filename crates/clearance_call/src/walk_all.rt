@@ -1,0 +1,116 @@
+// The walks of all segments, one after another in document 01's order.
+ghost use mathlib.Core.Path.{_≡_};
+ghost use mathlib.Core.List.{List};
+ghost use Prim.Native.Nat.{_+_, _*_, _^_, _≤_, _<_};
+ghost use lib.ListN.{length};
+ghost use Rattle.laws.specs.Allowance.{within};
+ghost use Rattle.drawing.specs.Entries.{Exemption, segmentColumns};
+ghost use Rattle.boxes.specs.Boxes.{segmentBox};
+ghost use Rattle.boxes.specs.Fitting.{FitBox};
+ghost use Rattle.clearance_call.specs.Stored.{storedTree};
+ghost use Rattle.clearance_call.specs.Nested.{Nested};
+ghost use Rattle.clearance.specs.Walk.{walk};
+ghost use Rattle.exemptions.specs.Exempting.{Holds};
+ghost use Rattle.clearance_call.specs.Marks.{Grouped, Marked};
+ghost use Rattle.clearance.specs.State.{soFar, outcomeOf};
+ghost use Rattle.clearance_call.specs.Walking.{Part, NetMarks, Held, InTurns, allWalks};
+use crate::marks::MARK_WORDS;
+use crate::marks::renew_marks;
+use crate::walk::bounds_of;
+use crate::walk::visit_segment_candidates;
+use boxes::Aabb;
+use clearance::Subtree;
+use clearance::Walked;
+use clearance::Walking;
+use clearance::no_distance;
+
+// The walk of one segment over the m leaves of the tree; the marks are those of its net.
+fn walk_segment(
+    tree: &[u64],
+    m: usize,
+    net: u32,
+    orientation: u8,
+    fixed: f64,
+    start: f64,
+    end: f64,
+    threshold: f64,
+    marks: &[u64],
+    groups: &[u64],
+    state: Walking,
+) -> Walked
+    requires { ⌜ Part (now tree) 0 m × (m ≤ 4096) ⌝ }
+    requires { ⌜ NetMarks (now marks) (now groups) (now tree) ⌝ }
+    requires { ⌜ state .violations + state .left < 2 ^ 64 ⌝ }
+    requires { ⌜ FitBox (segmentBox (record { net = net; orientation = orientation; fixed = fixed; start = start; end = end })) × Nested (storedTree m (now tree) 0 m) ⌝ }
+    ensures { λ r. ⌜ ((ex : List Exemption) → Marked (now (marks .entry)) (now (groups .entry)) (now (tree .entry)) ex net → outcomeOf r ≡ within (state .left) (walk ex threshold (record { net = net; orientation = orientation; fixed = fixed; start = start; end = end }) (storedTree m (now (tree .entry)) 0 m) (soFar state))) ⌝ }
+{
+    let bounds = Aabb::from_segment(orientation == 1, fixed, start, end);
+    let whole = Subtree {
+        first: 0,
+        count: m,
+        lower: bounds.distance(bounds_of(tree, 0, m)),
+    };
+    visit_segment_candidates(tree, whole, bounds, threshold, marks, groups, state)
+}
+
+// No net has this number: nets have 32 bits.
+const NO_NET: u64 = 4294967296;
+
+// The segments' places stand in the first words of `order`, the k exemptions in those of `packed`, and the leaves' ids and groups in those of `ids` and `groups` where there are exemptions.
+pub(crate) fn walk_all(
+    tree: &[u64],
+    m: usize,
+    order: &[u64],
+    net: &[u32],
+    orientation: &[u8],
+    fixed: &[f64],
+    start: &[f64],
+    end: &[f64],
+    threshold: f64,
+    packed: &[u64],
+    k: usize,
+    ids: &[u64],
+    groups: &[u64],
+    allowance: usize,
+) -> Walked
+    requires { ⌜ Part (now tree) 0 m × (m ≤ 4096) ⌝ }
+    requires { ⌜ InTurns (now order) (segmentColumns (now net) (now orientation) (now fixed) (now start) (now end)) ⌝ }
+    requires { ⌜ Held (now packed) k × (0 < k → Grouped (now ids) (now groups) (now tree) m) × (length (now tree) ≤ 9 * length (now groups)) ⌝ }
+    requires { ⌜ Nested (storedTree m (now tree) 0 m) ⌝ }
+    ensures { λ r. ⌜ ((ex : List Exemption) → Holds (now (packed .entry)) ex → length ex ≡ k → outcomeOf r ≡ within allowance (allWalks ex threshold (now (tree .entry)) m (now (order .entry)) (segmentColumns (now (net .entry)) (now (orientation .entry)) (now (fixed .entry)) (now (start .entry)) (now (end .entry))))) ⌝ }
+{
+    let mut state = Walking {
+        violations: 0,
+        least: no_distance(),
+        left: allowance,
+    };
+    let mut marks = [0; MARK_WORDS];
+    let mut used = 0;
+    let mut marked = NO_NET;
+    let mut q = 0;
+    while q < net.len() {
+        let i = order[q] as usize;
+        let own = net[i];
+        used = renew_marks(&mut marks, used, marked, own, packed, k, ids, m);
+        marked = own as u64;
+        let walked = walk_segment(
+            tree,
+            m,
+            own,
+            orientation[i],
+            fixed[i],
+            start[i],
+            end[i],
+            threshold,
+            &marks[0..used],
+            groups,
+            state,
+        );
+        let Walked::Went(next) = walked else {
+            return Walked::Spent;
+        };
+        state = next;
+        q += 1;
+    }
+    Walked::Went(state)
+}

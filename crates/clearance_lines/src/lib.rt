@@ -1,0 +1,66 @@
+// Clearance of a list of lines: its columns are laid out, and the call by columns does the rest, its refusals included.
+ghost use mathlib.Core.Path.{_≡_};
+ghost use mathlib.Core.List.{map};
+ghost use lib.ListN.{length, take};
+ghost use Rattle.drawing.specs.declared.refusal.Check.the-variants.{Passed};
+ghost use Rattle.drawing.specs.Refusals.{firstOf, scratchAfter};
+ghost use Rattle.drawing.specs.Entries.{nodeColumns, exemptionColumns, columnsOf};
+ghost use Rattle.drawing.specs.Checks.{clearanceConditions};
+ghost use Rattle.drawing.specs.Held.{Binary64, SegmentsHeld, NodesHeld};
+ghost use Rattle.clearance.specs.Answer.{clearanceAnswer};
+ghost use Rattle.lines.specs.Lines.{entryOf};
+use clearance::ClearanceAnswer;
+use clearance_call::measure_edge_node_clearance_bounded;
+use lines::Line;
+use lines::unpack;
+
+pub fn clearance_of_lines(
+    lines: [Line; 4097],
+    n: usize,
+    id: &[u32],
+    x: &[f64],
+    y: &[f64],
+    width: &[f64],
+    height: &[f64],
+    exempt_net: &[u32],
+    exempt_node: &[u32],
+    threshold: f64,
+    allowance: usize,
+    scratch: &mut [u64],
+) -> ClearanceAnswer
+    ensures { λ r. ⌜ r ≡ clearanceAnswer (columnsOf (map entryOf (take n lines))) (nodeColumns (now (id .entry)) (now (x .entry)) (now (y .entry)) (now (width .entry)) (now (height .entry))) (exemptionColumns (now («exempt_net» .entry)) (now («exempt_node» .entry))) threshold allowance (length (now (scratch .entry))) ⌝ }
+    ensures { λ _. ⌜ now (scratch .exit) ≡ scratchAfter (firstOf (clearanceConditions (columnsOf (map entryOf (take n lines))) (nodeColumns (now (id .entry)) (now (x .entry)) (now (y .entry)) (now (width .entry)) (now (height .entry))) (exemptionColumns (now («exempt_net» .entry)) (now («exempt_node» .entry))) threshold (length (now (scratch .entry))))) (now (scratch .entry)) ⌝ }
+    ensures { λ _. ⌜ (firstOf (clearanceConditions (columnsOf (map entryOf (take n lines))) (nodeColumns (now (id .entry)) (now (x .entry)) (now (y .entry)) (now (width .entry)) (now (height .entry))) (exemptionColumns (now («exempt_net» .entry)) (now («exempt_node» .entry))) threshold (length (now (scratch .entry)))) ≡ Passed → SegmentsHeld (columnsOf (map entryOf (take n lines))) × NodesHeld (nodeColumns (now (id .entry)) (now (x .entry)) (now (y .entry)) (now (width .entry)) (now (height .entry))) × Binary64 threshold) ⌝ }
+{
+    let mut net = [0; 4097];
+    let mut orientation = [0; 4097];
+    let mut fixed = [0.0; 4097];
+    let mut start = [0.0; 4097];
+    let mut end = [0.0; 4097];
+    let m = unpack(
+        lines,
+        n,
+        &mut net,
+        &mut orientation,
+        &mut fixed,
+        &mut start,
+        &mut end,
+    );
+    measure_edge_node_clearance_bounded(
+        &net[..m],
+        &orientation[..m],
+        &fixed[..m],
+        &start[..m],
+        &end[..m],
+        id,
+        x,
+        y,
+        width,
+        height,
+        exempt_net,
+        exempt_node,
+        threshold,
+        allowance,
+        scratch,
+    )
+}

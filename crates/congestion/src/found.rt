@@ -1,0 +1,17 @@
+// What a sweep found.
+use drawing::Gap;
+
+// The figures of one orientation, and how many visits are left.
+pub struct Found {
+    pub congested_length: f64,
+    pub pair_overlap_length: f64,
+    pub peak_close_neighbors: usize,
+    pub minimum_positive: Gap,
+    pub left: usize,
+}
+
+// What the sweep found, or that the allowance is spent.
+pub enum Swept {
+    Went(Found),
+    Spent,
+}

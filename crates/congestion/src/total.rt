@@ -1,0 +1,34 @@
+// The total length.
+ghost use mathlib.Core.Path.{_≡_};
+ghost use Rattle.drawing.specs.Entries.{segmentColumns, segments};
+ghost use Rattle.drawing.specs.Lengths.{SegmentsAgree};
+ghost use Rattle.congestion.specs.Rounded.{roundedTotal};
+use floats::canonical_zero;
+
+// The summed length of all segments, of columns of one length: the checks of a call stand in front. Columns too short have none.
+pub fn total_length(
+    net: &[u32],
+    orientation: &[u8],
+    fixed: &[f64],
+    start: &[f64],
+    end: &[f64],
+) -> f64
+    ensures { λ r. ⌜ (SegmentsAgree (segmentColumns (now (net .entry)) (now (orientation .entry)) (now (fixed .entry)) (now (start .entry)) (now (end .entry))) → r ≡ roundedTotal (segments (segmentColumns (now (net .entry)) (now (orientation .entry)) (now (fixed .entry)) (now (start .entry)) (now (end .entry))))) ⌝ }
+{
+    let n = net.len();
+    if start.len() < n {
+        return 0.0;
+    }
+    if end.len() < n {
+        return 0.0;
+    }
+    let mut total = 0.0;
+    let mut i = 0;
+    while i < n {
+        let from = canonical_zero(start[i]);
+        let to = canonical_zero(end[i]);
+        total = total + (to - from);
+        i += 1;
+    }
+    total
+}

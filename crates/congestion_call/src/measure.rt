@@ -1,0 +1,65 @@
+// The congestion profile and the congestion by columns, from the density profile.
+ghost use mathlib.Core.Path.{_≡_};
+ghost use lib.ListN.{length};
+ghost use Rattle.drawing.specs.declared.refusal.Check.the-variants.{Passed};
+ghost use Rattle.drawing.specs.Refusals.{firstOf, scratchAfter};
+ghost use Rattle.drawing.specs.Entries.{segmentColumns};
+ghost use Rattle.drawing.specs.Checks.{congestionConditions};
+ghost use Rattle.drawing.specs.Held.{Binary64, SegmentsHeld};
+ghost use Rattle.congestion.specs.Answer.{profileAnswer, congestionAnswer};
+use congestion::CongestionAnswer;
+use congestion::without_density;
+use density_call::measure_parallel_density_profile_bounded;
+
+pub fn measure_parallel_congestion_profile_bounded(
+    net: &[u32],
+    orientation: &[u8],
+    fixed: &[f64],
+    start: &[f64],
+    end: &[f64],
+    cutoff: f64,
+    allowance: usize,
+    scratch: &mut [u64],
+) -> CongestionAnswer
+    ensures { λ r. ⌜ r ≡ profileAnswer (segmentColumns (now (net .entry)) (now (orientation .entry)) (now (fixed .entry)) (now (start .entry)) (now (end .entry))) cutoff allowance (length (now (scratch .entry))) ⌝ }
+    ensures { λ _. ⌜ now (scratch .exit) ≡ scratchAfter (firstOf (congestionConditions (segmentColumns (now (net .entry)) (now (orientation .entry)) (now (fixed .entry)) (now (start .entry)) (now (end .entry))) cutoff (length (now (scratch .entry))))) (now (scratch .entry)) ⌝ }
+    ensures { λ _. ⌜ (firstOf (congestionConditions (segmentColumns (now (net .entry)) (now (orientation .entry)) (now (fixed .entry)) (now (start .entry)) (now (end .entry))) cutoff (length (now (scratch .entry)))) ≡ Passed → SegmentsHeld (segmentColumns (now (net .entry)) (now (orientation .entry)) (now (fixed .entry)) (now (start .entry)) (now (end .entry))) × Binary64 cutoff) ⌝ }
+{
+    let answer = measure_parallel_density_profile_bounded(
+        net,
+        orientation,
+        fixed,
+        start,
+        end,
+        cutoff,
+        allowance,
+        scratch,
+    );
+    without_density(answer)
+}
+
+// No drawing takes 2^64 - 1 visits, so that this allowance always reaches.
+pub fn measure_parallel_congestion(
+    net: &[u32],
+    orientation: &[u8],
+    fixed: &[f64],
+    start: &[f64],
+    end: &[f64],
+    cutoff: f64,
+    scratch: &mut [u64],
+) -> CongestionAnswer
+    ensures { λ r. ⌜ r ≡ congestionAnswer (segmentColumns (now (net .entry)) (now (orientation .entry)) (now (fixed .entry)) (now (start .entry)) (now (end .entry))) cutoff (length (now (scratch .entry))) ⌝ }
+    ensures { λ _. ⌜ now (scratch .exit) ≡ scratchAfter (firstOf (congestionConditions (segmentColumns (now (net .entry)) (now (orientation .entry)) (now (fixed .entry)) (now (start .entry)) (now (end .entry))) cutoff (length (now (scratch .entry))))) (now (scratch .entry)) ⌝ }
+    ensures { λ _. ⌜ (firstOf (congestionConditions (segmentColumns (now (net .entry)) (now (orientation .entry)) (now (fixed .entry)) (now (start .entry)) (now (end .entry))) cutoff (length (now (scratch .entry)))) ≡ Passed → SegmentsHeld (segmentColumns (now (net .entry)) (now (orientation .entry)) (now (fixed .entry)) (now (start .entry)) (now (end .entry))) × Binary64 cutoff) ⌝ }
+{
+    measure_parallel_density_profile_bounded(
+        net,
+        orientation,
+        fixed,
+        start,
+        end,
+        cutoff,
+        0xffff_ffff_ffff_ffff,
+        scratch,
+    )
+}

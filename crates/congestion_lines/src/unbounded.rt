@@ -1,0 +1,50 @@
+// Congestion without an allowance of a list of lines: its columns are laid out, and the call by columns does the rest, its refusals included.
+ghost use mathlib.Core.Path.{_≡_};
+ghost use mathlib.Core.List.{map};
+ghost use lib.ListN.{length, take};
+ghost use Rattle.drawing.specs.declared.refusal.Check.the-variants.{Passed};
+ghost use Rattle.drawing.specs.Refusals.{firstOf, scratchAfter};
+ghost use Rattle.drawing.specs.Entries.{columnsOf};
+ghost use Rattle.drawing.specs.Checks.{congestionConditions};
+ghost use Rattle.drawing.specs.Held.{Binary64, SegmentsHeld};
+ghost use Rattle.congestion.specs.Answer.{congestionAnswer};
+ghost use Rattle.lines.specs.Lines.{entryOf};
+use congestion::CongestionAnswer;
+use congestion_call::measure_parallel_congestion;
+use lines::Line;
+use lines::unpack;
+
+pub fn congestion_of_lines(
+    lines: [Line; 4097],
+    n: usize,
+    cutoff: f64,
+    scratch: &mut [u64],
+) -> CongestionAnswer
+    ensures { λ r. ⌜ r ≡ congestionAnswer (columnsOf (map entryOf (take n lines))) cutoff (length (now (scratch .entry))) ⌝ }
+    ensures { λ _. ⌜ now (scratch .exit) ≡ scratchAfter (firstOf (congestionConditions (columnsOf (map entryOf (take n lines))) cutoff (length (now (scratch .entry))))) (now (scratch .entry)) ⌝ }
+    ensures { λ _. ⌜ (firstOf (congestionConditions (columnsOf (map entryOf (take n lines))) cutoff (length (now (scratch .entry)))) ≡ Passed → SegmentsHeld (columnsOf (map entryOf (take n lines))) × Binary64 cutoff) ⌝ }
+{
+    let mut net = [0; 4097];
+    let mut orientation = [0; 4097];
+    let mut fixed = [0.0; 4097];
+    let mut start = [0.0; 4097];
+    let mut end = [0.0; 4097];
+    let m = unpack(
+        lines,
+        n,
+        &mut net,
+        &mut orientation,
+        &mut fixed,
+        &mut start,
+        &mut end,
+    );
+    measure_parallel_congestion(
+        &net[..m],
+        &orientation[..m],
+        &fixed[..m],
+        &start[..m],
+        &end[..m],
+        cutoff,
+        scratch,
+    )
+}

@@ -1,0 +1,76 @@
+-- A least gap of 64ths kept as a float, an infinity where there is none. Assumes nothing.
+use mathlib.Core.Path.{_≡_, refl, sym, ap, ap₂, _∙_, subst}
+use mathlib.Core.Option.{Option, none, some}
+use mathlib.Core.Bool.{Bool, true, false, not, cond}
+use Prim.Native.Nat.{ℕ, _^_, _<_}
+use lib.Dec.{ltb, eqb}
+use lib.Ieee.{Float, nan, inf, fin, lt}
+use lib.Ieee.Exact.{HasValue}
+use Rattle.laws.specs.Least.{lesser}
+use Rattle.laws.proofs.Tests.{cond-true, cond-false}
+use Rattle.laws.proofs.Folds.{idr}
+use Rattle.floats.specs.Values.{plusZero, lesserOf, gapOf}
+use Rattle.floats.specs.Grid.{unit, ofUnits}
+use Rattle.floats.specs.TotalOrder.{floatAt}
+use Rattle.floats.proofs.Units.{of-units-value}
+use Rattle.drawing.specs.declared.gap.Gap.the-variants.{Absent, Present}
+use Rattle.congestion.specs.Figures.{apart}
+use Rattle.congestion.specs.Sweep.{nonzero, gapOfUnits}
+use Rattle.congestion.specs.Keys.{Key, Held}
+use Rattle.density_call.specs.Meeting.{leastFloat, withGap}
+use Rattle.density_call.specs.Sweeping.{gapOfFloat}
+use Rattle.congestion.proofs.FoldLaws.{fewest}
+use Rattle.congestion.proofs.Oriented.{apart-turn}
+use Rattle.congestion.proofs.LeastGap.{held-lesser, lt-units, grid-gap, above-zero}
+
+pub lesser-none : (o : Option ℕ) → lesser ltb o none ≡ o
+lesser-none o = idr fewest o
+
+-- every number is below the infinity
+below-infinity : (x : Float) (s : Bool) (a b : ℕ) → HasValue x s a b → lt x (inf false) ≡ true
+unfolding lt
+below-infinity nan s a b h = absurd h
+below-infinity (inf t) s a b h = absurd h
+below-infinity (fin t m e) s a b h = refl
+
+units-below : (n : ℕ) → n < 2 ^ 53 → lt (ofUnits n) (inf false) ≡ true
+unfolding ofUnits
+units-below n h = below-infinity (ofUnits n) false n 64 (of-units-value false n h)
+
+not-below : lt (inf false) (inf false) ≡ false
+unfolding lt
+not-below = refl
+
+-- ---- when the sweep is done it becomes a gap
+module _ (x top : Float) (is : top ≡ inf false) where
+  pub gap-present : lt x top ≡ true → Present x ≡ gapOfFloat x
+  gap-present b = sym (cond-true (lt x (inf false)) (Present x) Absent (ap (lt x) (sym is) ∙ b))
+
+  pub gap-absent : lt x top ≡ false → Absent ≡ gapOfFloat x
+  gap-absent b = sym (cond-false (lt x (inf false)) (Present x) Absent (ap (lt x) (sym is) ∙ b))
+
+pub gap-again : (o : Option ℕ) → Held o → gapOfFloat (leastFloat o) ≡ gapOfUnits o
+gap-again none h = cond-false (lt (inf false) (inf false)) (Present (inf false)) Absent not-below
+gap-again (some n) h = cond-true (lt (ofUnits n) (inf false)) (Present (ofUnits n)) Absent (units-below n h)
+
+-- ---- a gap joins it
+lesser-float : (o : Option ℕ) (a : ℕ) → Held o → a < 2 ^ 53 → lesserOf (leastFloat o) (ofUnits a) ≡ leastFloat (lesser ltb o (some a))
+unfolding lesserOf lesser
+lesser-float none a h k = cond-true (lt (ofUnits a) (inf false)) (ofUnits a) (inf false) (units-below a k)
+lesser-float (some n) a h k = ap (λ (t : Bool). cond t (ofUnits a) (ofUnits n)) (lt-units a n k h) ∙ go (ltb a n)
+  where
+    go : (t : Bool) → cond t (ofUnits a) (ofUnits n) ≡ ofUnits (cond t a n)
+    go true = refl
+    go false = refl
+
+joined-units : (o : Option ℕ) (b : Bool) (a : ℕ) (g : Float) → Held o → a < 2 ^ 53 → g ≡ ofUnits a → lt plusZero g ≡ not b → (withGap (leastFloat o) g ≡ leastFloat (lesser ltb o (nonzero b a))) × Held (lesser ltb o (nonzero b a))
+joined-units o true a g h k e z = (cond-false (lt plusZero g) (lesserOf (leastFloat o) g) (leastFloat o) z ∙ sym (ap leastFloat (lesser-none o)), subst Held (sym (lesser-none o)) h)
+joined-units o false a g h k e z = (cond-true (lt plusZero g) (lesserOf (leastFloat o) g) (leastFloat o) z ∙ ap (lesserOf (leastFloat o)) e ∙ lesser-float o a h k, held-lesser o (some a) h k)
+
+pub keys-join : (o : Option ℕ) (w w' u u' : ℕ) → Held o → Key w u → Key w' u' → (withGap (leastFloat o) (gapOf (floatAt w) (floatAt w')) ≡ leastFloat (lesser ltb o (nonzero (eqb u' u) (apart u' u)))) × Held (lesser ltb o (nonzero (eqb u' u) (apart u' u)))
+keys-join o w w' u u' h k k' =
+    let g = grid-gap (floatAt w) (floatAt w') (k .grid) (k' .grid) in
+    let e : apart (unit (floatAt w)) (unit (floatAt w')) ≡ apart u' u = ap₂ apart (k .is) (k' .is) ∙ apart-turn u u' in
+    let b : apart u' u < 2 ^ 53 = subst (λ (z : ℕ). z < 2 ^ 53) e (g .1) in
+    let f : gapOf (floatAt w) (floatAt w') ≡ ofUnits (apart u' u) = g .0 ∙ ap ofUnits e in
+    joined-units o (eqb u' u) (apart u' u) (gapOf (floatAt w) (floatAt w')) h b f (ap (lt plusZero) f ∙ above-zero u' u b)

@@ -1,0 +1,77 @@
+-- The whole call: the answer from what the sweep came to. Assumes nothing.
+use mathlib.Core.Path.{_≡_, refl, sym, ap, _∙_}
+use mathlib.Core.Logic.{inl, inr}
+use Prim.Native.Nat.{ℕ, _-_}
+use native.Mathlib.Omega.{arith}
+use lib.Ieee.{Float}
+use Rattle.laws.specs.Charged.{Charged}
+use Rattle.laws.specs.Allowance.{Outcome, spent, left, within, reply}
+use Rattle.laws.proofs.Tests.{le-or-lt}
+use Rattle.laws.proofs.Runs.{within-enough, within-short, settle-within}
+use Rattle.drawing.specs.declared.gap.Gap.{Gap}
+use Rattle.drawing.specs.declared.refusal.Refusal.{Refusal}
+use Rattle.drawing.specs.declared.refusal.Refusal.the-variants.{WorkLimitExceeded}
+use Rattle.drawing.specs.declared.refusal.Check.{Check}
+use Rattle.drawing.specs.declared.refusal.Check.the-variants as Checked
+use Rattle.drawing.specs.Entries.{SegmentColumns, segments}
+use Rattle.drawing.specs.Checks.{congestionConditions}
+use Rattle.drawing.specs.Refusals.{firstOf, checked}
+use Rattle.congestion.specs.declared.report.ParallelCongestion.{ParallelCongestion}
+use Rattle.congestion.specs.declared.report.CongestionAnswer.{CongestionAnswer}
+use Rattle.congestion.specs.declared.report.CongestionAnswer.the-variants.{Report, Refused}
+use Rattle.congestion.specs.declared.found.Swept.{Swept}
+use Rattle.congestion.specs.Profile.{allPairs}
+use Rattle.congestion.specs.Rounded.{roundedTotal}
+use Rattle.congestion.specs.Answer.{reportOf, settled, densityAnswer}
+use Rattle.congestion.specs.Answering.{answerOf}
+use Rattle.density_call.specs.Measuring.{foundOf}
+use Rattle.congestion.proofs.Fitness.{fit-list}
+use Rattle.congestion.proofs.RoundedDrawing.{report-exact}
+use Rattle.congestion.proofs.Answers.{Passes, density-settles}
+
+-- ---- the answer, by whether the allowance reached
+abbrev Profile : Type 0
+Profile = ParallelCongestion × Gap
+
+-- what the code makes of an outcome is what the outcome replies, where the total length is the outcome's
+pub answer-replies : (o : Outcome Profile) (total : Float) (allowance : ℕ) → ((p : Profile) (m : ℕ) → o ≡ left p m → total ≡ p .0 .«total_length») → answerOf (foundOf o) total allowance ≡ reply (λ p n. Report (reportOf p n)) (Refused WorkLimitExceeded) allowance o
+unfolding answerOf reply foundOf
+answer-replies spent total allowance k = refl
+answer-replies (left p m) total allowance k =
+    let t = k p m refl in
+    λ i. Report (record {
+      congestion = record { «total_length» = t i; «congested_length» = p .0 .«congested_length»; «pair_overlap_length» = p .0 .«pair_overlap_length»; «peak_close_neighbors» = p .0 .«peak_close_neighbors» };
+      «minimum_positive» = p .1;
+      visits = allowance - m;
+    })
+
+-- ---- `measure_parallel_density_profile_bounded`
+module _ (c : SegmentColumns) (cutoff : Float) (allowance words : ℕ) where
+  pub refused-answer : (k : Check) (r : Refusal) → k ≡ firstOf (congestionConditions c cutoff words) → k ≡ Checked.Refused r → Refused r ≡ densityAnswer c cutoff allowance words
+  refused-answer k r h g = sym (density-settles .earlier c cutoff allowance words r (sym h ∙ g))
+
+  module _ (passed : Passes c cutoff words) where
+    abbrev report : Charged Profile
+    report = allPairs cutoff (segments c)
+
+    -- the rounded sum over all segments is the total length of the report
+    same-total : (total : Float) → total ≡ roundedTotal (segments c) → (p : Profile) (m : ℕ) → within allowance report ≡ left p m → total ≡ p .0 .«total_length»
+    same-total total t p m e = elim (le-or-lt (report .cost) allowance) [
+      | inl q ↦ t ∙ report-exact cutoff (segments c) (fit-list c cutoff words passed) .total ∙ ap (λ (v : Profile). v .0 .«total_length») (same-value _ _ _ _ (sym (within-enough allowance report q) ∙ e))
+      | inr q ↦ absurd (never _ _ (sym (within-short allowance report q) ∙ e))
+    ]
+      where
+        same-value : (v w : Profile) (k n : ℕ) → left v k ≡ left w n → v ≡ w
+        same-value v w k n e = cc
+
+        never : (v : Profile) (k : ℕ) → spent ≡ left v k → ⊥
+        never v k e = let z : _≡_ {A = ℕ} 0 1 = cc in omega arith
+
+    pub passed-answer : (r : Swept) → r ≡ foundOf (within allowance report) → (total : Float) → total ≡ roundedTotal (segments c) → (a : CongestionAnswer) → a ≡ answerOf r total allowance → a ≡ densityAnswer c cutoff allowance words
+    unfolding densityAnswer settled
+    passed-answer r e total t a f =
+        f
+        ∙ ap (λ (o : Swept). answerOf o total allowance) e
+        ∙ answer-replies (within allowance report) total allowance (same-total total t)
+        ∙ settle-within (λ p n. Report (reportOf p n)) (Refused WorkLimitExceeded) allowance report
+        ∙ sym (ap (λ (k : Check). checked Refused k (settled allowance report)) passed)

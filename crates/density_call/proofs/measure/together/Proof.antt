@@ -1,0 +1,28 @@
+-- `density_call::measure::together` meets its contract: sums, the greater peak, the lesser gap. Assumes nothing.
+use borrow.Author.Needs.{needs}
+use Rattle.density_call.specs.Measuring.{togetherOf}
+use Rattle.density_call.proofs.measure.together.Statement.{statement}
+use Rattle.density_call.proofs.measure.together.Tie as tie
+
+minimum-option-requires : tie.Need-minimum-option-requires
+minimum-option-requires c κs = search needs
+
+greater-requires : tie.Need-greater-requires
+greater-requires c κs = search needs
+
+returns : tie.Need-returns
+returns c =
+    let g = c .before .before .before .before in
+    let a = g .before .before .args in
+    let gap = g .before .minimum-option .ensures in
+    let peak = g .greater .ensures in
+    λ i. record {
+      «congested_length» = togetherOf (a .across) (a .down) .«congested_length»;
+      «pair_overlap_length» = togetherOf (a .across) (a .down) .«pair_overlap_length»;
+      «peak_close_neighbors» = peak i;
+      «minimum_positive» = gap i;
+      left = a .down .left;
+    }
+
+pub together-spec : {M : Type 1} → statement M
+together-spec = tie.close (tie.spec minimum-option-requires greater-requires returns)

@@ -1,0 +1,2 @@
+-- The laws of the exemptions as words.
+pub mod ExemptLaws

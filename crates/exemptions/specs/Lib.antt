@@ -1,0 +1,2 @@
+-- What the contracts cite: the exemptions as words in ascending order.
+pub mod Exempting

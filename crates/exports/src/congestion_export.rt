@@ -1,0 +1,151 @@
+// The three congestion measures, and the ratio of their lengths.
+ghost use mathlib.Core.Path.{_≡_};
+ghost use lib.ListN.{length};
+ghost use Rattle.drawing.specs.Refusals.{firstOf, scratchAfter};
+ghost use Rattle.drawing.specs.Entries.{segmentColumns};
+ghost use Rattle.drawing.specs.Checks.{congestionConditions};
+ghost use Rattle.congestion.specs.Ratio as Ratio;
+ghost use Rattle.congestion.specs.Answer.{densityAnswer, profileAnswer, congestionAnswer, resultOf};
+ghost use Rattle.exports.specs.Told.{congestionWords};
+use crate::gap::bits_word;
+use crate::gap::present_word;
+use congestion::CongestionAnswer;
+use congestion::ParallelCongestion;
+use congestion_call::measure_parallel_congestion;
+use congestion_call::measure_parallel_congestion_profile_bounded;
+use density_call::measure_parallel_density_profile_bounded;
+use drawing::number;
+use floats::bits_of;
+
+// 0 where the call was accepted, else the refusal's number.
+fn congestion_status(told: CongestionAnswer) -> u32
+    ensures { λ r. ⌜ r ≡ resultOf told .0 ⌝ }
+{
+    match told {
+        CongestionAnswer::Report(_) => 0,
+        CongestionAnswer::Refused(why) => number(why) as u32,
+    }
+}
+
+// The report: the bits of the three lengths, the peak, the gap's two words, visits. Zeros at a refusal.
+fn congestion_words(told: CongestionAnswer) -> [u64; 7]
+    ensures { λ r. ⌜ r ≡ congestionWords (resultOf told .1) ⌝ }
+{
+    let CongestionAnswer::Report(report) = told else {
+        return [0; 7];
+    };
+    let figures = report.congestion;
+    let least = report.minimum_positive;
+    [
+        bits_of(figures.total_length),
+        bits_of(figures.congested_length),
+        bits_of(figures.pair_overlap_length),
+        figures.peak_close_neighbors as u64,
+        present_word(least),
+        bits_word(least),
+        report.visits as u64,
+    ]
+}
+
+// Writes the words of the report, and answers the status.
+pub(crate) fn tell_congestion(told: CongestionAnswer, out: &mut [u64; 7]) -> u32
+    ensures { λ r. ⌜ r ≡ resultOf told .0 ⌝ }
+    ensures { λ _. ⌜ now (out .exit) ≡ congestionWords (resultOf told .1) ⌝ }
+{
+    *out = congestion_words(told);
+    congestion_status(told)
+}
+
+// The density profile: all figures, within an allowance.
+#[no_mangle]
+pub extern "C" fn readability_density_profile(
+    net: &[u32],
+    orientation: &[u8],
+    fixed: &[f64],
+    start: &[f64],
+    end: &[f64],
+    cutoff: f64,
+    allowance: usize,
+    scratch: &mut [u64],
+    out: &mut [u64; 7],
+) -> u32
+    ensures { λ r. ⌜ r ≡ resultOf (densityAnswer (segmentColumns (now (net .entry)) (now (orientation .entry)) (now (fixed .entry)) (now (start .entry)) (now (end .entry))) cutoff allowance (length (now (scratch .entry)))) .0 ⌝ }
+    ensures { λ _. ⌜ now (out .exit) ≡ congestionWords (resultOf (densityAnswer (segmentColumns (now (net .entry)) (now (orientation .entry)) (now (fixed .entry)) (now (start .entry)) (now (end .entry))) cutoff allowance (length (now (scratch .entry)))) .1) ⌝ }
+    ensures { λ _. ⌜ now (scratch .exit) ≡ scratchAfter (firstOf (congestionConditions (segmentColumns (now (net .entry)) (now (orientation .entry)) (now (fixed .entry)) (now (start .entry)) (now (end .entry))) cutoff (length (now (scratch .entry))))) (now (scratch .entry)) ⌝ }
+{
+    let told = measure_parallel_density_profile_bounded(
+        net,
+        orientation,
+        fixed,
+        start,
+        end,
+        cutoff,
+        allowance,
+        scratch,
+    );
+    tell_congestion(told, out)
+}
+
+// The congestion profile: the same with pair overlap and peak zero.
+#[no_mangle]
+pub extern "C" fn readability_congestion_profile(
+    net: &[u32],
+    orientation: &[u8],
+    fixed: &[f64],
+    start: &[f64],
+    end: &[f64],
+    cutoff: f64,
+    allowance: usize,
+    scratch: &mut [u64],
+    out: &mut [u64; 7],
+) -> u32
+    ensures { λ r. ⌜ r ≡ resultOf (profileAnswer (segmentColumns (now (net .entry)) (now (orientation .entry)) (now (fixed .entry)) (now (start .entry)) (now (end .entry))) cutoff allowance (length (now (scratch .entry)))) .0 ⌝ }
+    ensures { λ _. ⌜ now (out .exit) ≡ congestionWords (resultOf (profileAnswer (segmentColumns (now (net .entry)) (now (orientation .entry)) (now (fixed .entry)) (now (start .entry)) (now (end .entry))) cutoff allowance (length (now (scratch .entry)))) .1) ⌝ }
+    ensures { λ _. ⌜ now (scratch .exit) ≡ scratchAfter (firstOf (congestionConditions (segmentColumns (now (net .entry)) (now (orientation .entry)) (now (fixed .entry)) (now (start .entry)) (now (end .entry))) cutoff (length (now (scratch .entry))))) (now (scratch .entry)) ⌝ }
+{
+    let told = measure_parallel_congestion_profile_bounded(
+        net,
+        orientation,
+        fixed,
+        start,
+        end,
+        cutoff,
+        allowance,
+        scratch,
+    );
+    tell_congestion(told, out)
+}
+
+// All figures, without an allowance.
+#[no_mangle]
+pub extern "C" fn readability_congestion(
+    net: &[u32],
+    orientation: &[u8],
+    fixed: &[f64],
+    start: &[f64],
+    end: &[f64],
+    cutoff: f64,
+    scratch: &mut [u64],
+    out: &mut [u64; 7],
+) -> u32
+    ensures { λ r. ⌜ r ≡ resultOf (congestionAnswer (segmentColumns (now (net .entry)) (now (orientation .entry)) (now (fixed .entry)) (now (start .entry)) (now (end .entry))) cutoff (length (now (scratch .entry)))) .0 ⌝ }
+    ensures { λ _. ⌜ now (out .exit) ≡ congestionWords (resultOf (congestionAnswer (segmentColumns (now (net .entry)) (now (orientation .entry)) (now (fixed .entry)) (now (start .entry)) (now (end .entry))) cutoff (length (now (scratch .entry)))) .1) ⌝ }
+    ensures { λ _. ⌜ now (scratch .exit) ≡ scratchAfter (firstOf (congestionConditions (segmentColumns (now (net .entry)) (now (orientation .entry)) (now (fixed .entry)) (now (start .entry)) (now (end .entry))) cutoff (length (now (scratch .entry))))) (now (scratch .entry)) ⌝ }
+{
+    let told = measure_parallel_congestion(net, orientation, fixed, start, end, cutoff, scratch);
+    tell_congestion(told, out)
+}
+
+// The ratio takes nothing from the two figures that are left at zero.
+#[no_mangle]
+pub extern "C" fn readability_ratio(total: f64, congested: f64) -> f64
+    ensures { λ r. ⌜ r ≡ Ratio.ratio congested total ⌝ }
+{
+    let lengths = ParallelCongestion {
+        total_length: total,
+        congested_length: congested,
+        pair_overlap_length: 0.0,
+        peak_close_neighbors: 0,
+    };
+    lengths.ratio()
+}

@@ -1,0 +1,2 @@
+-- What the range of one key is.
+pub mod Reach

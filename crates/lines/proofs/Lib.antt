@@ -1,0 +1,5 @@
+-- What the proofs of the functions lean on; `records` cites the first two.
+pub mod Copying
+pub mod Enough
+mod LineColumns
+mod Unpacking

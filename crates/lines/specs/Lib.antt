@@ -1,0 +1,2 @@
+-- The entry that a line holds, and what an orientation byte is.
+pub mod Lines

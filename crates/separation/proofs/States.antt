@@ -1,0 +1,78 @@
+-- What the functions on a state of the sweep and on an allowance answer. Assumes nothing.
+use mathlib.Core.Path.{_≡_, refl, sym, ap, _∙_}
+use mathlib.Core.Bool.{Bool, true, false}
+use Prim.Native.Nat.{ℕ, _-_, _*_, _/_, _<_}
+use native.Mathlib.Omega.{arith}
+use borrow.Author.Tests.{lt-ltb, ltb-true}
+use lib.Dec.{ltb}
+use lib.Ieee.{Float, binary64, ofBits, sub}
+use Rattle.laws.specs.Allowance.{Outcome, spent, left, reply}
+use Rattle.floats.specs.Values.{plusZero, absOf, gapOf}
+use Rattle.drawing.specs.declared.refusal.Refusal.the-variants.{WorkLimitExceeded}
+use Rattle.drawing.specs.declared.gap.Gap.{Gap}
+use Rattle.drawing.specs.declared.gap.Gap.the-variants.{Present}
+use Rattle.drawing.specs.Gaps.{lesserGap}
+use Rattle.separation.specs.declared.report.SeparationAnswer.the-variants.{Report, Refused}
+use Rattle.separation.specs.declared.state.Sweeping.{Sweeping}
+use Rattle.separation.specs.declared.state.Swept.{Swept}
+use Rattle.separation.specs.declared.state.Swept.the-variants.{Went, Spent}
+use Rattle.separation.specs.Figures.{Figures}
+use Rattle.separation.specs.Walk.{lesserFigures, ownLine}
+use Rattle.separation.specs.Answer.{accepted}
+use Rattle.separation.specs.States.{metBy, sweptOf, withGap, Answers, tooFew}
+use Rattle.separation.proofs.Summaries.{both}
+
+-- ---- what the code's answer says of a run
+pub went-is : (o : Outcome Figures) (t : Sweeping) → Went t ≡ sweptOf o → o ≡ left (metBy t) (t .left)
+unfolding sweptOf
+went-is spent t e = cc
+went-is (left f m) t e = cc
+
+pub spent-is : (o : Outcome Figures) → Spent ≡ sweptOf o → o ≡ spent
+unfolding sweptOf
+spent-is spent e = refl
+spent-is (left f m) e = cc
+
+-- ---- another net on the own line
+zero-is : ofBits binary64 0 ≡ plusZero
+unfolding ofBits
+zero-is = refl
+
+pub own-found : (own : Bool) (f : Figures) → own ≡ true → record { least = Present (ofBits binary64 0); leastNonzero = f .leastNonzero } ≡ ownLine own f
+own-found own f e = rw (e, zero-is) refl
+
+pub own-not : (own : Bool) (f : Figures) → own ≡ false → f ≡ ownLine own f
+own-not own f e = rw e
+
+-- ---- a gap joins both figures
+pub gap-joins : (st : Sweeping) (there here d : Float) (a b : Gap) → d ≡ absOf (sub binary64 there here) → a ≡ lesserGap (st .minimum) (Present d) → b ≡ lesserGap (st .«minimum_positive») (Present d) → record { least = a; leastNonzero = b } ≡ withGap (gapOf there here) (metBy st)
+unfolding lesserFigures gapOf
+gap-joins st there here d a b g x y = λ i. record {
+  least = (x ∙ ap (λ (z : Float). lesserGap (st .minimum) (Present z)) g) i;
+  leastNonzero = (y ∙ ap (λ (z : Float). lesserGap (st .«minimum_positive») (Present z)) g) i;
+}
+
+-- ---- the lesser of each figure
+pub lesser-of : (a b : Sweeping) (x y : Gap) → x ≡ lesserGap (a .minimum) (b .minimum) → y ≡ lesserGap (a .«minimum_positive») (b .«minimum_positive») → record { least = x; leastNonzero = y } ≡ lesserFigures (metBy a) (metBy b)
+unfolding lesserFigures
+lesser-of a b x y e f = λ i. record { least = e i; leastNonzero = f i }
+
+-- ---- the answer
+pub answers-spent : (r : Swept) (allowance : ℕ) → r ≡ Spent → Answers r allowance (Refused WorkLimitExceeded)
+unfolding reply
+answers-spent r allowance h o e = sym (rw (spent-is o (sym h ∙ e)))
+
+pub answers-went : (r : Swept) (allowance : ℕ) (t : Sweeping) (v : ℕ) → r ≡ Went t → v ≡ allowance - t .left → Answers r allowance (Report (record { minimum = t .minimum; «minimum_positive» = t .«minimum_positive»; visits = v }))
+unfolding reply
+answers-went r allowance t v h k o e =
+    let z : Report (record { minimum = t .minimum; «minimum_positive» = t .«minimum_positive»; visits = allowance - t .left }) ≡ reply accepted (Refused WorkLimitExceeded) allowance o = sym (rw (went-is o t (sym h ∙ e))) in
+    ap (λ (n : ℕ). Report (record { minimum = t .minimum; «minimum_positive» = t .«minimum_positive»; visits = n })) k ∙ z
+
+-- ---- the allowance: a fifth of it in place of five times the segments
+pub fifth : (m n : ℕ) → ltb (m / 5) n ≡ tooFew m n
+unfolding tooFew
+fifth m n = both (ltb (m / 5) n) (ltb m (5 * n)) (λ t. let h : m / 5 < n = ltb-true (m / 5) n t in lt-ltb m (5 * n) (omega arith)) (λ t. let h : m < 5 * n = ltb-true m (5 * n) t in lt-ltb (m / 5) n (omega arith))
+
+pub too-few-means : (m n : ℕ) (t : Bool) → t ≡ tooFew m n → t ≡ true → m < 5 * n
+unfolding tooFew
+too-few-means m n t e h = ltb-true m (5 * n) (sym e ∙ h)

@@ -1,0 +1,21 @@
+-- `separation::state::with_other_line` meets its contract: the gap joins both figures. Assumes nothing.
+use mathlib.Core.Path.{refl}
+use borrow.Author.Needs.{needs}
+use Rattle.separation.proofs.States.{gap-joins}
+use Rattle.separation.proofs.state.with_other_line.Statement.{statement}
+use Rattle.separation.proofs.state.with_other_line.Tie as tie
+
+absolute-requires : tie.Need-absolute-requires
+absolute-requires c κs = search needs
+
+minimum-option-requires : tie.Need-minimum-option-requires
+minimum-option-requires c κs = search needs
+
+minimum-option-requires-2 : tie.Need-minimum-option-requires-2
+minimum-option-requires-2 c κs = search needs
+
+returns : tie.Need-returns
+returns c = (gap-joins (c .before .before .before .args .state) _ _ _ _ _ (c .before .before .absolute .ensures) (c .before .minimum-option .ensures) (c .minimum-option2 .ensures), refl)
+
+pub with-other-line-spec : {M : Type 1} → statement M
+with-other-line-spec = tie.close (tie.spec absolute-requires minimum-option-requires minimum-option-requires-2 returns)

@@ -1,0 +1,14 @@
+// What the tree of the active nets answers to a search and to a `set`.
+
+// A search answers the place that it found or that there is none, with what is left of the allowance, or that the allowance is spent.
+pub enum Search {
+    Found(usize, usize),
+    Empty(usize),
+    Spent,
+}
+
+// What is left after a `set`, or that the allowance did not reach.
+pub enum Charge {
+    Paid(usize),
+    Short,
+}

@@ -1,0 +1,268 @@
+-- The loop over the events: after q events the others, from where the sweep stands, come to the same. Assumes nothing.
+use mathlib.Core.Path.{_≡_, refl, sym, ap, _∙_, subst}
+use mathlib.Core.Logic.{inl, inr}
+use mathlib.Core.List.{List, [], _∷_}
+use Prim.Native.Nat.{ℕ, suc, _+_, _-_, _*_, _^_, _≤_, _<_}
+use native.Mathlib.Numerals.{add-one}
+use native.Mathlib.Omega.{arith}
+use borrow.Author.Tests.{lt-ltb, le-ltb}
+use lib.Dec.{ltb}
+use lib.ListN.{length, getD, take, drop, drop-of-length-le, length-map, length-take}
+use lib.Seq.{drop-cons, getD-take, length-take-le}
+use Rattle.laws.specs.Lists.{Mem}
+use Rattle.laws.specs.Charged.{Charged, runs}
+use Rattle.laws.specs.Allowance.{Outcome, spent, left, within, onward}
+use Rattle.laws.proofs.Tests.{le-or-lt, cond-true, cond-false}
+use Rattle.laws.proofs.Places.{first-at}
+use Rattle.laws.proofs.Runs.{within-none, within-next, within-enough, within-short, onward-spent, onward-left}
+use Rattle.rows.specs.Rows.{Row, Event, ends, starts, events}
+use Rattle.rows.specs.Tables.{rowFrom, eventFrom}
+use Rattle.rows.proofs.ColumnParts.{getD-map}
+use Rattle.separation.specs.Figures.{Figures}
+use Rattle.separation.specs.Lines.{lines, levels}
+use Rattle.separation.specs.Walk.{nothing, Sweep, remove, startsAt, endsAt, step, sweep}
+use Rattle.separation.proofs.Allowances.{sweep-within}
+use Rattle.separation.proofs.Sweeps.{State, begin, after-start, after-end, is-active}
+use Rattle.separation.specs.declared.state.Sweeping.{Sweeping}
+use Rattle.separation.specs.declared.state.Swept.{Swept}
+use Rattle.separation.specs.declared.state.Swept.the-variants.{Went, Spent}
+use Rattle.separation.specs.States.{metBy, sweptOf}
+use Rattle.separation_call.specs.Sweeping.{Ready, AtStart, AtEnd, AtEvent, AtFirst, figuresOf, Begins, Finishes, Handles}
+use Rattle.separation.proofs.States.{went-is, spent-is}
+use Rattle.separation_call.proofs.SweepRun.{front-word, start-active, end-active}
+
+-- ---- an event by its number
+ends-at : (l : List Row) (e : ℕ) → e < length l → eventFrom l e ≡ ends e (rowFrom l e)
+ends-at l e h = cond-true (ltb e (length l)) _ _ (lt-ltb e (length l) h)
+
+starts-at : (l : List Row) (e : ℕ) → length l ≤ e → eventFrom l e ≡ starts (e - length l) (rowFrom l (e - length l))
+starts-at l e h = cond-false (ltb e (length l)) _ _ (le-ltb e (length l) h)
+
+ending : (ls : List ℕ) (H : ℕ) (t : Sweep) (i : ℕ) (x : Row) → step ls H t (ends i x) ≡ endsAt H t x
+unfolding step
+ending ls H t i x = refl
+
+starting : (ls : List ℕ) (H : ℕ) (t : Sweep) (i : ℕ) (x : Row) → step ls H t (starts i x) ≡ startsAt ls H t x
+unfolding step
+starting ls H t i x = refl
+
+module _ (s : List ℕ) (n leaves e : ℕ) where
+  pub event-ends : AtEvent s n leaves e → e < n → AtEnd s n leaves e
+  event-ends a h = record { at = record { l = a .l; F = a .F; H = a .H; b = a .b; active = a .active; size = a .size; count = a .count; ready = a .ready; inside = h; early = a .early }; there = a .there h }
+
+  pub event-starts : AtEvent s n leaves e → n ≤ e → AtStart s n leaves (e - n)
+  event-starts a h = record { l = a .l; F = a .F; H = a .H; b = a .b; active = a .active; size = a .size; count = a .count; ready = a .ready; inside = let g = a .inside in omega arith; early = a .early }
+
+  module _ (t : List ℕ) (st : Sweeping) (r : Swept) where
+    -- a step that is known by its event
+    abbrev Step : List Row → List ℕ → ℕ → ℕ → Charged Sweep → Type 0
+    Step l F H b c = (r ≡ sweptOf (figuresOf (within (st .left) c))) × ((to : Sweeping) → r ≡ Went to → Ready l F H (b + 1) (c .value .active) t)
+
+    pub handles-end : e < n → Finishes s t n leaves e st r → Handles s t n leaves e st r
+    handles-end h f l F H b active size count ready there =
+        let here : Sweep = record { active = active; met = metBy st } in
+        let g = f l F H b active size count ready (there h) in
+        let c : step (lines l) H here (eventFrom l e) ≡ endsAt H here (rowFrom l e) = ap (step (lines l) H here) (ends-at l e (omega arith)) ∙ ending (lines l) H here e (rowFrom l e) in
+        subst (Step l F H b) (sym c) (g .0, λ to w. subst (λ (a : List Row). Ready l F H (b + 1) a t) (sym (end-active (lines l) H active st (rowFrom l e))) (g .1 to w))
+
+    pub handles-start : n ≤ e → Begins s t n leaves (e - n) st r → Handles s t n leaves e st r
+    handles-start h f l F H b active size count ready there =
+        let here : Sweep = record { active = active; met = metBy st } in
+        let g = f l F H b active size count ready in
+        let k : e - n ≡ e - length l = omega arith in
+        let c : step (lines l) H here (eventFrom l e) ≡ startsAt (lines l) H here (rowFrom l (e - n)) = ap (step (lines l) H here) (starts-at l e (omega arith)) ∙ starting (lines l) H here (e - length l) (rowFrom l (e - length l)) ∙ ap (λ (j : ℕ). startsAt (lines l) H here (rowFrom l j)) (sym k) in
+        subst (Step l F H b) (sym c) (g .0, λ to w. subst (λ (a : List Row). Ready l F H (b + 1) a t) (sym (start-active (lines l) H active st (rowFrom l (e - n)))) (g .1 to w))
+
+-- ---- what is known of a run by its figures
+left-parts : (f g : Figures) (k m : ℕ) → left f k ≡ left g m → (f ≡ g) × (k ≡ m)
+left-parts f g k m e = (cc, cc)
+
+not-spent : (f : Figures) (k : ℕ) → left f k ≡ spent → ⊥
+not-spent f k e = let z : _≡_ {A = ℕ} 0 1 = cc in omega arith
+
+figures-left : (m : ℕ) (c : Charged Sweep) (f : Figures) (k : ℕ) → figuresOf (within m c) ≡ left f k → within m c ≡ left (record { active = c .value .active; met = f }) k
+figures-left m c f k e = elim (le-or-lt (c .cost) m) [
+  | inl h ↦ go (within-enough m c h)
+  | inr h ↦ absurd (not-spent f k (sym e ∙ ap figuresOf (within-short m c h) ∙ onward-spent (λ t z. left (t .met) z)))
+]
+  where
+    go : within m c ≡ left (c .value) (m - c .cost) → within m c ≡ left (record { active = c .value .active; met = f }) k
+    go w =
+        let p = left-parts (c .value .met) f (m - c .cost) k (sym (ap figuresOf w ∙ onward-left (c .value) (m - c .cost) (λ t z. left (t .met) z)) ∙ e) in
+        w ∙ (λ i. left (record { active = c .value .active; met = p .0 i }) (p .1 i))
+
+figures-spent : (m : ℕ) (c : Charged Sweep) → figuresOf (within m c) ≡ spent → within m c ≡ spent
+figures-spent m c e = elim (le-or-lt (c .cost) m) [
+  | inl h ↦ absurd (not-spent (c .value .met) (m - c .cost) (sym (ap figuresOf (within-enough m c h) ∙ onward-left (c .value) (m - c .cost) (λ t z. left (t .met) z)) ∙ e))
+  | inr h ↦ within-short m c h
+]
+
+-- ---- the loop
+module _ (l : List Row) (F : List ℕ) (H allowance : ℕ) where
+  abbrev start : Sweep
+  start = record { active = []; met = nothing }
+
+  abbrev all : Outcome Figures
+  all = figuresOf (within allowance (runs (step (lines l) H) start (events l)))
+
+  pub record Going (st : Sweeping) (s : List ℕ) (q : ℕ) : Type 0 where
+    pub active : List Row
+    pub ready : Ready l F H q active s
+    pub proper : (r : Row) → Mem r l → r .start < r .end
+    pub state : State l active (drop q (events l))
+    pub below : q ≤ 2 * length l
+    pub onwards : figuresOf (within (st .left) (runs (step (lines l) H) (record { active = active; met = metBy st }) (drop q (events l)))) ≡ all
+
+  pub going-none : (st : Sweeping) (s : List ℕ) → Ready l F H 0 [] s → ((r : Row) → Mem r l → r .start < r .end) → metBy st ≡ nothing → st .left ≡ allowance → Going st s 0
+  going-none st s ready proper e k = record {
+    active = [];
+    ready = ready;
+    proper = proper;
+    state = begin l;
+    below = omega arith;
+    onwards = λ i. figuresOf (within (k i) (runs (step (lines l) H) (record { active = []; met = e i }) (events l)));
+  }
+
+  module _ (st : Sweeping) (s : List ℕ) (q : ℕ) (g : Going st s q) where
+    tables-long : 9 * length l ≤ length F
+    tables-long =
+        let e = ap length (g .ready .front) in
+        omega (arith, length-take-le (9 * length l) s (omega (arith, g .ready .room)), length-take (9 * length l) F)
+
+    events-long : length (events l) ≡ 2 * length l
+    events-long = ap length (sym (g .ready .prepared .ordered)) ∙ length-map (take (2 * length l) F) (eventFrom l) ∙ length-take-le (2 * length l) F (omega (arith, tables-long))
+
+    module _ (less : q < 2 * length l) where
+      abbrev number : ℕ
+      number = getD s q 0
+
+      same-word : number ≡ getD F q 0
+      same-word = front-word l F H q (g .active) s (g .ready) q (omega arith)
+
+      pub number-small : number < 2 * length l
+      number-small =
+          let k : getD F q 0 < 2 * length l = first-at (λ e. e < 2 * length l) 0 (2 * length l) F (omega (arith, tables-long)) (g .ready .prepared .small) q less in
+          omega (arith, same-word)
+
+      next-is : drop q (events l) ≡ eventFrom l number ∷ drop (q + 1) (events l)
+      next-is =
+          let none = eventFrom l 0 in
+          let here : getD (events l) q none ≡ eventFrom l number = ap (λ (c : List Event). getD c q none) (sym (g .ready .prepared .ordered)) ∙ getD-map (eventFrom l) (take (2 * length l) F) q 0 none (omega (arith, length-take-le (2 * length l) F (omega (arith, tables-long)))) ∙ ap (eventFrom l) (getD-take (2 * length l) F q 0 less ∙ sym same-word) in
+          rw (add-one q) (drop-cons (events l) q none (omega (arith, events-long)) ∙ ap (λ (e : Event). e ∷ drop (suc q) (events l)) here)
+
+      now-state : State l (g .active) (eventFrom l number ∷ drop (q + 1) (events l))
+      now-state = subst (State l (g .active)) next-is (g .state)
+
+      pub ends-active : number < length l → Mem (rowFrom l number) (g .active)
+      ends-active h = is-active l (g .proper) (g .active) number (rowFrom l number) (drop (q + 1) (events l)) (subst (λ (e : Event). State l (g .active) (e ∷ drop (q + 1) (events l))) (ends-at l number h) now-state)
+
+      abbrev here : Sweep
+      here = record { active = g .active; met = metBy st }
+
+      abbrev c : Charged Sweep
+      c = step (lines l) H here (eventFrom l number)
+
+      next-state : State l (c .value .active) (drop (q + 1) (events l))
+      next-state = elim (le-or-lt (length l) number) [
+        | inr h ↦
+            let e = ends-at l number h in
+            let a : c .value .active ≡ remove (rowFrom l number) (g .active) = ap (λ (z : Charged Sweep). z .value .active) (ap (step (lines l) H here) e ∙ ending (lines l) H here number (rowFrom l number)) ∙ end-active (lines l) H (g .active) st (rowFrom l number) in
+            subst (λ (z : List Row). State l z (drop (q + 1) (events l))) (sym a) (after-end l (g .proper) (g .active) number (rowFrom l number) (drop (q + 1) (events l)) (subst (λ (z : Event). State l (g .active) (z ∷ drop (q + 1) (events l))) e now-state))
+        | inl h ↦
+            let j = number - length l in
+            let e = starts-at l number h in
+            let a : c .value .active ≡ rowFrom l j ∷ g .active = ap (λ (z : Charged Sweep). z .value .active) (ap (step (lines l) H here) e ∙ starting (lines l) H here j (rowFrom l j)) ∙ start-active (lines l) H (g .active) st (rowFrom l j) in
+            subst (λ (z : List Row). State l z (drop (q + 1) (events l))) (sym a) (after-start l (g .proper) (g .active) j (rowFrom l j) (drop (q + 1) (events l)) (subst (λ (z : Event). State l (g .active) (z ∷ drop (q + 1) (events l))) e now-state))
+      ]
+
+      split : figuresOf (within (st .left) (runs (step (lines l) H) here (drop q (events l)))) ≡ figuresOf (onward (within (st .left) c) (λ t m. within m (runs (step (lines l) H) t (drop (q + 1) (events l)))))
+      split = ap (λ (es : List Event). figuresOf (within (st .left) (runs (step (lines l) H) here es))) next-is ∙ ap figuresOf (within-next (step (lines l) H) (st .left) here (eventFrom l number) (drop (q + 1) (events l)))
+
+      module _ (r : Swept) (t : List ℕ) (e : r ≡ sweptOf (figuresOf (within (st .left) c))) (k : (to : Sweeping) → r ≡ Went to → Ready l F H (q + 1) (c .value .active) t) where
+        pub going-stops : r ≡ Spent → Spent ≡ sweptOf all
+        unfolding sweptOf
+        going-stops x =
+            let z = figures-spent (st .left) c (spent-is (figuresOf (within (st .left) c)) (sym x ∙ e)) in
+            let y : all ≡ spent = sym (g .onwards) ∙ split ∙ ap (λ (o : Outcome Sweep). figuresOf (onward o (λ t m. within m (runs (step (lines l) H) t (drop (q + 1) (events l)))))) z ∙ ap figuresOf (onward-spent (λ t m. within m (runs (step (lines l) H) t (drop (q + 1) (events l))))) ∙ onward-spent (λ t m. left (t .met) m) in
+            sym (ap sweptOf y)
+
+        pub going-next : (to : Sweeping) → r ≡ Went to → Going to t (q + 1)
+        going-next to x =
+            let z = figures-left (st .left) c (metBy to) (to .left) (went-is (figuresOf (within (st .left) c)) to (sym x ∙ e)) in
+            let on : Sweep → ℕ → Outcome Sweep = λ t m. within m (runs (step (lines l) H) t (drop (q + 1) (events l))) in
+            record {
+              active = c .value .active;
+              ready = k to x;
+              proper = g .proper;
+              state = next-state;
+              below = omega arith;
+              onwards = sym (split ∙ ap (λ (o : Outcome Sweep). figuresOf (onward o on)) z ∙ ap figuresOf (onward-left (record { active = c .value .active; met = metBy to }) (to .left) on)) ∙ g .onwards;
+            }
+
+    pub going-all : 2 * length l ≤ q → Went st ≡ sweptOf all
+    unfolding sweptOf
+    going-all h =
+        let e : drop q (events l) ≡ [] = drop-of-length-le (events l) {i = q} (omega (arith, events-long)) in
+        let here : Sweep = record { active = g .active; met = metBy st } in
+        let z : all ≡ left (metBy st) (st .left) = sym (g .onwards) ∙ ap (λ (es : List Event). figuresOf (within (st .left) (runs (step (lines l) H) here es))) e ∙ ap figuresOf (within-none (step (lines l) H) (st .left) here) ∙ onward-left here (st .left) (λ t m. left (t .met) m) in
+        sym (ap sweptOf z)
+
+  -- all events are the sweep
+  pub swept-all : H ≡ levels (length (lines l)) → sweptOf all ≡ sweptOf (within allowance (sweep l))
+  swept-all e = ap sweptOf (ap (λ (h : ℕ). figuresOf (within allowance (runs (step (lines l) h) start (events l)))) e ∙ sym (sweep-within allowance l))
+
+-- ---- the same for whatever rows the scratch is made ready with; n is how many they are
+module _ (n leaves allowance : ℕ) (s₀ : List ℕ) where
+  abbrev pub Runs : Sweeping → List ℕ → ℕ → Type 0
+  Runs st s q = (l : List Row) (F : List ℕ) (H : ℕ) → length l ≡ n → leaves ≡ 2 ^ H → Ready l F H 0 [] s₀ → ((a : Row) → Mem a l → a .start < a .end) → Going l F H allowance st s q
+
+  -- the rows that the caller knows of
+  pub the-going : AtFirst s₀ n leaves → (st : Sweeping) (s : List ℕ) (q : ℕ) (g : Runs st s q) → (l : List Row) × (F : List ℕ) × (H : ℕ) × (length l ≡ n) × (leaves ≡ 2 ^ H) × Going l F H allowance st s q
+  the-going a st s q g = (a .l, a .F, a .H, a .size, a .count, g (a .l) (a .F) (a .H) (a .size) (a .count) (a .ready) (a .proper))
+
+  pub run-room : AtFirst s₀ n leaves → (st : Sweeping) (s : List ℕ) (q : ℕ) → Runs st s q → (20 * n ≤ length s) × (n ≤ 4096)
+  run-room a st s q g = let x = the-going a st s q g in let r = x .5 .ready in let e = x .3 in (omega (arith, r .room), omega (arith, r .few))
+
+  pub run-event : AtFirst s₀ n leaves → (st : Sweeping) (s : List ℕ) (q : ℕ) → Runs st s q → q < 2 * n → (number : ℕ) → number ≡ getD s q 0 → AtEvent s n leaves number
+  run-event a st s q g less number read =
+      let x = the-going a st s q g in
+      let l = x .0 in
+      let e = x .3 in
+      let o = x .5 in
+      let h : q < 2 * length l = omega arith in
+      rw read (record {
+        l = l;
+        F = x .1;
+        H = x .2;
+        b = q;
+        active = o .active;
+        size = e;
+        count = x .4;
+        ready = o .ready;
+        inside = omega (arith, number-small l (x .1) (x .2) allowance st s q o h);
+        early = omega (arith, o .ready .few);
+        there = λ k. ends-active l (x .1) (x .2) allowance st s q o h (omega arith);
+      })
+
+  module _ (st : Sweeping) (s : List ℕ) (q : ℕ) (g : Runs st s q) (less : q < 2 * n) (number : ℕ) (read : number ≡ getD s q 0) (r : Swept) (t : List ℕ) (f : Handles s t n leaves number st r) where
+    module _ (l : List Row) (F : List ℕ) (H : ℕ) (size : length l ≡ n) (count : leaves ≡ 2 ^ H) (o : Going l F H allowance st s q) where
+      less-rows : q < 2 * length l
+      less-rows = omega arith
+
+      handled : let c = step (lines l) H (record { active = o .active; met = metBy st }) (eventFrom l (getD s q 0)) in (r ≡ sweptOf (figuresOf (within (st .left) c))) × ((to : Sweeping) → r ≡ Went to → Ready l F H (q + 1) (c .value .active) t)
+      handled = subst (λ (k : ℕ). Handles s t n leaves k st r) read f l F H q (o .active) size count (o .ready) (λ k. ends-active l F H allowance st s q o less-rows (omega arith))
+
+    pub run-next : (to : Sweeping) → r ≡ Went to → Runs to t (q + 1)
+    run-next to e l F H size count ready proper =
+        let o = g l F H size count ready proper in
+        let k = handled l F H size count o in
+        going-next l F H allowance st s q o (less-rows l F H size count o) r t (k .0) (k .1) to e
+
+    pub run-stops : r ≡ Spent → (l : List Row) (F : List ℕ) (H : ℕ) → length l ≡ n → leaves ≡ 2 ^ H → Ready l F H 0 [] s₀ → ((a : Row) → Mem a l → a .start < a .end) → H ≡ levels (length (lines l)) → Spent ≡ sweptOf (within allowance (sweep l))
+    run-stops e l F H size count ready proper h =
+        let o = g l F H size count ready proper in
+        let k = handled l F H size count o in
+        going-stops l F H allowance st s q o (less-rows l F H size count o) r t (k .0) (k .1) e ∙ swept-all l F H allowance h
+
+  pub run-all : (st : Sweeping) (s : List ℕ) (q : ℕ) → Runs st s q → 2 * n ≤ q → (l : List Row) (F : List ℕ) (H : ℕ) → length l ≡ n → leaves ≡ 2 ^ H → Ready l F H 0 [] s₀ → ((a : Row) → Mem a l → a .start < a .end) → H ≡ levels (length (lines l)) → Went st ≡ sweptOf (within allowance (sweep l))
+  run-all st s q g less l F H size count ready proper h = going-all l F H allowance st s q (g l F H size count ready proper) (omega arith) ∙ swept-all l F H allowance h

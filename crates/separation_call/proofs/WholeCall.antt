@@ -1,0 +1,106 @@
+-- The whole call: what the checks tell of the columns, both orientations, and the answer. Assumes nothing.
+use mathlib.Core.Path.{_≡_, sym, ap, _∙_, subst}
+use mathlib.Core.Bool.{Bool, true}
+use mathlib.Core.List.{List}
+use Prim.Native.Nat.{ℕ, _+_, _-_, _*_, _^_, _≤_, _<_}
+use native.Mathlib.Omega.{arith}
+use borrow.Author.Tests.{ltb-false}
+use lib.ListN.{length}
+use Rattle.laws.specs.Lists.{Mem, All}
+use Rattle.laws.specs.Allowance.{Outcome, spent, left, within, onward}
+use Rattle.laws.proofs.ListLaws.{all-mem}
+use Rattle.laws.proofs.Runs.{within-short, onward-spent, onward-left, settle-within}
+use Rattle.drawing.specs.declared.refusal.Refusal.{Refusal}
+use Rattle.drawing.specs.declared.refusal.Refusal.the-variants.{WorkLimitExceeded}
+use Rattle.drawing.specs.declared.refusal.Check.{Check}
+use Rattle.drawing.specs.declared.refusal.Check.the-variants.{Passed, Refused as Stopped}
+use Rattle.drawing.specs.Entries.{Segment, SegmentColumns, segments}
+use Rattle.drawing.specs.Conditions.{shortScratch}
+use Rattle.drawing.specs.Checks.{separationConditions}
+use Rattle.drawing.specs.Refusals.{firstOf}
+use Rattle.drawing.proofs.FirstRefusal.{passed-head, few, separation-agree}
+use Rattle.drawing.specs.Held.{SegmentHeld}
+use Rattle.drawing.specs.Lengths.{SegmentsAgree}
+use Rattle.rows.specs.Rows.{Row, rowOf, oriented, segmentsToSweep}
+use Rattle.rows.proofs.Oriented.{mem-oriented}
+use Rattle.rows.proofs.ToSweep.{rows-to-sweep}
+use Rattle.separation.specs.declared.report.SeparationAnswer.{SeparationAnswer}
+use Rattle.separation.specs.declared.report.SeparationAnswer.the-variants.{Refused}
+use Rattle.separation.specs.Figures.{Figures}
+use Rattle.separation.specs.Walk.{lesserFigures, along, walkAll}
+use Rattle.separation.specs.Answer.{accepted, separationAnswer}
+use Rattle.separation.proofs.Fit.{Fit, row-rises}
+use Rattle.separation.proofs.Costs.{walk-least}
+use Rattle.separation.proofs.Allowances.{walk-within}
+use Rattle.separation.proofs.Answers.{passed-fit, walk-settles}
+use Rattle.separation.specs.declared.state.Sweeping.{Sweeping}
+use Rattle.separation.specs.declared.state.Swept.{Swept}
+use Rattle.separation.specs.declared.state.Swept.the-variants.{Went, Spent}
+use Rattle.separation.specs.States.{metBy, sweptOf, Answers, tooFew}
+use Rattle.separation_call.specs.Sweeping.{AtColumns}
+use Rattle.separation.proofs.States.{went-is, spent-is, too-few-means}
+
+-- ---- what the checks tell
+row-net : (s : Segment) → s .net < 2 ^ 32 → rowOf s .net < 2 ^ 32
+unfolding rowOf
+row-net s h = h
+
+module _ (c : SegmentColumns) (words : ℕ) (passed : firstOf (separationConditions c words) ≡ Passed) where
+  sizes : (length (c .net) ≤ 4096) × (32 * length (c .net) + 64 ≤ words)
+  unfolding separationConditions shortScratch
+  sizes =
+      let a = passed-head _ _ _ passed in
+      let b = passed-head _ _ _ (a .1) in
+      let d = passed-head _ _ _ (b .1) in
+      (few (length (c .net)) (b .0), omega (arith, ltb-false words (32 * (length (c .net) + 0) + 64) (d .0)))
+
+  module _ (held : All SegmentHeld (segments c)) (nets : All (λ (s : Segment). s .net < 2 ^ 32) (segments c)) where
+    proper : (o : ℕ) (r : Row) → Mem r (oriented o (segments c)) → (r .net < 2 ^ 32) × (r .start < r .end)
+    proper o r m =
+        let g = mem-oriented o (segments c) r m in
+        let s = g .segment in
+        subst (λ (x : Row). (x .net < 2 ^ 32) × (x .start < x .end)) (sym (g .is))
+        (row-net s (all-mem (λ (t : Segment). t .net < 2 ^ 32) (segments c) nets s (g .there)), row-rises s (all-mem Fit (segments c) (passed-fit c words passed held) s (g .there)))
+
+    pub at-columns : (o : ℕ) → AtColumns words o c
+    at-columns o = record { agree = separation-agree c words passed; few = sizes .0; room = sizes .1; proper = proper o }
+
+-- ---- too few visits, whatever the walk finds
+pub too-few : (c : SegmentColumns) → SegmentsAgree c → (m n : ℕ) (t : Bool) → n ≡ segmentsToSweep (c .orientation) → t ≡ tooFew m n → t ≡ true → Spent ≡ sweptOf (within m (walkAll (segments c)))
+unfolding sweptOf
+too-few c agree m n t e k h = sym (ap sweptOf (within-short m (walkAll (segments c)) (omega (arith, too-few-means m n t k h, rows-to-sweep c agree, walk-least (segments c)))))
+
+-- ---- both orientations
+module _ (l : List Segment) (m : ℕ) (first : Swept) (one : first ≡ sweptOf (within m (along (oriented 1 l)))) where
+  abbrev second : Figures → ℕ → Outcome Figures
+  second f r = onward (within r (along (oriented 0 l))) (λ g r. left (lesserFigures f g) r)
+
+  pub walk-stops : first ≡ Spent → Spent ≡ sweptOf (within m (walkAll l))
+  unfolding sweptOf
+  walk-stops e =
+      let z : onward (within m (along (oriented 1 l))) second ≡ spent = rw (spent-is (within m (along (oriented 1 l))) (sym e ∙ one)) (onward-spent second) in
+      sym (ap sweptOf (walk-within m l ∙ z))
+
+  module _ (across : Sweeping) (went : first ≡ Went across) (next : Swept) (other : next ≡ sweptOf (within (across .left) (along (oriented 0 l)))) where
+    on : within m (walkAll l) ≡ second (metBy across) (across .left)
+    on = walk-within m l ∙ rw (went-is (within m (along (oriented 1 l))) across (sym went ∙ one)) (onward-left (metBy across) (across .left) second)
+
+    pub walk-stops-later : next ≡ Spent → Spent ≡ sweptOf (within m (walkAll l))
+    unfolding sweptOf
+    walk-stops-later e =
+        let z : second (metBy across) (across .left) ≡ spent = rw (spent-is (within (across .left) (along (oriented 0 l))) (sym e ∙ other)) (onward-spent (λ g r. left (lesserFigures (metBy across) g) r)) in
+        sym (ap sweptOf (on ∙ z))
+
+    pub walk-both : (down r : Sweeping) → next ≡ Went down → metBy r ≡ lesserFigures (metBy across) (metBy down) → r .left ≡ down .left → Went r ≡ sweptOf (within m (walkAll l))
+    unfolding sweptOf
+    walk-both down r e f k =
+        let z : second (metBy across) (across .left) ≡ left (lesserFigures (metBy across) (metBy down)) (down .left) = rw (went-is (within (across .left) (along (oriented 0 l))) down (sym e ∙ other)) (onward-left (metBy down) (down .left) (λ g r. left (lesserFigures (metBy across) g) r)) in
+        (λ i. sweptOf (left (f i) (k i))) ∙ sym (ap sweptOf (on ∙ z))
+
+-- ---- the answer
+pub refused-answer : (c : SegmentColumns) (allowance words : ℕ) (k : Check) (r : Refusal) → k ≡ firstOf (separationConditions c words) → k ≡ Stopped r → Refused r ≡ separationAnswer c allowance words
+unfolding separationAnswer
+refused-answer c allowance words k r h g = sym (rw (sym h ∙ g))
+
+pub passed-answer : (c : SegmentColumns) (allowance words : ℕ) → firstOf (separationConditions c words) ≡ Passed → All SegmentHeld (segments c) → (r : Swept) → r ≡ sweptOf (within allowance (walkAll (segments c))) → (a : SeparationAnswer) → Answers r allowance a → a ≡ separationAnswer c allowance words
+passed-answer c allowance words passed held r e a f = f (within allowance (walkAll (segments c))) e ∙ settle-within accepted (Refused WorkLimitExceeded) allowance (walkAll (segments c)) ∙ sym (walk-settles c words passed held allowance)

@@ -1,0 +1,63 @@
+-- `separation_call::sweep::look` meets its contract: the own line, the search below and the search above, each within what the one before it left. Assumes nothing.
+use borrow.Author.Needs.{needs}
+use denote.Ref.{now}
+use Rattle.separation_call.proofs.SweepSteps.{right-within, left-within, look-none, look-stops, look-on}
+use Rattle.separation_call.proofs.sweep.look.Statement.{statement}
+use Rattle.separation_call.proofs.sweep.look.Tie as tie
+
+returns : tie.Need-returns
+returns c = λ ls H active x k v f l. look-none (now (c .before .before .before .before .args .tree)) (now (c .before .before .before .before .args .fixed)) _ _ _ (c .before .before .before .before .args .state) ls H active x k v f l (c .if1 .taken)
+
+has-other-at-requires : tie.Need-has-other-at-requires
+has-other-at-requires c κs = search needs
+
+sub-with-own-line : tie.Need-sub-with-own-line
+sub-with-own-line c = search needs
+
+with-own-line-requires : tie.Need-with-own-line-requires
+with-own-line-requires c κs = search needs
+
+rightmost-other-requires : tie.Need-rightmost-other-requires
+rightmost-other-requires c κs = search needs
+
+with-search-requires : tie.Need-with-search-requires
+with-search-requires c κs = let p = c .before .before .before .before .before .before .before .before .pre in right-within _ _ _ _ _ _ _ _ (p .tree .count) (p .inside) (p .values) (c .rightmost-other .ensures _ (p .tree .count))
+
+enum-known-swept : tie.Need-enum-known-swept
+enum-known-swept c = search needs
+
+enum-told : tie.Need-enum-told
+enum-told c = search needs
+
+returns-2 : tie.Need-returns-2
+returns-2 c = let a = c .before .before .before .before .before .before .before .before .before .before .before .args in λ ls H active x k v f l. look-stops (now (a .tree)) (now (a .fixed)) _ _ _ (a .state) ls H active x k v f l _ _ _ _ (c .before .before .before .before .before .before .has-other-at .ensures) (c .before .before .before .before .with-own-line .ensures .0) (c .before .before .before .before .before .before .before .if1 .left) (c .before .before .before .before .with-own-line .ensures .1) (c .before .before .before .rightmost-other .ensures) (c .before .before .with-search .ensures) (c .enum-told .given .1)
+
+add-leftmost-other : tie.Need-add-leftmost-other
+add-leftmost-other c = search needs
+
+leftmost-other-requires : tie.Need-leftmost-other-requires
+leftmost-other-requires c κs = search needs
+
+with-search-requires-2 : tie.Need-with-search-requires-2
+with-search-requires-2 c κs = let p = c .before .before .before .before .before .before .before .before .before .before .before .before .before .pre in left-within _ _ _ _ _ _ _ _ (p .tree .count) (p .inside) (p .values) (c .leftmost-other .ensures _ (p .tree .count))
+
+returns-3 : tie.Need-returns-3
+returns-3 c = let a = c .before .before .before .before .before .before .before .before .before .before .before .before .before .before .args in λ ls H active x k v f l. look-on (now (a .tree)) (now (a .fixed)) _ _ _ (a .state) ls H active x k v f l _ _ _ _ (c .before .before .before .before .before .before .before .before .before .has-other-at .ensures) (c .before .before .before .before .before .before .before .with-own-line .ensures .0) (c .before .before .before .before .before .before .before .before .before .before .if1 .left) (c .before .before .before .before .before .before .before .with-own-line .ensures .1) (c .before .before .before .before .before .before .rightmost-other .ensures) (c .before .before .before .before .before .with-search .ensures) _ _ _ (c .before .before .before .swept .given .1) (c .before .leftmost-other .ensures) (c .with-search2 .ensures)
+
+pub look-spec : {M : Type 1} → statement M
+look-spec =
+    tie.close
+    (tie.spec
+    returns
+    has-other-at-requires
+    sub-with-own-line
+    with-own-line-requires
+    rightmost-other-requires
+    with-search-requires
+    enum-known-swept
+    enum-told
+    returns-2
+    add-leftmost-other
+    leftmost-other-requires
+    with-search-requires-2
+    returns-3)

@@ -1,0 +1,86 @@
+// The sweep over all events of one orientation. The scratch holds the tables of its n segments (9 n words) and behind them the words that the sweep changes: 3 n for the active nets, then the tree.
+ghost use mathlib.Core.Path.{_≡_};
+ghost use mathlib.Core.List.{List, []};
+ghost use Prim.Native.Nat.{ℕ, _<_, _^_};
+ghost use lib.ListN.{length, getD};
+ghost use Rattle.laws.specs.Lists.{Mem};
+ghost use Rattle.laws.specs.Allowance.{within};
+ghost use Rattle.rows.specs.Rows.{Row};
+ghost use Rattle.separation.specs.Lines.{lines, levels};
+ghost use Rattle.separation.specs.Walk.{sweep};
+ghost use Rattle.separation.specs.States.{sweptOf};
+ghost use Rattle.separation_call.specs.Sweeping.{Ready, AtStart, AtEnd, AtEvent, AtFirst, Begins, Finishes, Handles};
+use crate::sweep::enter;
+use crate::sweep::leave;
+use crate::sweep::look;
+use drawing::Gap;
+use separation::Sweeping;
+use separation::Swept;
+
+// Segment j starts.
+fn start_event(s: &mut [u64], n: usize, leaves: usize, j: usize, state: Sweeping) -> Swept
+    requires { ⌜ AtStart (now s) n leaves j ⌝ }
+    ensures { λ r. ⌜ Begins (now (s .entry)) (now (s .exit)) n leaves j state r ⌝ }
+{
+    let line = s[4 * n + j] as usize;
+    let net = s[5 * n + j] as u32;
+    let slot = s[7 * n + j] as usize;
+    let swept = look(&s[12 * n..], leaves, &s[6 * n..], line, net, state);
+    let Swept::Went(seen) = swept else {
+        return Swept::Spent;
+    };
+    enter(&mut s[9 * n..], n, leaves, slot, line, net, seen)
+}
+
+// Segment j ends.
+fn end_event(s: &mut [u64], n: usize, leaves: usize, j: usize, state: Sweeping) -> Swept
+    requires { ⌜ AtEnd (now s) n leaves j ⌝ }
+    ensures { λ r. ⌜ Finishes (now (s .entry)) (now (s .exit)) n leaves j state r ⌝ }
+{
+    let line = s[4 * n + j] as usize;
+    let net = s[5 * n + j] as u32;
+    let slot = s[7 * n + j] as usize;
+    leave(&mut s[9 * n..], n, leaves, slot, line, net, state)
+}
+
+// Event e: below n it is the end of segment e, else the start of segment e - n.
+fn handle_event(s: &mut [u64], n: usize, leaves: usize, e: usize, state: Sweeping) -> Swept
+    requires { ⌜ AtEvent (now s) n leaves e ⌝ }
+    ensures { λ r. ⌜ Handles (now (s .entry)) (now (s .exit)) n leaves e state r ⌝ }
+{
+    if e < n {
+        return end_event(s, n, leaves, e, state);
+    }
+    start_event(s, n, leaves, e - n, state)
+}
+
+// The number of the event at place q in their order.
+fn event_at(s: &[u64], q: usize) -> usize
+    requires { ⌜ q < length (now s) ⌝ }
+    ensures { λ r. ⌜ r ≡ getD (now (s .entry)) q 0 ⌝ }
+{
+    s[q] as usize
+}
+
+// The events in order, from no active segment and absent figures.
+pub(crate) fn run_events(s: &mut [u64], n: usize, leaves: usize, allowance: usize) -> Swept
+    requires { ⌜ AtFirst (now s) n leaves ⌝ }
+    ensures { λ r. ⌜ ((l : List Row) (F : List ℕ) (H : ℕ) → length l ≡ n → leaves ≡ 2 ^ H → Ready l F H 0 [] (now (s .entry)) → ((a : Row) → Mem a l → a .start < a .end) → H ≡ levels (length (lines l)) → r ≡ sweptOf (within allowance (sweep l))) ⌝ }
+{
+    let mut state = Sweeping {
+        minimum: Gap::Absent,
+        minimum_positive: Gap::Absent,
+        left: allowance,
+    };
+    let mut q = 0;
+    while q < 2 * n {
+        let e = event_at(&s[..], q);
+        let swept = handle_event(s, n, leaves, e, state);
+        let Swept::Went(next) = swept else {
+            return Swept::Spent;
+        };
+        state = next;
+        q += 1;
+    }
+    Swept::Went(state)
+}

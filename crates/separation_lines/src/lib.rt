@@ -1,0 +1,50 @@
+// Separation of a list of lines: its columns are laid out, and the call by columns does the rest, its refusals included.
+ghost use mathlib.Core.Path.{_≡_};
+ghost use mathlib.Core.List.{map};
+ghost use lib.ListN.{length, take};
+ghost use Rattle.drawing.specs.declared.refusal.Check.the-variants.{Passed};
+ghost use Rattle.drawing.specs.Refusals.{firstOf, scratchAfter};
+ghost use Rattle.drawing.specs.Entries.{columnsOf};
+ghost use Rattle.drawing.specs.Checks.{separationConditions};
+ghost use Rattle.drawing.specs.Held.{SegmentsHeld};
+ghost use Rattle.separation.specs.Answer.{separationAnswer};
+ghost use Rattle.lines.specs.Lines.{entryOf};
+use lines::Line;
+use lines::unpack;
+use separation::SeparationAnswer;
+use separation_call::measure_parallel_separation_bounded;
+
+pub fn separation_of_lines(
+    lines: [Line; 4097],
+    n: usize,
+    allowance: usize,
+    scratch: &mut [u64],
+) -> SeparationAnswer
+    ensures { λ r. ⌜ r ≡ separationAnswer (columnsOf (map entryOf (take n lines))) allowance (length (now (scratch .entry))) ⌝ }
+    ensures { λ _. ⌜ now (scratch .exit) ≡ scratchAfter (firstOf (separationConditions (columnsOf (map entryOf (take n lines))) (length (now (scratch .entry))))) (now (scratch .entry)) ⌝ }
+    ensures { λ _. ⌜ (firstOf (separationConditions (columnsOf (map entryOf (take n lines))) (length (now (scratch .entry)))) ≡ Passed → SegmentsHeld (columnsOf (map entryOf (take n lines)))) ⌝ }
+{
+    let mut net = [0; 4097];
+    let mut orientation = [0; 4097];
+    let mut fixed = [0.0; 4097];
+    let mut start = [0.0; 4097];
+    let mut end = [0.0; 4097];
+    let m = unpack(
+        lines,
+        n,
+        &mut net,
+        &mut orientation,
+        &mut fixed,
+        &mut start,
+        &mut end,
+    );
+    measure_parallel_separation_bounded(
+        &net[..m],
+        &orientation[..m],
+        &fixed[..m],
+        &start[..m],
+        &end[..m],
+        allowance,
+        scratch,
+    )
+}

@@ -1,0 +1,3 @@
+-- What the call answers, and what only private contracts cite.
+pub mod TightPair
+pub mod Looking
