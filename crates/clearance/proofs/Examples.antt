@@ -49,6 +49,9 @@ ten = ofBits binary64 0x4024_0000_0000_0000
 abbrev fifteen : Float
 fifteen = ofBits binary64 0x402e_0000_0000_0000
 
+abbrev twenty : Float
+twenty = ofBits binary64 0x4034_0000_0000_0000
+
 abbrev minus-one : Float
 minus-one = ofBits binary64 0xbff0_0000_0000_0000
 
@@ -76,6 +79,8 @@ pub record Marked : Type 0 where
   pub d-sheet : clearanceAnswer d-segments d-nodes d-exemptions two 1000 7744 ≡ accepted (record { least = Present one; violations = 1 }) 2
   pub d-at-2 : measured d-segments d-nodes d-exemptions two 2 ≡ report (Present one) 1 2
   pub d-at-1 : measured d-segments d-nodes d-exemptions two 1 ≡ (7, zeros)
+  -- D's first segment, D's node and another one below it, which is pruned: one visit for one segment and two nodes
+  pub pruned : measured (segmentColumns (1 ∷ []) (1 ∷ []) (zero ∷ []) (zero ∷ []) (ten ∷ [])) (nodeColumns (7 ∷ 8 ∷ []) (two ∷ two ∷ []) (one ∷ twenty ∷ []) (three ∷ three ∷ []) (two ∷ two ∷ [])) d-exemptions zero 1000 ≡ report (Present one) 0 1
   -- (g) "distance 2, threshold 2: no violation": D's first segment, and D's node one further away
   pub g : measured (segmentColumns (1 ∷ []) (1 ∷ []) (zero ∷ []) (zero ∷ []) (ten ∷ [])) (nodeColumns (7 ∷ []) (two ∷ []) (two ∷ []) (three ∷ []) (two ∷ [])) d-exemptions two 1000 ≡ report (Present two) 0 1
   -- (h) "no nodes, threshold -1: 5"
@@ -85,4 +90,4 @@ pub record Marked : Type 0 where
 
 pub marked : Marked
 unfolding ofBits toBits add sub lt some-of chosen fold cross rowLe insertBy sortBy lesser least runs settle key keyOf lesserOf greaterOf segmentsOf nodesOf exemptionsOf gapFrom leastGap lesserGap segmentRow nodeRow segmentsInOrder nodesInOrder numberOf firstOf differ tooMany shortScratch unfitLine unfitSegment unfitExtent unfitNode unfitThreshold segmentsDiffer nodesDiffer exemptionsDiffer listConditions entryConditions clearanceConditions fromNode fromSegment nodeBox segmentBox union axisGap distance exempt distances figures indexed indexedRow indexedInOrder horizontalWider hull boundsOf build treeOf contributes withPair walk walkAll visitCount accepted allPairs clearanceAnswer resultOf
-marked = record { d = refl; d-sheet = refl; d-at-2 = refl; d-at-1 = refl; g = refl; h = refl; i = refl }
+marked = record { d = refl; d-sheet = refl; d-at-2 = refl; d-at-1 = refl; pruned = refl; g = refl; h = refl; i = refl }

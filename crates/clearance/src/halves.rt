@@ -15,11 +15,28 @@ pub struct Halves {
     pub farther: Subtree,
 }
 
-// The nearer half first, the left one on a tie.
-pub fn nearer_first(left: Subtree, right: Subtree) -> Halves
-    ensures { λ r. ⌜ r ≡ nearerFirst left right ⌝ }
+// The nearer half first, the left one on a tie. The halves come by their fields: structs that are parameters would go through memory wherever the walk halves a part.
+pub fn nearer_first(
+    first: usize,
+    half: usize,
+    left_lower: f64,
+    middle: usize,
+    rest: usize,
+    right_lower: f64,
+) -> Halves
+    ensures { λ r. ⌜ r ≡ nearerFirst (record { first = first; count = half; lower = «left_lower» }) (record { first = middle; count = rest; lower = «right_lower» }) ⌝ }
 {
-    if right.lower < left.lower {
+    let left = Subtree {
+        first: first,
+        count: half,
+        lower: left_lower,
+    };
+    let right = Subtree {
+        first: middle,
+        count: rest,
+        lower: right_lower,
+    };
+    if right_lower < left_lower {
         Halves {
             nearer: right,
             farther: left,

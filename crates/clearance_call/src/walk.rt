@@ -55,8 +55,15 @@ fn visit_leaf(
     requires { ⌜ state .violations + state .left < 2 ^ 64 ⌝ }
     ensures { λ r. ⌜ outcomeOf r ≡ within (state .left) (visit (free (withPair (member (now (marks .entry)) (getD (now (groups .entry)) i 0)) threshold distance (soFar state)))) ⌝ }
 {
-    let exempt = is_marked(marks, groups, i);
-    visit_pair(exempt, distance, threshold, state)
+    // `visit_pair` tests this too. Tested before the mark is read, it costs the loop over leaves nothing: the compiler bounds that loop by the visits left.
+    if state.left == 0 {
+        return Walked::Spent;
+    }
+    // A call for each side, so that the mark is tested once.
+    if is_marked(marks, groups, i) {
+        return visit_pair(true, distance, threshold, state);
+    }
+    visit_pair(false, distance, threshold, state)
 }
 
 // The halves of the n leaves from leaf i on, for a segment with the given box: the nearer half first, the left one on a tie.
@@ -68,17 +75,10 @@ fn halve(words: &[u64], i: usize, n: usize, bounds: Aabb) -> Halves
 {
     let half = n / 2;
     let middle = i + half;
-    let left = Subtree {
-        first: i,
-        count: half,
-        lower: bounds.distance(bounds_of(words, i, half)),
-    };
-    let right = Subtree {
-        first: middle,
-        count: n - half,
-        lower: bounds.distance(bounds_of(words, middle, n - half)),
-    };
-    nearer_first(left, right)
+    let rest = n - half;
+    let left = bounds.distance(bounds_of(words, i, half));
+    let right = bounds.distance(bounds_of(words, middle, rest));
+    nearer_first(i, half, left, middle, rest, right)
 }
 
 // A part with fewer leaves is halved without a look at its farthest edges: it has few branches whose distances could be spared.

@@ -1,4 +1,4 @@
--- The laws of the definitions. Those that `readability` and `printing` cite:
+-- The laws of the definitions. Those that `demands` and `printing` cite:
 pub mod Fitness
 pub mod SweepTheorem
 pub mod Answers

@@ -3,6 +3,7 @@ use mathlib.Core.Path.{_≡_, refl, sym, ap, subst, _∙_}
 use mathlib.Core.Bool.{Bool, true, false, cond}
 use mathlib.Core.List.{List}
 use Prim.Native.Nat.{ℕ, _+_, _*_, _≤_}
+use native.Mathlib.Nat.{le-refl}
 use native.Mathlib.Omega.{arith}
 use lib.Ieee.{Float}
 use lib.ListN.{length}
@@ -12,7 +13,7 @@ use Rattle.drawing.specs.declared.gap.Gap.{Gap}
 use Rattle.drawing.specs.declared.refusal.Refusal.{Refusal}
 use Rattle.drawing.specs.declared.refusal.Refusal.the-variants.{MalformedFile, ColumnsDiffer, TooManyEntries, ShortScratch, InvalidInput, OffGrid, WorkLimitExceeded}
 use Rattle.drawing.specs.declared.refusal.Check.{Check}
-use Rattle.drawing.specs.declared.refusal.Check.the-variants.{Passed, Refused as Stopped}
+use Rattle.drawing.specs.declared.refusal.Check.the-variants.{Passed, Refused}
 use Rattle.drawing.specs.Entries.{SegmentColumns}
 use Rattle.drawing.specs.Refusals.{numberOf, firstOf, scratchAfter}
 use Rattle.drawing.specs.Conditions.{shortScratch}
@@ -21,14 +22,14 @@ use Rattle.congestion.specs.declared.report.ParallelCongestion.{ParallelCongest
 use Rattle.congestion.specs.declared.report.CongestionAnswer.{CongestionAnswer}
 use Rattle.congestion.specs.Answer.{densityAnswer, profileAnswer, congestionAnswer, withoutDensity}
 use Rattle.demands.specs.Measures.{Measure, Run, resultOfRun, earlier, visitsReach, Lists, clearance, separation, ofCongestion, density, profile, congestion}
-use Rattle.demands.specs.Demand1.{Returns, cleared}
 use Rattle.demands.specs.Marked.{told}
-use Rattle.demands.specs.ShutOut.{On, Measured, Refused, Congestion, OffTheGrid, ShutOut}
+use Rattle.demands.specs.ShutOut.{On, Measured, TurnedDown, Congestion, OffTheGrid, ShutOut}
 use Rattle.demands.proofs.Facts.{Passes, Facts}
 use Rattle.demands.proofs.ClearanceFacts.{clearance-facts}
 use Rattle.demands.proofs.SeparationFacts.{separation-facts}
 use Rattle.demands.proofs.CongestionFacts.{density-facts, profile-facts, congestion-facts}
 use Rattle.demands.proofs.Marked.{marked}
+use Rattle.clearance.proofs.Examples as clearanceExamples
 
 -- no refusal has the number of a report
 not-zero : (x : Refusal) → 0 ≡ numberOf x → ⊥
@@ -51,7 +52,7 @@ record Results (m : Measure) : Type 0 where
 -- the checks refuse by that number
 record Stops (l : List (Bool × Refusal)) (k : ℕ) : Type 0 where
   refusal : Refusal
-  first : firstOf l ≡ Stopped refusal
+  first : firstOf l ≡ Refused refusal
   numbered : numberOf refusal ≡ k
 
 -- the checks are the same for every scratch that is long enough
@@ -75,60 +76,60 @@ module _ (m : Measure) (facts : Facts m) (results : Results m) (d : m .Drawing) 
         returns r on ∙ facts .settles d s (r .allowance) (length (r .before)) (passes-there passes (length (r .before)) (on .enough))
         ∙ (λ i. cond (m .reaches (r .allowance) (count-is i)) (m .accepted (figures-are i) (count-is i)) (m .refused 7))
 
-    held : (r : Run m) → On m d s words r → m .Held d s
-    held r on = subst (λ x. m .Held x s) (on .same-drawing) (subst (λ y. m .Held (r .drawing) y) (on .same-settings) (r .says .held (checks r on ∙ passes)))
-
     measured : Measured m d s words f n
     unfolding scratchAfter
     measured = record {
-      walk = λ r on. facts .walks d s words (held r on) passes ∙ (λ i. record { value = figures-are i; cost = count-is i });
+      walk = λ h. facts .walks d s words h passes ∙ (λ i. record { value = figures-are i; cost = count-is i });
       accepted = λ r on t. settled r on ∙ cond-true (m .reaches (r .allowance) n) _ _ t;
       spent = λ r on t. settled r on ∙ cond-false (m .reaches (r .allowance) n) _ _ t;
       scratch = λ r on. leaves r on Passed passes;
     }
 
-  -- ---- the same from what one call is told
-  module _ (a : m .Allowance) (f : m .Figures) (n : ℕ) (is : told m d s a words ≡ m .accepted f n) where
-    passed : (c : Check) → firstOf (m .conditions d s words) ≡ c → firstOf (m .conditions d s words) ≡ Passed
+  -- ---- the same from what one call is told, with a scratch of this length or longer
+  module _ (long : ℕ) (room : words ≤ long) (a : m .Allowance) (f : m .Figures) (n : ℕ) (is : told m d s a long ≡ m .accepted f n) where
+    passed : (c : Check) → firstOf (m .conditions d s long) ≡ c → firstOf (m .conditions d s long) ≡ Passed
     passed Passed e = e
-    passed (Stopped x) e = absurd (not-zero x (sym (results .of-report f n) ∙ ap (results .number) (sym is) ∙ ap (results .number) (facts .refuses d s a words x e) ∙ results .of-refusal (numberOf x)))
+    passed (Refused x) e = absurd (not-zero x (sym (results .of-report f n) ∙ ap (results .number) (sym is) ∙ ap (results .number) (facts .refuses d s a long x e) ∙ results .of-refusal (numberOf x)))
+
+    passes-long : Passes m d s long
+    passes-long = passed (firstOf (m .conditions d s long)) refl
 
     passes : Passes m d s words
-    passes = passed (firstOf (m .conditions d s words)) refl
+    passes = ap firstOf (roomy long room) ∙ passes-long
 
     one : (b : Bool) → cond b (m .accepted (m .figures d s) (m .count d s)) (m .refused 7) ≡ m .accepted f n → (m .figures d s ≡ f) × (m .count d s ≡ n)
     one true e = results .one-report _ _ _ _ e
     one false e = absurd (facts .apart f n (sym e))
 
     figures-and-count : (m .figures d s ≡ f) × (m .count d s ≡ n)
-    figures-and-count = one (m .reaches a (m .count d s)) (sym (facts .settles d s a words passes) ∙ is)
+    figures-and-count = one (m .reaches a (m .count d s)) (sym (facts .settles d s a long passes-long) ∙ is)
 
     from-told : Measured m d s words f n
     from-told = measured passes f n (figures-and-count .0) (figures-and-count .1)
 
   -- ---- a drawing that is refused, from its refusal
-  refused-by : (k : ℕ) → Stops (m .conditions d s words) k → Refused m d s words k
+  refused-by : (k : ℕ) → Stops (m .conditions d s words) k → TurnedDown m d s words k
   unfolding scratchAfter
   refused-by k x r on = record {
     returned = returns r on ∙ facts .refuses d s (r .allowance) (length (r .before)) (x .refusal) (ap firstOf (sym (roomy (length (r .before)) (on .enough))) ∙ x .first) ∙ ap (m .refused) (x .numbered);
-    left = leaves r on (Stopped (x .refusal)) (x .first);
+    left = leaves r on (Refused (x .refusal)) (x .first);
   }
 
   -- and that from what one call is told
-  module _ (a : m .Allowance) (k : ℕ) (is : told m d s a words ≡ m .refused k) (not-0 : 0 ≡ k → ⊥) (not-7 : 7 ≡ k → ⊥) where
-    number-is : (c : m .Result) → told m d s a words ≡ c → results .number c ≡ k
+  module _ (long : ℕ) (room : words ≤ long) (a : m .Allowance) (k : ℕ) (is : told m d s a long ≡ m .refused k) (not-0 : 0 ≡ k → ⊥) (not-7 : 7 ≡ k → ⊥) where
+    number-is : (c : m .Result) → told m d s a long ≡ c → results .number c ≡ k
     number-is c e = ap (results .number) (sym e ∙ is) ∙ results .of-refusal k
 
     not-settled : (b : Bool) → results .number (cond b (m .accepted (m .figures d s) (m .count d s)) (m .refused 7)) ≡ k → ⊥
     not-settled true g = not-0 (sym (results .of-report _ _) ∙ g)
     not-settled false g = not-7 (sym (results .of-refusal 7) ∙ g)
 
-    which : (c : Check) → firstOf (m .conditions d s words) ≡ c → Stops (m .conditions d s words) k
-    which (Stopped x) e = record { refusal = x; first = e; numbered = sym (results .of-refusal (numberOf x)) ∙ number-is _ (facts .refuses d s a words x e) }
-    which Passed e = absurd (not-settled (m .reaches a (m .count d s)) (number-is _ (facts .settles d s a words e)))
+    which : (c : Check) → firstOf (m .conditions d s long) ≡ c → Stops (m .conditions d s words) k
+    which (Refused x) e = record { refusal = x; first = ap firstOf (roomy long room) ∙ e; numbered = sym (results .of-refusal (numberOf x)) ∙ number-is _ (facts .refuses d s a long x e) }
+    which Passed e = absurd (not-settled (m .reaches a (m .count d s)) (number-is _ (facts .settles d s a long e)))
 
     stops : Stops (m .conditions d s words) k
-    stops = which (firstOf (m .conditions d s words)) refl
+    stops = which (firstOf (m .conditions d s long)) refl
 
 -- ---- the three kinds of results
 clearance-results : Results clearance
@@ -183,18 +184,18 @@ unfolding clearanceConditions
 clearance-roomy d threshold v h w k = rw (roomy v w (length (d .segments .net)) (length (d .nodes .id)) h k)
 
 -- ---- one drawing by each measure
-by-clearance : (d : Lists) (threshold : Float) (words : ℕ) → 32 * (length (d .segments .net) + length (d .nodes .id)) + 64 ≤ words → (a : ℕ) (f : clearance .Figures) (n : ℕ) → told clearance d threshold a words ≡ clearance .accepted f n → Measured clearance d threshold words f n
-by-clearance d threshold words h a f n e = from-told clearance clearance-facts clearance-results d threshold words (clearance-roomy d threshold words h) a f n e
+by-clearance : (d : Lists) (threshold : Float) (words : ℕ) → 32 * (length (d .segments .net) + length (d .nodes .id)) + 64 ≤ words → (long : ℕ) → words ≤ long → (a : ℕ) (f : clearance .Figures) (n : ℕ) → told clearance d threshold a long ≡ clearance .accepted f n → Measured clearance d threshold words f n
+by-clearance d threshold words h long room a f n e = from-told clearance clearance-facts clearance-results d threshold words (clearance-roomy d threshold words h) long room a f n e
 
 by-separation : (s : SegmentColumns) (words : ℕ) → 32 * (length (s .net) + 0) + 64 ≤ words → (a : ℕ) (f : separation .Figures) (n : ℕ) → told separation s tt a words ≡ separation .accepted f n → Measured separation s tt words f n
-by-separation s words h a f n e = from-told separation separation-facts separation-results s tt words (separation-roomy s words h) a f n e
+by-separation s words h a f n e = from-told separation separation-facts separation-results s tt words (separation-roomy s words h) words (le-refl words) a f n e
 
 -- the three calls have one count, and their figures are parts of one report
 by-congestion : (s : SegmentColumns) (cutoff : Float) (words : ℕ) → 32 * (length (s .net) + 0) + 64 ≤ words → (a : ℕ) (f : ParallelCongestion × Gap) (n : ℕ) → told density s cutoff a words ≡ density .accepted f n → Congestion s cutoff words f n
 by-congestion s cutoff words h a f n e =
     let room = congestion-roomy s cutoff words h in
-    let p = passes density density-facts density-results s cutoff words room a f n e in
-    let q = figures-and-count density density-facts density-results s cutoff words room a f n e in
+    let p = passes density density-facts density-results s cutoff words room words (le-refl words) a f n e in
+    let q = figures-and-count density density-facts density-results s cutoff words room words (le-refl words) a f n e in
     record {
       by-density = measured density density-facts density-results s cutoff words room p f n (q .0) (q .1);
       by-profile = measured profile profile-facts profile-results s cutoff words room p _ n (ap (λ x. withoutDensity (record { value = x; cost = n }) .value) (q .0)) (q .1);
@@ -204,30 +205,31 @@ by-congestion s cutoff words h a f n e =
 off-the-grid : (s : SegmentColumns) (cutoff : Float) (words : ℕ) → 32 * (length (s .net) + 0) + 64 ≤ words → (a : ℕ) → told density s cutoff a words ≡ density .refused 6 → OffTheGrid s cutoff words
 off-the-grid s cutoff words h a e =
     let room = congestion-roomy s cutoff words h in
-    let x = stops density density-facts density-results s cutoff words room a 6 e (λ z. omega arith) (λ z. omega arith) in
+    let x = stops density density-facts density-results s cutoff words room words (le-refl words) a 6 e (λ z. omega arith) (λ z. omega arith) in
     record {
       by-density = refused-by density density-facts density-results s cutoff words room 6 x;
       by-profile = refused-by profile profile-facts profile-results s cutoff words room 6 x;
       by-congestion = refused-by congestion congestion-facts always-results s cutoff words room 6 x;
     }
 
-unfit : (d : Lists) (threshold : Float) (words : ℕ) → 32 * (length (d .segments .net) + length (d .nodes .id)) + 64 ≤ words → (a : ℕ) → told clearance d threshold a words ≡ clearance .refused 5 → Refused clearance d threshold words 5
-unfit d threshold words h a e =
+unfit : (d : Lists) (threshold : Float) (words : ℕ) → 32 * (length (d .segments .net) + length (d .nodes .id)) + 64 ≤ words → (long : ℕ) → words ≤ long → (a : ℕ) → told clearance d threshold a long ≡ clearance .refused 5 → TurnedDown clearance d threshold words 5
+unfit d threshold words h long longer a e =
     let room = clearance-roomy d threshold words h in
-    refused-by clearance clearance-facts clearance-results d threshold words room 5 (stops clearance clearance-facts clearance-results d threshold words room a 5 e (λ z. omega arith) (λ z. omega arith))
+    refused-by clearance clearance-facts clearance-results d threshold words room 5 (stops clearance clearance-facts clearance-results d threshold words room long longer a 5 e (λ z. omega arith) (λ z. omega arith))
 
 pub shut-out : ShutOut
 shut-out = record {
-  D-clearance = by-clearance _ _ 160 (omega arith) 1000 _ 2 (marked .sheet);
+  D-clearance = by-clearance _ _ 160 (omega arith) 160 (omega arith) 1000 _ 2 (marked .sheet);
   D-separation = by-separation _ 128 (omega arith) 16 _ 16 (marked .b-accepted);
   D-congestion = by-congestion _ _ 128 (omega arith) 4 _ 4 (marked .c-accepted);
+  one-pruned = by-clearance _ _ 160 (omega arith) 160 (omega arith) 1000 _ 1 (clearanceExamples.marked .pruned);
   a = by-separation _ 96 (omega arith) 0 _ 0 (marked .a);
   d = by-separation _ 128 (omega arith) 1000 _ 14 (marked .d);
   e = by-separation _ 128 (omega arith) 1000 _ 10 (marked .e);
   f = by-separation _ 128 (omega arith) 1000 _ 14 (marked .f);
-  g = by-clearance _ _ 160 (omega arith) 1000 _ 1 (marked .g);
-  h = unfit _ _ 160 (omega arith) 1000 (marked .h);
-  i = by-clearance _ _ 160 (omega arith) 0 _ 0 (marked .i);
+  g = by-clearance _ _ 128 (omega arith) 160 (omega arith) 1000 _ 1 (marked .g);
+  h = unfit _ _ 128 (omega arith) 160 (omega arith) 1000 (marked .h);
+  i = by-clearance _ _ 96 (omega arith) 160 (omega arith) 0 _ 0 (marked .i);
   j = by-congestion _ _ 128 (omega arith) 2 _ 2 (marked .j);
   k-passes = by-congestion _ _ 96 (omega arith) 0 _ 0 (marked .k-passes);
   k-off-the-grid = off-the-grid _ _ 96 (omega arith) 0 (marked .k-off-the-grid);

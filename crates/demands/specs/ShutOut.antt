@@ -1,18 +1,19 @@
 -- "These are shut out: 5 or 6 for drawings that are fit (demand 2); absent gaps for every drawing (2); a sweep that handles its first event and copies that to the rest (2); a visit total not taken from the walk (3); 7 before the first visit though the allowance suffices (3); 7 for all drawings (3); a call that leaves its scratch as found (1)."
--- What every call that meets its contract does on drawing D and on the drawings of the marked cases, by columns or by records, whatever its allowance, whatever its scratch holds and however long that is: a program of these kinds does otherwise on one of them. `proofs/ShutOut.antt` proves `ShutOut`.
+-- What every call that meets its contract does on drawing D, on the drawings of the marked cases and on one where a node is pruned, by columns or by records, whatever its allowance, whatever its scratch holds and however long that is from document 01's least on: a program of these kinds does otherwise on one of them. `proofs/ShutOut.antt` proves `ShutOut`.
 use mathlib.Core.Path.{_≡_}
 use mathlib.Core.Bool.{true, false}
+use mathlib.Core.List.{[], _∷_}
 use Prim.Native.Nat.{ℕ, _≤_}
 use lib.Ieee.{Float}
 use lib.ListN.{length}
 use Rattle.drawing.specs.declared.gap.Gap.{Gap}
 use Rattle.drawing.specs.declared.gap.Gap.the-variants.{Absent, Present}
-use Rattle.drawing.specs.Entries.{SegmentColumns}
+use Rattle.drawing.specs.Entries.{SegmentColumns, NodeColumns, nodeColumns}
 use Rattle.congestion.specs.declared.report.ParallelCongestion.{ParallelCongestion}
 use Rattle.congestion.specs.Answer.{withoutDensity}
-use Rattle.demands.specs.Measures.{Measure, Run, resultOfRun, Lists, clearance, separation, density, profile, congestion}
+use Rattle.demands.specs.Measures.{Measure, Run, resultOfRun, clearance, separation, density, profile, congestion}
 use Rattle.demands.specs.Demand1.{Returns, cleared}
-use Rattle.demands.specs.Marked.{zero, minus-zero, one, minus-one, two, four, five, six, nine, ten, twenty, a-128th, a-64th, a-32nd, the-most, none, alone, pair, D, node-7, no-nodes, D-exemptions}
+use Rattle.demands.specs.Marked.{zero, minus-zero, one, minus-one, two, three, four, five, six, nine, ten, twenty, a-128th, a-64th, a-32nd, the-most, none, alone, pair, D, node-7, no-nodes, D-exemptions}
 
 -- a call on this drawing with these settings, with a scratch of at least so many words
 pub record On (m : Measure) (drawing : m .Drawing) (settings : m .Settings) (words : ℕ) (r : Run m) : Type 0 where
@@ -22,23 +23,23 @@ pub record On (m : Measure) (drawing : m .Drawing) (settings : m .Settings) (wor
 
 -- a drawing with these figures and so many visits
 pub record Measured (m : Measure) (drawing : m .Drawing) (settings : m .Settings) (words : ℕ) (figures : m .Figures) (visits : ℕ) : Type 0 where
-  -- "a visit total not taken from the walk": the visits are those of the walk, and the figures what it finds
-  pub walk : (r : Run m) → On m drawing settings words r → m .walk drawing settings ≡ record { value = figures; cost = visits }
+  -- "a visit total not taken from the walk": the visits are those of the walk, and the figures what it finds (that its floats are values of binary64 is said by every run on it)
+  pub walk : m .Held drawing settings → m .walk drawing settings ≡ record { value = figures; cost = visits }
   -- "5 or 6 for drawings that are fit", "7 before the first visit though the allowance suffices", "7 for all drawings": whatever allowance reaches the visits, the call is accepted; "absent gaps", "a sweep that handles its first event": with these figures; and with these visits, which do not follow the allowance
   pub accepted : (r : Run m) → On m drawing settings words r → m .reaches (r .allowance) visits ≡ true → resultOfRun m r ≡ m .accepted figures visits
-  -- 7 for any other allowance, and nothing else
+  -- 7 for any other allowance, and nothing else; there is none where the visits are 0, nor for the call without an allowance
   pub spent : (r : Run m) → On m drawing settings words r → m .reaches (r .allowance) visits ≡ false → resultOfRun m r ≡ m .refused 7
   -- "a call that leaves its scratch as found": it is zero, whatever was found
   pub scratch : (r : Run m) → On m drawing settings words r → r .after ≡ cleared (r .before)
 
 -- a drawing that is refused by that number, for whatever allowance, and the scratch is as it was
-abbrev pub Refused : (m : Measure) → m .Drawing → m .Settings → ℕ → ℕ → Type 0
-Refused m drawing settings words number = (r : Run m) → On m drawing settings words r → Returns m r (m .refused number) (r .before)
+abbrev pub TurnedDown : (m : Measure) → m .Drawing → m .Settings → ℕ → ℕ → Type 0
+TurnedDown m drawing settings words number = (r : Run m) → On m drawing settings words r → Returns m r (m .refused number) (r .before)
 
 -- ---- congestion, by all three calls
 -- total, congested, pair overlap, peak; and the least nonzero close gap
-abbrev lengths : Float → Float → Float → ℕ → Gap → ParallelCongestion × Gap
-lengths t c o p g = (record { «total_length» = t; «congested_length» = c; «pair_overlap_length» = o; «peak_close_neighbors» = p }, g)
+abbrev figuresOf : Float → Float → Float → ℕ → Gap → ParallelCongestion × Gap
+figuresOf t c o p g = (record { «total_length» = t; «congested_length» = c; «pair_overlap_length» = o; «peak_close_neighbors» = p }, g)
 
 pub record Congestion (drawing : SegmentColumns) (cutoff : Float) (words : ℕ) (figures : ParallelCongestion × Gap) (visits : ℕ) : Type 0 where
   pub by-density : Measured density drawing cutoff words figures visits
@@ -48,24 +49,30 @@ pub record Congestion (drawing : SegmentColumns) (cutoff : Float) (words : ℕ) 
   pub by-congestion : Measured congestion drawing cutoff words figures visits
 
 pub record OffTheGrid (drawing : SegmentColumns) (cutoff : Float) (words : ℕ) : Type 0 where
-  pub by-density : Refused density drawing cutoff words 6
-  pub by-profile : Refused profile drawing cutoff words 6
-  pub by-congestion : Refused congestion drawing cutoff words 6
+  pub by-density : TurnedDown density drawing cutoff words 6
+  pub by-profile : TurnedDown profile drawing cutoff words 6
+  pub by-congestion : TurnedDown congestion drawing cutoff words 6
+
+-- D's node 7, and a node 8 below it, farther from D's first segment
+abbrev nodes-7-and-8 : NodeColumns
+nodes-7-and-8 = nodeColumns (7 ∷ 8 ∷ []) (two ∷ two ∷ []) (one ∷ twenty ∷ []) (three ∷ three ∷ []) (two ∷ two ∷ [])
 
 pub record ShutOut : Type 0 where
   -- ---- drawing D, each line of its sheet: every gap is present. Its sweeps begin with net 1 alone: the first event finds no pair.
   pub D-clearance : Measured clearance (record { segments = D; nodes = node-7 one; exemptions = D-exemptions }) two 160 (record { least = Present one; violations = 1 }) 2
   pub D-separation : Measured separation D tt 128 (record { least = Present four; leastNonzero = Present four }) 16
-  pub D-congestion : Congestion D six 128 (lengths twenty ten five 1 (Present four)) 4
+  pub D-congestion : Congestion D six 128 (figuresOf twenty ten five 1 (Present four)) 4
+  -- a node that the walk prunes: one visit for one segment and two nodes
+  pub one-pruned : Measured clearance (record { segments = alone 1 zero zero ten; nodes = nodes-7-and-8; exemptions = D-exemptions }) zero 160 (record { least = Present one; violations = 0 }) 1
   -- ---- the marked drawings, by the marks' letters; (b) and (c) are D's
   pub a : Measured separation (alone 1 zero zero ten) tt 96 (record { least = Absent; leastNonzero = Absent }) 0
   pub d : Measured separation (pair 1 2 (zero, zero, five) (four, five, nine)) tt 128 (record { least = Absent; leastNonzero = Absent }) 14
   pub e : Measured separation (pair 1 2 (four, zero, ten) (four, five, nine)) tt 128 (record { least = Present zero; leastNonzero = Absent }) 10
   pub f : Measured separation (pair 1 1 (zero, zero, ten) (one, five, nine)) tt 128 (record { least = Absent; leastNonzero = Absent }) 14
-  pub g : Measured clearance (record { segments = alone 1 zero zero ten; nodes = node-7 two; exemptions = D-exemptions }) two 160 (record { least = Present two; violations = 0 }) 1
-  pub h : Refused clearance (record { segments = D; nodes = no-nodes; exemptions = D-exemptions }) minus-one 160 5
-  pub i : Measured clearance (record { segments = none; nodes = node-7 one; exemptions = D-exemptions }) zero 160 (record { least = Absent; violations = 0 }) 0
-  pub j : Congestion D four 128 (lengths twenty zero zero 0 Absent) 2
-  pub k-passes : Congestion (alone 1 the-most a-64th a-32nd) a-64th 96 (lengths a-64th zero zero 0 Absent) 0
+  pub g : Measured clearance (record { segments = alone 1 zero zero ten; nodes = node-7 two; exemptions = D-exemptions }) two 128 (record { least = Present two; violations = 0 }) 1
+  pub h : TurnedDown clearance (record { segments = D; nodes = no-nodes; exemptions = D-exemptions }) minus-one 128 5
+  pub i : Measured clearance (record { segments = none; nodes = node-7 one; exemptions = D-exemptions }) zero 96 (record { least = Absent; violations = 0 }) 0
+  pub j : Congestion D four 128 (figuresOf twenty zero zero 0 Absent) 2
+  pub k-passes : Congestion (alone 1 the-most a-64th a-32nd) a-64th 96 (figuresOf a-64th zero zero 0 Absent) 0
   pub k-off-the-grid : OffTheGrid (alone 1 the-most a-128th a-32nd) a-64th 96
-  pub l : Congestion (pair 1 2 (minus-one, zero, ten) (minus-zero, zero, ten)) one 128 (lengths twenty zero zero 0 Absent) 2
+  pub l : Congestion (pair 1 2 (minus-one, zero, ten) (minus-zero, zero, ten)) one 128 (figuresOf twenty zero zero 0 Absent) 2

@@ -1,4 +1,4 @@
--- Columns of equal length: what holds of a list where refusal 2 does not apply. Functions behind check 2 ask it of their columns.
+-- Columns of equal length: what holds of a list where refusal 2 does not apply. Functions behind check 2 ask it of their columns, or promise what they promise where it holds.
 use mathlib.Core.Path.{_≡_}
 use lib.ListN.{length}
 use Rattle.drawing.specs.Entries.{SegmentColumns, NodeColumns, ExemptionColumns}

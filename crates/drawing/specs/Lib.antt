@@ -6,5 +6,5 @@ pub mod Checks
 pub mod Orders
 pub mod Gaps
 pub mod Held
--- what only private contracts cite
+-- what only contracts of inner functions cite
 pub mod Lengths

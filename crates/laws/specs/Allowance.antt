@@ -1,4 +1,4 @@
--- A charged run within what is left of an allowance, as inner functions have it. Only private contracts cite this; `settle` is what a call answers.
+-- A charged run within what is left of an allowance, as inner functions have it. Only contracts of inner functions cite this; `settle` is what a call answers.
 use mathlib.Core.Bool.{cond}
 use Prim.Native.Nat.{ℕ, _-_}
 use lib.Dec.{leb}

@@ -1,4 +1,4 @@
--- What the calls' own contracts say, as the checker reads them: of each of the five measures, by columns and by records, and of the tight pair, that it asks nothing of its caller, that it ends, and what it returns; of a measure, that its run is one of `Measures`.
+-- What the calls' own contracts say, as the checker reads them: of each of the five measures, by columns and by records, and of the tight pair, that it asks nothing of its caller, that it ends, and what it returns; of a measure, that its run is one of `demands`, specs/Measures.
 -- Each entry names the function's own code, its `routine`, so it speaks of the function and not of a copy of its contract. `a` are the arguments in the order of the signature, `x` is what is returned, and `e` are the arguments at exit.
 use Prim.Native.Nat.{ℕ}
 use mathlib.Core.List.{List}

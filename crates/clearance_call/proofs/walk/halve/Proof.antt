@@ -8,17 +8,14 @@ use Rattle.clearance_call.proofs.walk.halve.Tie as tie
 add-middle : tie.Need-add-middle
 add-middle c = search needs
 
+sub-rest : tie.Need-sub-rest
+sub-rest c = search needs
+
 bounds-of-requires : tie.Need-bounds-of-requires
 bounds-of-requires c κs = (search needs, nested-left _ _ _ (omega (arith, c .before .pre .1 .0)) (c .before .pre .1 .1))
 
 distance-requires : tie.Need-distance-requires
 distance-requires c κs = search needs
-
-sub-t11 : tie.Need-sub-t11
-sub-t11 c = search needs
-
-sub-bounds-of : tie.Need-sub-bounds-of
-sub-bounds-of c = search needs
 
 bounds-of-requires-2 : tie.Need-bounds-of-requires-2
 bounds-of-requires-2 c κs = (search needs, nested-right _ _ _ (omega (arith, c .before .before .before .pre .1 .0)) (c .before .before .before .pre .1 .1))
@@ -40,10 +37,9 @@ halve-spec =
     tie.close
     (tie.spec
     add-middle
+    sub-rest
     bounds-of-requires
     distance-requires
-    sub-t11
-    sub-bounds-of
     bounds-of-requires-2
     distance-requires-2
     nearer-first-requires
