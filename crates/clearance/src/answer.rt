@@ -1,12 +1,12 @@
 // What a call answers, from what its walks came to.
 ghost use mathlib.Core.Path.{_≡_};
-ghost use Prim.Native.Nat.{_-_};
 ghost use Rattle.clearance.specs.State.{gapOfFloat, Answers};
 use crate::report::ClearanceAnswer;
 use crate::report::EdgeNodeClearance;
 use crate::visit::Walked;
 use drawing::Gap;
 use drawing::Refusal;
+use drawing::visits_used;
 
 // The least distance that the walks kept as a float. Only a NaN differs from itself.
 fn gap_of_float(least: f64) -> Gap
@@ -16,16 +16,6 @@ fn gap_of_float(least: f64) -> Gap
         return Gap::Absent;
     }
     Gap::Present(least)
-}
-
-// The visits used are those that are no longer left. The walks leave no more than was allowed; where more is left, none was used.
-fn visits_used(allowance: usize, left: usize) -> usize
-    ensures { λ r. ⌜ r ≡ allowance - left ⌝ }
-{
-    if allowance < left {
-        return 0;
-    }
-    allowance - left
 }
 
 pub fn answer_of(walked: Walked, allowance: usize) -> ClearanceAnswer

@@ -1,14 +1,14 @@
 // Answers: from what the sweep found, and the answer without density.
 ghost use mathlib.Core.Path.{_≡_};
 ghost use Rattle.congestion.specs.Answering.{answerOf, plainly};
-use crate::counts::saturating_sub;
 use crate::found::Swept;
 use crate::report::CongestionAnswer;
 use crate::report::CongestionReport;
 use crate::report::ParallelCongestion;
 use drawing::Refusal;
+use drawing::visits_used;
 
-// The answer behind the checks, for this total length. The visits used are those that are no longer left; no sweep leaves more than it was allowed.
+// The answer behind the checks, for this total length.
 pub fn answer_of(swept: Swept, total: f64, allowance: usize) -> CongestionAnswer
     ensures { λ r. ⌜ r ≡ answerOf swept total allowance ⌝ }
 {
@@ -16,7 +16,7 @@ pub fn answer_of(swept: Swept, total: f64, allowance: usize) -> CongestionAnswer
         return CongestionAnswer::Refused(Refusal::WorkLimitExceeded);
     };
     let minimum = found.minimum_positive;
-    let visits = saturating_sub(allowance, found.left);
+    let visits = visits_used(allowance, found.left);
     let congestion = ParallelCongestion {
         total_length: total,
         congested_length: found.congested_length,

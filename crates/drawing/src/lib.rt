@@ -1,8 +1,9 @@
-// What every measure shares: the gap and the refusals, the checks of a call's input in document 01's order, and the clearing of the scratch.
+// What every measure shares: the gap and the refusals, the checks of a call's input in document 01's order, the clearing of the scratch, and the visits that were used.
 pub mod checks;
 pub mod gap;
 pub mod refusal;
 pub mod scratch;
+pub mod visits;
 
 pub use checks::check_clearance;
 pub use checks::check_congestion;
@@ -15,3 +16,4 @@ pub use refusal::Check;
 pub use refusal::Refusal;
 pub use refusal::number;
 pub use scratch::clear;
+pub use visits::visits_used;

@@ -1,10 +1,10 @@
 // The answer of a call whose checks passed, from where its walk ended.
 ghost use Rattle.separation.specs.States.{Answers};
-use crate::allowance::visits_used;
 use crate::report::ParallelSeparation;
 use crate::report::SeparationAnswer;
 use crate::state::Swept;
 use drawing::Refusal;
+use drawing::visits_used;
 
 pub fn answer_of(swept: Swept, allowance: usize) -> SeparationAnswer
     ensures { λ r. ⌜ Answers swept allowance r ⌝ }

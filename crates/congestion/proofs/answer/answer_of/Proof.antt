@@ -13,11 +13,11 @@ enum-told c = search needs
 returns : tie.Need-returns
 returns c = answer-spent _ _ _ (c .enum-told .given .1)
 
-saturating-sub-requires : tie.Need-saturating-sub-requires
-saturating-sub-requires c κs = search needs
+visits-used-requires : tie.Need-visits-used-requires
+visits-used-requires c κs = search needs
 
 returns-2 : tie.Need-returns-2
-returns-2 c = answer-went _ _ _ _ _ (c .before .before .swept .given .1) (c .saturating-sub .ensures)
+returns-2 c = answer-went _ _ _ _ _ (c .before .before .swept .given .1) (c .visits-used .ensures)
 
 pub answer-of-spec : {M : Type 1} → statement M
-answer-of-spec = tie.close (tie.spec enum-known-swept enum-told returns saturating-sub-requires returns-2)
+answer-of-spec = tie.close (tie.spec enum-known-swept enum-told returns visits-used-requires returns-2)
