@@ -33,6 +33,10 @@ gapOfFloat (fin s m e) = Present (fin s m e)
 abbrev pub soFar : Walking → Figures
 soFar w = record { least = gapOfFloat (w .least); violations = w .violations }
 
+-- the state before the first walk: no pair met, no distance yet, and nothing used of the allowance
+abbrev pub atStart : ℕ → Walking
+atStart allowance = record { violations = 0; least = nan; left = allowance }
+
 -- what a run within the allowance came to, from what the code answers
 unfoldable pub outcomeOf : Walked → Outcome Figures
 outcomeOf Spent = spent

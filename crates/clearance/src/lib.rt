@@ -16,5 +16,5 @@ pub use report::ClearanceAnswer;
 pub use report::EdgeNodeClearance;
 pub use visit::Walked;
 pub use visit::Walking;
-pub use visit::no_distance;
+pub use visit::at_start;
 pub use visit::visit_pair;

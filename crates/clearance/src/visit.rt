@@ -7,7 +7,7 @@ ghost use Rattle.laws.specs.Allowance.{within};
 ghost use Rattle.drawing.specs.declared.gap.Gap.the-variants.{Present};
 ghost use Rattle.drawing.specs.Gaps.{lesserGap};
 ghost use Rattle.clearance.specs.Walk.{withPair};
-ghost use Rattle.clearance.specs.State.{Number, gapOfFloat, soFar, outcomeOf};
+ghost use Rattle.clearance.specs.State.{Number, gapOfFloat, soFar, outcomeOf, atStart};
 use std::num::wrapping_add_usize;
 
 // The figures so far, and how many visits are left. The least distance is a NaN where there is none yet: no distance is a NaN, and +infinity may be one.
@@ -24,10 +24,21 @@ pub enum Walked {
 }
 
 // No distance yet.
-pub fn no_distance() -> f64
+fn no_distance() -> f64
     ensures { λ r. ⌜ r ≡ nan ⌝ }
 {
     0.0 / 0.0
+}
+
+// Where the walks begin: nothing met, and the whole allowance left.
+pub fn at_start(allowance: usize) -> Walking
+    ensures { λ r. ⌜ r ≡ atStart allowance ⌝ }
+{
+    Walking {
+        violations: 0,
+        least: no_distance(),
+        left: allowance,
+    }
 }
 
 // The least distance so far with one more.

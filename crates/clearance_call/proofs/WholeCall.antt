@@ -7,7 +7,7 @@ use native.Mathlib.Omega.{arith}
 use borrow.Author.Tests.{ltb-false}
 use borrow.Rule.Slice.PartMut.{midOf, putMid, postOf, same-len-mid, mid-len, take-put}
 use lib.Dec.{T}
-use lib.Ieee.{Float, nan, binary64, fits}
+use lib.Ieee.{Float, binary64, fits}
 use lib.ListN.{length, take, drop, length-drop}
 use lib.Seq.{take-at, drop-at, take-all, length-take-le, drop-drop, take-take}
 use Rattle.laws.specs.Lists.{All}
@@ -33,6 +33,7 @@ use Rattle.drawing.specs.Orders.{segmentsInOrder, nodesInOrder}
 use Rattle.drawing.proofs.EntryLaws.{length-segments, length-nodes, segments-at, nodes-at}
 use Rattle.drawing.proofs.FirstRefusal.{passed-head, few, segments-agree, nodes-agree}
 use Rattle.drawing.specs.Held.{NodeHeld}
+use Rattle.clearance.specs.declared.visit.Walking.{Walking}
 use Rattle.clearance.specs.declared.visit.Walked.{Walked}
 use Rattle.clearance.specs.declared.visit.Walked.the-variants.{Went}
 use Rattle.clearance.specs.declared.report.ClearanceAnswer.{ClearanceAnswer}
@@ -46,7 +47,7 @@ use Rattle.clearance_call.specs.Stored.{storedTree, Grown}
 use Rattle.clearance_call.specs.Nested.{Nested}
 use Rattle.exemptions.specs.Exempting.{Holds, Gathered}
 use Rattle.clearance_call.specs.Marks.{Grouped}
-use Rattle.clearance.specs.State.{gapOfFloat, outcomeOf, Answers}
+use Rattle.clearance.specs.State.{gapOfFloat, outcomeOf, atStart, Answers}
 use Rattle.clearance_call.specs.Walking.{Part, Held, InTurns, allWalks}
 use Rattle.clearance.specs.Answer.{accepted, clearanceAnswer}
 use Rattle.drawing.proofs.Fit.{FitSegment, FitNode}
@@ -103,10 +104,10 @@ no-tree : (ns : List Node) → length ns ≡ 0 → treeOf ns ≡ bare
 unfolding treeOf build
 no-tree ns h = ap (λ (k : ℕ). build k (map indexed (nodesInOrder ns))) h
 
-pub walked-none : (ex : List Exemption) (t : Float) (ss : List Segment) (n : NodeColumns) → NodesAgree n → length (n .id) ≡ 0 → (allowance : ℕ) (least : Float) → least ≡ nan
-    → outcomeOf (Went (record { least = least; violations = 0; left = allowance })) ≡ within allowance (walkAll ex t ss (nodes n))
+pub walked-none : (ex : List Exemption) (t : Float) (ss : List Segment) (n : NodeColumns) → NodesAgree n → length (n .id) ≡ 0 → (allowance : ℕ) (state : Walking) → state ≡ atStart allowance
+    → outcomeOf (Went state) ≡ within allowance (walkAll ex t ss (nodes n))
 unfolding gapOfFloat outcomeOf walkAll
-walked-none ex t ss n a h allowance least e =
+walked-none ex t ss n a h allowance state e =
     let tree = no-tree (nodes n) (length-nodes n a ∙ h) in
     rw e (sym (ap (within allowance) (ap (λ (z : Tree). runs (λ g s. walk ex t s z g) noFigures (segmentsInOrder ss)) tree ∙ runs-bare ex t noFigures (segmentsInOrder ss)) ∙ within-free allowance noFigures))
 
@@ -115,10 +116,10 @@ no-entries : {A : Type 0} (l : List A) → length l ≡ 0 → l ≡ []
 no-entries [] h = refl
 no-entries (x ∷ l) h = absurd (omega arith)
 
-pub walked-no-segment : (ex : List Exemption) (t : Float) (s : SegmentColumns) (ns : List Node) → SegmentsAgree s → length (s .net) ≡ 0 → (allowance : ℕ) (least : Float) → least ≡ nan
-    → outcomeOf (Went (record { least = least; violations = 0; left = allowance })) ≡ within allowance (walkAll ex t (segments s) ns)
+pub walked-no-segment : (ex : List Exemption) (t : Float) (s : SegmentColumns) (ns : List Node) → SegmentsAgree s → length (s .net) ≡ 0 → (allowance : ℕ) (state : Walking) → state ≡ atStart allowance
+    → outcomeOf (Went state) ≡ within allowance (walkAll ex t (segments s) ns)
 unfolding gapOfFloat outcomeOf walkAll segmentsInOrder sortBy runs
-walked-no-segment ex t s ns a h allowance least e =
+walked-no-segment ex t s ns a h allowance state e =
     let none = no-entries (segments s) (length-segments s a ∙ h) in
     rw e (sym (ap (λ (l : List Segment). within allowance (walkAll ex t l ns)) none ∙ within-free allowance noFigures))
 

@@ -15,9 +15,8 @@ use crate::tables::order_segments;
 use crate::walk_all::walk_all;
 use clearance::ClearanceAnswer;
 use clearance::Walked;
-use clearance::Walking;
 use clearance::answer_of;
-use clearance::no_distance;
+use clearance::at_start;
 use drawing::Check;
 use drawing::check_clearance;
 use drawing::clear;
@@ -46,11 +45,7 @@ fn walk_segments(
 {
     let m = id.len();
     if m == 0 {
-        return Walked::Went(Walking {
-            violations: 0,
-            least: no_distance(),
-            left: allowance,
-        });
+        return Walked::Went(at_start(allowance));
     }
     let mut packed = [0; 4096];
     gather(&mut packed, exempt_net, exempt_node);
@@ -99,11 +94,7 @@ fn walk_drawing(
     ensures { λ r. ⌜ outcomeOf r ≡ within allowance (walkAll (exemptions (exemptionColumns (now («exempt_net» .entry)) (now («exempt_node» .entry)))) threshold (segments (segmentColumns (now (net .entry)) (now (orientation .entry)) (now (fixed .entry)) (now (start .entry)) (now (end .entry)))) (nodes (nodeColumns (now (id .entry)) (now (x .entry)) (now (y .entry)) (now (width .entry)) (now (height .entry))))) ⌝ }
 {
     if net.len() == 0 {
-        return Walked::Went(Walking {
-            violations: 0,
-            least: no_distance(),
-            left: allowance,
-        });
+        return Walked::Went(at_start(allowance));
     }
     walk_segments(
         net,

@@ -22,7 +22,7 @@ use boxes::Aabb;
 use clearance::Subtree;
 use clearance::Walked;
 use clearance::Walking;
-use clearance::no_distance;
+use clearance::at_start;
 
 // The walk of one segment over the m leaves of the tree; the marks are those of its net.
 fn walk_segment(
@@ -79,11 +79,7 @@ pub(crate) fn walk_all(
     requires { ⌜ Nested (storedTree m (now tree) 0 m) ⌝ }
     ensures { λ r. ⌜ ((ex : List Exemption) → Holds (now (packed .entry)) ex → length ex ≡ k → outcomeOf r ≡ within allowance (allWalks ex threshold (now (tree .entry)) m (now (order .entry)) (segmentColumns (now (net .entry)) (now (orientation .entry)) (now (fixed .entry)) (now (start .entry)) (now (end .entry))))) ⌝ }
 {
-    let mut state = Walking {
-        violations: 0,
-        least: no_distance(),
-        left: allowance,
-    };
+    let mut state = at_start(allowance);
     let mut marks = [0; MARK_WORDS];
     let mut used = 0;
     let mut marked = NO_NET;

@@ -13,11 +13,11 @@ use Rattle.clearance_call.proofs.WholeCall.{sizes, nodes-held, walked-n
 use Rattle.clearance_call.proofs.measure.walk_segments.Statement.{statement}
 use Rattle.clearance_call.proofs.measure.walk_segments.Tie as tie
 
-no-distance-requires : tie.Need-no-distance-requires
-no-distance-requires c κs = search needs
+at-start-requires : tie.Need-at-start-requires
+at-start-requires c κs = search needs
 
 returns : tie.Need-returns
-returns c = let z = sizes (segmentColumns _ _ _ _ _) (nodeColumns _ _ _ _ _) (exemptionColumns _ _) _ _ (c .before .before .before .before .before .before .before .before .before .before .before .before .before .before .before .pre) in walked-none _ _ _ (nodeColumns _ _ _ _ _) (z .nodes) (c .before .if1 .taken) _ _ (c .no-distance .ensures)
+returns c = let z = sizes (segmentColumns _ _ _ _ _) (nodeColumns _ _ _ _ _) (exemptionColumns _ _) _ _ (c .before .before .before .before .before .before .before .before .before .before .before .before .before .before .before .pre) in walked-none _ _ _ (nodeColumns _ _ _ _ _) (z .nodes) (c .before .if1 .taken) _ _ (c .at-start .ensures)
 
 slice-aggregate-gather : tie.Need-slice-aggregate-gather
 slice-aggregate-gather c = search needs
@@ -153,7 +153,7 @@ pub walk-segments-spec : {M : Type 1} → statement M
 walk-segments-spec =
     tie.close
     (tie.spec
-    no-distance-requires
+    at-start-requires
     returns
     slice-aggregate-gather
     gather-requires

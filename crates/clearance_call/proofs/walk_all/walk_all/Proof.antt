@@ -1,11 +1,12 @@
 -- `clearance_call::walk_all::walk_all` meets its contract: after q segments the others, from the state, come to the same, and the marks are those of the last segment's net. Assumes nothing.
-use mathlib.Core.Path.{refl, _∙_}
+use mathlib.Core.Path.{refl, ap, _∙_}
 use Prim.Native.Nat.{_-_}
 use native.Mathlib.Omega.{arith}
 use denote.Ref.{now}
 use lib.ListN.{length, getD}
 use borrow.Author.Needs.{needs}
 use Rattle.drawing.specs.Entries.{segmentColumns}
+use Rattle.clearance.specs.declared.visit.Walking.{Walking}
 use Rattle.clearance_call.proofs.WalkRuns.{rising-of, marks-lent, Turned, turn-small, turned-none, turned-stopped, turned-next, turned-all}
 use Rattle.clearance_call.proofs.walk_all.walk_all.Statement.{statement}
 use Rattle.clearance_call.proofs.walk_all.walk_all.Tie as tie
@@ -16,11 +17,11 @@ Inv-loop tree m order net orientation fixed start end threshold packed k ids gro
 abbrev μ-loop : tie.MeasureT-loop
 μ-loop tree m order net orientation fixed start end threshold packed k ids groups allowance state₀ marks₀ used₀ marked₀ q₀ state marks used marked q = length net - q
 
-no-distance-requires : tie.Need-no-distance-requires Inv-loop μ-loop
-no-distance-requires c κs = search needs
+at-start-requires : tie.Need-at-start-requires Inv-loop μ-loop
+at-start-requires c κs = search needs
 
 loop-holds : tie.Need-loop-holds Inv-loop μ-loop
-loop-holds c = turned-none _ _ _ _ _ _ _ (segmentColumns _ _ _ _ _) _ (c .before .before .before .before .before .before .before .before .before .before .before .pre .1 .0) (c .before .before .before .before .before .before .before .before .before .before .before .fits .allowance .fits) _ (c .no-distance .ensures) refl refl _ refl
+loop-holds c = turned-none _ _ _ _ _ _ _ (segmentColumns _ _ _ _ _) _ (c .before .before .before .before .before .before .before .before .before .before .before .pre .1 .0) (c .before .before .before .before .before .before .before .before .before .before .before .fits .allowance .fits) _ (ap (λ (s : Walking). s .least) (c .at-start .ensures)) (ap (λ (s : Walking). s .violations) (c .at-start .ensures)) (ap (λ (s : Walking). s .left) (c .at-start .ensures)) _ refl
 
 mul-i : tie.Need-mul-i Inv-loop μ-loop
 mul-i c = search needs
@@ -119,7 +120,7 @@ walk-all-spec =
     (tie.spec
     Inv-loop
     μ-loop
-    no-distance-requires
+    at-start-requires
     loop-holds
     mul-i
     shared-slice-read-i
