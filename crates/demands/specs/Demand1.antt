@@ -1,5 +1,5 @@
 -- Demand 1: "Where an input is unfit, the call returns the first refusal that applies in document 01's list and touches no lent memory; where the allowance runs out it returns that refusal and a cleared scratch; every call ends, for all inputs, with no condition laid on its caller."
--- `proofs/Demand1.antt` proves `Demand1`; that every call ends, and asks nothing of its caller, is said of the functions themselves, in `readability`, specs/Contracts. Lists and settings are lent or given to be read only: the scratch is the one part of lent memory that a call may write. The tight pair's refusals are in `TightPair`; it is lent nothing that it may write.
+-- `proofs/Demand1.antt` proves `Demand1`; that every call ends, and asks nothing of its caller, is said of the functions themselves, in `readability`, specs/Calls. Lists and settings are lent or given to be read only: the scratch is the one part of lent memory that a call may write. The tight pair's refusals are in `TightPair`; it is lent nothing that it may write.
 use mathlib.Core.Path.{_≡_}
 use mathlib.Core.Bool.{true, false}
 use mathlib.Core.Logic.{_⊎_}

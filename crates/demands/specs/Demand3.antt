@@ -1,4 +1,4 @@
--- Demand 3, over the five measures. A run is a call by columns or by records, so any two calls may be one of each; that every call of the functions is a run is shown in `readability`, specs/Contracts. `proofs/Demand3.antt` proves `Demand3`.
+-- Demand 3, over the five measures. A run is a call by columns or by records, so any two calls may be one of each; that every call of the functions is a run is shown in `readability`, specs/Calls. `proofs/Demand3.antt` proves `Demand3`.
 use mathlib.Core.Path.{_≡_}
 use mathlib.Core.Logic.{_⊎_, _↔_}
 use mathlib.Core.Bool.{true, false, cond}

@@ -191,7 +191,7 @@ pub record Says (m : Measure) (drawing : m .Drawing) (settings : m .Settings) (a
   pub leaves : after ≡ scratchAfter (firstOf (m .conditions drawing settings (length before))) before
   pub held : firstOf (m .conditions drawing settings (length before)) ≡ Passed → m .Held drawing settings
 
--- a run of a measure: a call of which its contract holds, by columns or by a thin entry, whose list of records stands for columns. `readability`, specs/Contracts, shows that the functions' own contracts say so of every call.
+-- a run of a measure: a call of which its contract holds, by columns or by a thin entry, whose list of records stands for columns. `readability`, specs/Calls, shows that the functions' own contracts say so of every call.
 pub record Run (m : Measure) : Type 0 where
   pub drawing : m .Drawing
   pub settings : m .Settings

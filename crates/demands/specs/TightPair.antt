@@ -1,5 +1,5 @@
 -- "Tight pair (added; no threshold, allowance or scratch): checks 2, 3 and 5 of clearance, then answers any pair, by segment and node position, that is not exempt and whose distance is the least clearance, or absent if there is none."
--- What follows from `Answered`, which is the call's contract (`readability`, specs/Contracts). `proofs/TightPair.antt` proves `TightPairs`.
+-- What follows from `Answered`, which is the call's contract (`readability`, specs/Calls). `proofs/TightPair.antt` proves `TightPairs`.
 use mathlib.Core.Path.{_≡_}
 use mathlib.Core.Option.{none, some}
 use Prim.Native.Nat.{ℕ}

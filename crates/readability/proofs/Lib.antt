@@ -1,3 +1,3 @@
 -- The proofs of what specs/ states, under the same names.
 pub mod Promise
-pub mod Contracts
+pub mod Calls

@@ -5,11 +5,11 @@ use Rattle.demands.specs.Demand3.{Demand3}
 use Rattle.demands.specs.TightPair.{TightPairs}
 use Rattle.demands.specs.Marked.{Marked}
 use Rattle.demands.specs.ShutOut.{ShutOut}
-use Rattle.readability.specs.Contracts.{Contracts}
+use Rattle.readability.specs.Calls.{Calls}
 
 pub record Promise : Type 2 where
   -- demand 1: "every call ends, for all inputs, with no condition laid on its caller": of the functions themselves, the six by columns and the five by records, with the equations that make a call a run of its measure
-  pub calls : Contracts
+  pub calls : Calls
   -- the demands, of every run of the five measures
   pub demand-1 : Demand1
   pub demand-2 : Demand2

@@ -65,7 +65,7 @@ pub record Contract (n : ℕ) (ps : List (PK n)) (r : RK n) (routine : Routine) 
   -- what a caller knows
   pub says : (κs : Lfts n) (a : Dens κs ps) (x : resT r κs .Denot) (e : AtExit (endedOf n ps r) κs) → Learnt κs a x e → Claim κs a x e
 
-pub record Contracts : Type 2 where
+pub record Calls : Type 2 where
   -- net, orientation, fixed, start, end, id, x, y, width, height, exempt_net, exempt_node, threshold, allowance, scratch
   pub of-clearance : Contract 13 clearanceKinds.ps clearanceKinds.r clearanceCode.routine clearanceReads.Asked clearanceReads.Learnt (λ κs a x e. let b = a .1 .1 .1 .1 .1 in let c = b .1 .1 .1 .1 .1 in
       Says clearance (record {

@@ -1,4 +1,4 @@
--- The calls' own contracts say what specs/Contracts states. Assumes nothing.
+-- The calls' own contracts say what specs/Calls states. Assumes nothing.
 use Rattle.drawing.proofs.ColumnLaws.{columns-entries, columns-same}
 use Rattle.clearance_call.proofs.measure.measure_edge_node_clearance_bounded.Met as clearance
 use Rattle.clearance_call.proofs.measure.measure_edge_node_clearance_bounded.Reads as clearance-reads
@@ -22,10 +22,10 @@ use Rattle.records.proofs.measure_parallel_congestion_profile_bounded_by_record
 use Rattle.records.proofs.Claims.measure_parallel_congestion_profile_bounded_by_records.Reads as profile-entry-reads
 use Rattle.records.proofs.measure_parallel_congestion_by_records.Met as congestion-entry
 use Rattle.records.proofs.Claims.measure_parallel_congestion_by_records.Reads as congestion-entry-reads
-use Rattle.readability.specs.Contracts.{Contracts}
+use Rattle.readability.specs.Calls.{Calls}
 
-pub contracts : Contracts
-contracts = record {
+pub calls : Calls
+calls = record {
   of-clearance = record { ends = λ w γ k same. clearance-reads.known w γ k _ same (clearance.met (w .𝓤) (w .H) (w .𝓜) (w .𝓖) (w .𝓡)); asks-nothing = λ κs a. tt; says = λ κs a x e l. record { answers = l .0; leaves = l .1 .0; held = l .1 .1 } };
   of-separation = record { ends = λ w γ k same. separation-reads.known w γ k _ same (separation.met (w .𝓤) (w .H) (w .𝓜) (w .𝓖) (w .𝓡)); asks-nothing = λ κs a. tt; says = λ κs a x e l. record { answers = l .0; leaves = l .1 .0; held = l .1 .1 } };
   of-density = record { ends = λ w γ k same. density-reads.known w γ k _ same (density.met (w .𝓤) (w .H) (w .𝓜) (w .𝓖) (w .𝓡)); asks-nothing = λ κs a. tt; says = λ κs a x e l. record { answers = l .0; leaves = l .1 .0; held = l .1 .1 } };
