@@ -132,9 +132,16 @@ pub fn measure_edge_node_clearance_bounded(
     allowance: usize,
     scratch: &mut [u64],
 ) -> ClearanceAnswer
-    ensures { λ r. ⌜ r ≡ clearanceAnswer (segmentColumns (now (net .entry)) (now (orientation .entry)) (now (fixed .entry)) (now (start .entry)) (now (end .entry))) (nodeColumns (now (id .entry)) (now (x .entry)) (now (y .entry)) (now (width .entry)) (now (height .entry))) (exemptionColumns (now («exempt_net» .entry)) (now («exempt_node» .entry))) threshold allowance (length (now (scratch .entry))) ⌝ }
-    ensures { λ _. ⌜ now (scratch .exit) ≡ scratchAfter (firstOf (clearanceConditions (segmentColumns (now (net .entry)) (now (orientation .entry)) (now (fixed .entry)) (now (start .entry)) (now (end .entry))) (nodeColumns (now (id .entry)) (now (x .entry)) (now (y .entry)) (now (width .entry)) (now (height .entry))) (exemptionColumns (now («exempt_net» .entry)) (now («exempt_node» .entry))) threshold (length (now (scratch .entry))))) (now (scratch .entry)) ⌝ }
-    ensures { λ _. ⌜ (firstOf (clearanceConditions (segmentColumns (now (net .entry)) (now (orientation .entry)) (now (fixed .entry)) (now (start .entry)) (now (end .entry))) (nodeColumns (now (id .entry)) (now (x .entry)) (now (y .entry)) (now (width .entry)) (now (height .entry))) (exemptionColumns (now («exempt_net» .entry)) (now («exempt_node» .entry))) threshold (length (now (scratch .entry)))) ≡ Passed → SegmentsHeld (segmentColumns (now (net .entry)) (now (orientation .entry)) (now (fixed .entry)) (now (start .entry)) (now (end .entry))) × NodesHeld (nodeColumns (now (id .entry)) (now (x .entry)) (now (y .entry)) (now (width .entry)) (now (height .entry))) × Binary64 threshold) ⌝ }
+    ensures { λ r. ⌜ (
+        let lentSegments = segmentColumns (now (net .entry)) (now (orientation .entry)) (now (fixed .entry)) (now (start .entry)) (now (end .entry)) in
+        let lentNodes = nodeColumns (now (id .entry)) (now (x .entry)) (now (y .entry)) (now (width .entry)) (now (height .entry)) in
+        let lentExemptions = exemptionColumns (now («exempt_net» .entry)) (now («exempt_node» .entry)) in
+        let words = length (now (scratch .entry)) in
+        let refusal = firstOf (clearanceConditions lentSegments lentNodes lentExemptions threshold words) in
+        (r ≡ clearanceAnswer lentSegments lentNodes lentExemptions threshold allowance words)
+        × (now (scratch .exit) ≡ scratchAfter refusal (now (scratch .entry)))
+        × (refusal ≡ Passed → SegmentsHeld lentSegments × NodesHeld lentNodes × Binary64 threshold)
+        ) ⌝ }
 {
     let words = scratch.len();
     let check = check_clearance(

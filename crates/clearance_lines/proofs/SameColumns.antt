@@ -14,7 +14,7 @@ use Rattle.clearance.specs.Answer.{clearanceAnswer}
 
 module _ (nodes : NodeColumns) (exemptions : ExemptionColumns) (threshold : Float) (allowance : ℕ) (before : List ℕ) where
   abbrev Promised : ClearanceAnswer → List ℕ → SegmentColumns → Type 0
-  Promised told after s = (told ≡ clearanceAnswer s nodes exemptions threshold allowance (length before)) × ((after ≡ scratchAfter (firstOf (clearanceConditions s nodes exemptions threshold (length before))) before) × (firstOf (clearanceConditions s nodes exemptions threshold (length before)) ≡ Passed → SegmentsHeld s × NodesHeld nodes × Binary64 threshold))
+  Promised told after s = (told ≡ clearanceAnswer s nodes exemptions threshold allowance (length before)) × (after ≡ scratchAfter (firstOf (clearanceConditions s nodes exemptions threshold (length before))) before) × (firstOf (clearanceConditions s nodes exemptions threshold (length before)) ≡ Passed → SegmentsHeld s × NodesHeld nodes × Binary64 threshold)
 
   pub of-equal : {told : ClearanceAnswer} {after : List ℕ} {s t : SegmentColumns} → s ≡ t → Promised told after s → Promised told after t
   of-equal {told} {after} e p = subst (Promised told after) e p

@@ -28,9 +28,16 @@ pub fn clearance_of_lines(
     allowance: usize,
     scratch: &mut [u64],
 ) -> ClearanceAnswer
-    ensures { λ r. ⌜ r ≡ clearanceAnswer (columnsOf (map entryOf (take n lines))) (nodeColumns (now (id .entry)) (now (x .entry)) (now (y .entry)) (now (width .entry)) (now (height .entry))) (exemptionColumns (now («exempt_net» .entry)) (now («exempt_node» .entry))) threshold allowance (length (now (scratch .entry))) ⌝ }
-    ensures { λ _. ⌜ now (scratch .exit) ≡ scratchAfter (firstOf (clearanceConditions (columnsOf (map entryOf (take n lines))) (nodeColumns (now (id .entry)) (now (x .entry)) (now (y .entry)) (now (width .entry)) (now (height .entry))) (exemptionColumns (now («exempt_net» .entry)) (now («exempt_node» .entry))) threshold (length (now (scratch .entry))))) (now (scratch .entry)) ⌝ }
-    ensures { λ _. ⌜ (firstOf (clearanceConditions (columnsOf (map entryOf (take n lines))) (nodeColumns (now (id .entry)) (now (x .entry)) (now (y .entry)) (now (width .entry)) (now (height .entry))) (exemptionColumns (now («exempt_net» .entry)) (now («exempt_node» .entry))) threshold (length (now (scratch .entry)))) ≡ Passed → SegmentsHeld (columnsOf (map entryOf (take n lines))) × NodesHeld (nodeColumns (now (id .entry)) (now (x .entry)) (now (y .entry)) (now (width .entry)) (now (height .entry))) × Binary64 threshold) ⌝ }
+    ensures { λ r. ⌜ (
+        let lentSegments = columnsOf (map entryOf (take n lines)) in
+        let lentNodes = nodeColumns (now (id .entry)) (now (x .entry)) (now (y .entry)) (now (width .entry)) (now (height .entry)) in
+        let lentExemptions = exemptionColumns (now («exempt_net» .entry)) (now («exempt_node» .entry)) in
+        let words = length (now (scratch .entry)) in
+        let refusal = firstOf (clearanceConditions lentSegments lentNodes lentExemptions threshold words) in
+        (r ≡ clearanceAnswer lentSegments lentNodes lentExemptions threshold allowance words)
+        × (now (scratch .exit) ≡ scratchAfter refusal (now (scratch .entry)))
+        × (refusal ≡ Passed → SegmentsHeld lentSegments × NodesHeld lentNodes × Binary64 threshold)
+        ) ⌝ }
 {
     let mut net = [0; 4097];
     let mut orientation = [0; 4097];

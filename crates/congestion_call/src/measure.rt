@@ -21,9 +21,14 @@ pub fn measure_parallel_congestion_profile_bounded(
     allowance: usize,
     scratch: &mut [u64],
 ) -> CongestionAnswer
-    ensures { λ r. ⌜ r ≡ profileAnswer (segmentColumns (now (net .entry)) (now (orientation .entry)) (now (fixed .entry)) (now (start .entry)) (now (end .entry))) cutoff allowance (length (now (scratch .entry))) ⌝ }
-    ensures { λ _. ⌜ now (scratch .exit) ≡ scratchAfter (firstOf (congestionConditions (segmentColumns (now (net .entry)) (now (orientation .entry)) (now (fixed .entry)) (now (start .entry)) (now (end .entry))) cutoff (length (now (scratch .entry))))) (now (scratch .entry)) ⌝ }
-    ensures { λ _. ⌜ (firstOf (congestionConditions (segmentColumns (now (net .entry)) (now (orientation .entry)) (now (fixed .entry)) (now (start .entry)) (now (end .entry))) cutoff (length (now (scratch .entry)))) ≡ Passed → SegmentsHeld (segmentColumns (now (net .entry)) (now (orientation .entry)) (now (fixed .entry)) (now (start .entry)) (now (end .entry))) × Binary64 cutoff) ⌝ }
+    ensures { λ r. ⌜ (
+        let lent = segmentColumns (now (net .entry)) (now (orientation .entry)) (now (fixed .entry)) (now (start .entry)) (now (end .entry)) in
+        let words = length (now (scratch .entry)) in
+        let refusal = firstOf (congestionConditions lent cutoff words) in
+        (r ≡ profileAnswer lent cutoff allowance words)
+        × (now (scratch .exit) ≡ scratchAfter refusal (now (scratch .entry)))
+        × (refusal ≡ Passed → SegmentsHeld lent × Binary64 cutoff)
+        ) ⌝ }
 {
     let answer = measure_parallel_density_profile_bounded(
         net,
@@ -48,9 +53,14 @@ pub fn measure_parallel_congestion(
     cutoff: f64,
     scratch: &mut [u64],
 ) -> CongestionAnswer
-    ensures { λ r. ⌜ r ≡ congestionAnswer (segmentColumns (now (net .entry)) (now (orientation .entry)) (now (fixed .entry)) (now (start .entry)) (now (end .entry))) cutoff (length (now (scratch .entry))) ⌝ }
-    ensures { λ _. ⌜ now (scratch .exit) ≡ scratchAfter (firstOf (congestionConditions (segmentColumns (now (net .entry)) (now (orientation .entry)) (now (fixed .entry)) (now (start .entry)) (now (end .entry))) cutoff (length (now (scratch .entry))))) (now (scratch .entry)) ⌝ }
-    ensures { λ _. ⌜ (firstOf (congestionConditions (segmentColumns (now (net .entry)) (now (orientation .entry)) (now (fixed .entry)) (now (start .entry)) (now (end .entry))) cutoff (length (now (scratch .entry)))) ≡ Passed → SegmentsHeld (segmentColumns (now (net .entry)) (now (orientation .entry)) (now (fixed .entry)) (now (start .entry)) (now (end .entry))) × Binary64 cutoff) ⌝ }
+    ensures { λ r. ⌜ (
+        let lent = segmentColumns (now (net .entry)) (now (orientation .entry)) (now (fixed .entry)) (now (start .entry)) (now (end .entry)) in
+        let words = length (now (scratch .entry)) in
+        let refusal = firstOf (congestionConditions lent cutoff words) in
+        (r ≡ congestionAnswer lent cutoff words)
+        × (now (scratch .exit) ≡ scratchAfter refusal (now (scratch .entry)))
+        × (refusal ≡ Passed → SegmentsHeld lent × Binary64 cutoff)
+        ) ⌝ }
 {
     measure_parallel_density_profile_bounded(
         net,

@@ -14,7 +14,7 @@ use Rattle.congestion.specs.Answer.{densityAnswer, profileAnswer, congestionAns
 
 -- `answer` is what the call answers of columns, told how many words the scratch has
 abbrev Promised : (SegmentColumns → ℕ → CongestionAnswer) → Float → List ℕ → CongestionAnswer → List ℕ → SegmentColumns → Type 0
-Promised answer cutoff before told after s = (told ≡ answer s (length before)) × ((after ≡ scratchAfter (firstOf (congestionConditions s cutoff (length before))) before) × (firstOf (congestionConditions s cutoff (length before)) ≡ Passed → SegmentsHeld s × Binary64 cutoff))
+Promised answer cutoff before told after s = (told ≡ answer s (length before)) × (after ≡ scratchAfter (firstOf (congestionConditions s cutoff (length before))) before) × (firstOf (congestionConditions s cutoff (length before)) ≡ Passed → SegmentsHeld s × Binary64 cutoff)
 
 module _ (cutoff : Float) (allowance : ℕ) (before : List ℕ) {told : CongestionAnswer} {after : List ℕ} {s t : SegmentColumns} where
   pub density-of-equal : s ≡ t → Promised (λ u. densityAnswer u cutoff allowance) cutoff before told after s → Promised (λ u. densityAnswer u cutoff allowance) cutoff before told after t

@@ -20,9 +20,14 @@ pub fn congestion_of_lines(
     cutoff: f64,
     scratch: &mut [u64],
 ) -> CongestionAnswer
-    ensures { λ r. ⌜ r ≡ congestionAnswer (columnsOf (map entryOf (take n lines))) cutoff (length (now (scratch .entry))) ⌝ }
-    ensures { λ _. ⌜ now (scratch .exit) ≡ scratchAfter (firstOf (congestionConditions (columnsOf (map entryOf (take n lines))) cutoff (length (now (scratch .entry))))) (now (scratch .entry)) ⌝ }
-    ensures { λ _. ⌜ (firstOf (congestionConditions (columnsOf (map entryOf (take n lines))) cutoff (length (now (scratch .entry)))) ≡ Passed → SegmentsHeld (columnsOf (map entryOf (take n lines))) × Binary64 cutoff) ⌝ }
+    ensures { λ r. ⌜ (
+        let lent = columnsOf (map entryOf (take n lines)) in
+        let words = length (now (scratch .entry)) in
+        let refusal = firstOf (congestionConditions lent cutoff words) in
+        (r ≡ congestionAnswer lent cutoff words)
+        × (now (scratch .exit) ≡ scratchAfter refusal (now (scratch .entry)))
+        × (refusal ≡ Passed → SegmentsHeld lent × Binary64 cutoff)
+        ) ⌝ }
 {
     let mut net = [0; 4097];
     let mut orientation = [0; 4097];

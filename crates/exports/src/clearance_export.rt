@@ -66,9 +66,16 @@ pub extern "C" fn readability_clearance(
     scratch: &mut [u64],
     out: &mut [u64; 4],
 ) -> u32
-    ensures { λ r. ⌜ r ≡ resultOf (clearanceAnswer (segmentColumns (now (net .entry)) (now (orientation .entry)) (now (fixed .entry)) (now (start .entry)) (now (end .entry))) (nodeColumns (now (id .entry)) (now (x .entry)) (now (y .entry)) (now (width .entry)) (now (height .entry))) (exemptionColumns (now («exempt_net» .entry)) (now («exempt_node» .entry))) threshold allowance (length (now (scratch .entry)))) .0 ⌝ }
-    ensures { λ _. ⌜ now (out .exit) ≡ clearanceWords (resultOf (clearanceAnswer (segmentColumns (now (net .entry)) (now (orientation .entry)) (now (fixed .entry)) (now (start .entry)) (now (end .entry))) (nodeColumns (now (id .entry)) (now (x .entry)) (now (y .entry)) (now (width .entry)) (now (height .entry))) (exemptionColumns (now («exempt_net» .entry)) (now («exempt_node» .entry))) threshold allowance (length (now (scratch .entry)))) .1) ⌝ }
-    ensures { λ _. ⌜ now (scratch .exit) ≡ scratchAfter (firstOf (clearanceConditions (segmentColumns (now (net .entry)) (now (orientation .entry)) (now (fixed .entry)) (now (start .entry)) (now (end .entry))) (nodeColumns (now (id .entry)) (now (x .entry)) (now (y .entry)) (now (width .entry)) (now (height .entry))) (exemptionColumns (now («exempt_net» .entry)) (now («exempt_node» .entry))) threshold (length (now (scratch .entry))))) (now (scratch .entry)) ⌝ }
+    ensures { λ r. ⌜ (
+        let lentSegments = segmentColumns (now (net .entry)) (now (orientation .entry)) (now (fixed .entry)) (now (start .entry)) (now (end .entry)) in
+        let lentNodes = nodeColumns (now (id .entry)) (now (x .entry)) (now (y .entry)) (now (width .entry)) (now (height .entry)) in
+        let lentExemptions = exemptionColumns (now («exempt_net» .entry)) (now («exempt_node» .entry)) in
+        let words = length (now (scratch .entry)) in
+        let result = resultOf (clearanceAnswer lentSegments lentNodes lentExemptions threshold allowance words) in
+        (r ≡ result .0)
+        × (now (out .exit) ≡ clearanceWords (result .1))
+        × (now (scratch .exit) ≡ scratchAfter (firstOf (clearanceConditions lentSegments lentNodes lentExemptions threshold words)) (now (scratch .entry)))
+        ) ⌝ }
 {
     let told = measure_edge_node_clearance_bounded(
         net,

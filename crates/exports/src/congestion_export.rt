@@ -69,9 +69,14 @@ pub extern "C" fn readability_density_profile(
     scratch: &mut [u64],
     out: &mut [u64; 7],
 ) -> u32
-    ensures { λ r. ⌜ r ≡ resultOf (densityAnswer (segmentColumns (now (net .entry)) (now (orientation .entry)) (now (fixed .entry)) (now (start .entry)) (now (end .entry))) cutoff allowance (length (now (scratch .entry)))) .0 ⌝ }
-    ensures { λ _. ⌜ now (out .exit) ≡ congestionWords (resultOf (densityAnswer (segmentColumns (now (net .entry)) (now (orientation .entry)) (now (fixed .entry)) (now (start .entry)) (now (end .entry))) cutoff allowance (length (now (scratch .entry)))) .1) ⌝ }
-    ensures { λ _. ⌜ now (scratch .exit) ≡ scratchAfter (firstOf (congestionConditions (segmentColumns (now (net .entry)) (now (orientation .entry)) (now (fixed .entry)) (now (start .entry)) (now (end .entry))) cutoff (length (now (scratch .entry))))) (now (scratch .entry)) ⌝ }
+    ensures { λ r. ⌜ (
+        let lent = segmentColumns (now (net .entry)) (now (orientation .entry)) (now (fixed .entry)) (now (start .entry)) (now (end .entry)) in
+        let words = length (now (scratch .entry)) in
+        let result = resultOf (densityAnswer lent cutoff allowance words) in
+        (r ≡ result .0)
+        × (now (out .exit) ≡ congestionWords (result .1))
+        × (now (scratch .exit) ≡ scratchAfter (firstOf (congestionConditions lent cutoff words)) (now (scratch .entry)))
+        ) ⌝ }
 {
     let told = measure_parallel_density_profile_bounded(
         net,
@@ -99,9 +104,14 @@ pub extern "C" fn readability_congestion_profile(
     scratch: &mut [u64],
     out: &mut [u64; 7],
 ) -> u32
-    ensures { λ r. ⌜ r ≡ resultOf (profileAnswer (segmentColumns (now (net .entry)) (now (orientation .entry)) (now (fixed .entry)) (now (start .entry)) (now (end .entry))) cutoff allowance (length (now (scratch .entry)))) .0 ⌝ }
-    ensures { λ _. ⌜ now (out .exit) ≡ congestionWords (resultOf (profileAnswer (segmentColumns (now (net .entry)) (now (orientation .entry)) (now (fixed .entry)) (now (start .entry)) (now (end .entry))) cutoff allowance (length (now (scratch .entry)))) .1) ⌝ }
-    ensures { λ _. ⌜ now (scratch .exit) ≡ scratchAfter (firstOf (congestionConditions (segmentColumns (now (net .entry)) (now (orientation .entry)) (now (fixed .entry)) (now (start .entry)) (now (end .entry))) cutoff (length (now (scratch .entry))))) (now (scratch .entry)) ⌝ }
+    ensures { λ r. ⌜ (
+        let lent = segmentColumns (now (net .entry)) (now (orientation .entry)) (now (fixed .entry)) (now (start .entry)) (now (end .entry)) in
+        let words = length (now (scratch .entry)) in
+        let result = resultOf (profileAnswer lent cutoff allowance words) in
+        (r ≡ result .0)
+        × (now (out .exit) ≡ congestionWords (result .1))
+        × (now (scratch .exit) ≡ scratchAfter (firstOf (congestionConditions lent cutoff words)) (now (scratch .entry)))
+        ) ⌝ }
 {
     let told = measure_parallel_congestion_profile_bounded(
         net,
@@ -128,9 +138,14 @@ pub extern "C" fn readability_congestion(
     scratch: &mut [u64],
     out: &mut [u64; 7],
 ) -> u32
-    ensures { λ r. ⌜ r ≡ resultOf (congestionAnswer (segmentColumns (now (net .entry)) (now (orientation .entry)) (now (fixed .entry)) (now (start .entry)) (now (end .entry))) cutoff (length (now (scratch .entry)))) .0 ⌝ }
-    ensures { λ _. ⌜ now (out .exit) ≡ congestionWords (resultOf (congestionAnswer (segmentColumns (now (net .entry)) (now (orientation .entry)) (now (fixed .entry)) (now (start .entry)) (now (end .entry))) cutoff (length (now (scratch .entry)))) .1) ⌝ }
-    ensures { λ _. ⌜ now (scratch .exit) ≡ scratchAfter (firstOf (congestionConditions (segmentColumns (now (net .entry)) (now (orientation .entry)) (now (fixed .entry)) (now (start .entry)) (now (end .entry))) cutoff (length (now (scratch .entry))))) (now (scratch .entry)) ⌝ }
+    ensures { λ r. ⌜ (
+        let lent = segmentColumns (now (net .entry)) (now (orientation .entry)) (now (fixed .entry)) (now (start .entry)) (now (end .entry)) in
+        let words = length (now (scratch .entry)) in
+        let result = resultOf (congestionAnswer lent cutoff words) in
+        (r ≡ result .0)
+        × (now (out .exit) ≡ congestionWords (result .1))
+        × (now (scratch .exit) ≡ scratchAfter (firstOf (congestionConditions lent cutoff words)) (now (scratch .entry)))
+        ) ⌝ }
 {
     let told = measure_parallel_congestion(net, orientation, fixed, start, end, cutoff, scratch);
     tell_congestion(told, out)

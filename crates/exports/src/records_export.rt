@@ -27,9 +27,14 @@ pub extern "C" fn readability_separation_by_records(
     scratch: &mut [u64],
     out: &mut [u64; 5],
 ) -> u32
-    ensures { λ r. ⌜ r ≡ Separation.resultOf (Separation.separationAnswer (parallelColumns (now (records .entry))) allowance (length (now (scratch .entry)))) .0 ⌝ }
-    ensures { λ _. ⌜ now (out .exit) ≡ separationWords (Separation.resultOf (Separation.separationAnswer (parallelColumns (now (records .entry))) allowance (length (now (scratch .entry)))) .1) ⌝ }
-    ensures { λ _. ⌜ now (scratch .exit) ≡ scratchAfter (firstOf (separationConditions (parallelColumns (now (records .entry))) (length (now (scratch .entry))))) (now (scratch .entry)) ⌝ }
+    ensures { λ r. ⌜ (
+        let lent = parallelColumns (now (records .entry)) in
+        let words = length (now (scratch .entry)) in
+        let result = Separation.resultOf (Separation.separationAnswer lent allowance words) in
+        (r ≡ result .0)
+        × (now (out .exit) ≡ separationWords (result .1))
+        × (now (scratch .exit) ≡ scratchAfter (firstOf (separationConditions lent words)) (now (scratch .entry)))
+        ) ⌝ }
 {
     let told = measure_parallel_separation_bounded_by_records(records, allowance, scratch);
     tell_separation(told, out)
@@ -43,9 +48,14 @@ pub extern "C" fn readability_density_profile_by_records(
     scratch: &mut [u64],
     out: &mut [u64; 7],
 ) -> u32
-    ensures { λ r. ⌜ r ≡ Congestion.resultOf (Congestion.densityAnswer (parallelColumns (now (records .entry))) cutoff allowance (length (now (scratch .entry)))) .0 ⌝ }
-    ensures { λ _. ⌜ now (out .exit) ≡ congestionWords (Congestion.resultOf (Congestion.densityAnswer (parallelColumns (now (records .entry))) cutoff allowance (length (now (scratch .entry)))) .1) ⌝ }
-    ensures { λ _. ⌜ now (scratch .exit) ≡ scratchAfter (firstOf (congestionConditions (parallelColumns (now (records .entry))) cutoff (length (now (scratch .entry))))) (now (scratch .entry)) ⌝ }
+    ensures { λ r. ⌜ (
+        let lent = parallelColumns (now (records .entry)) in
+        let words = length (now (scratch .entry)) in
+        let result = Congestion.resultOf (Congestion.densityAnswer lent cutoff allowance words) in
+        (r ≡ result .0)
+        × (now (out .exit) ≡ congestionWords (result .1))
+        × (now (scratch .exit) ≡ scratchAfter (firstOf (congestionConditions lent cutoff words)) (now (scratch .entry)))
+        ) ⌝ }
 {
     let told = measure_parallel_density_profile_bounded_by_records(
         records,
@@ -64,9 +74,14 @@ pub extern "C" fn readability_congestion_profile_by_records(
     scratch: &mut [u64],
     out: &mut [u64; 7],
 ) -> u32
-    ensures { λ r. ⌜ r ≡ Congestion.resultOf (Congestion.profileAnswer (parallelColumns (now (records .entry))) cutoff allowance (length (now (scratch .entry)))) .0 ⌝ }
-    ensures { λ _. ⌜ now (out .exit) ≡ congestionWords (Congestion.resultOf (Congestion.profileAnswer (parallelColumns (now (records .entry))) cutoff allowance (length (now (scratch .entry)))) .1) ⌝ }
-    ensures { λ _. ⌜ now (scratch .exit) ≡ scratchAfter (firstOf (congestionConditions (parallelColumns (now (records .entry))) cutoff (length (now (scratch .entry))))) (now (scratch .entry)) ⌝ }
+    ensures { λ r. ⌜ (
+        let lent = parallelColumns (now (records .entry)) in
+        let words = length (now (scratch .entry)) in
+        let result = Congestion.resultOf (Congestion.profileAnswer lent cutoff allowance words) in
+        (r ≡ result .0)
+        × (now (out .exit) ≡ congestionWords (result .1))
+        × (now (scratch .exit) ≡ scratchAfter (firstOf (congestionConditions lent cutoff words)) (now (scratch .entry)))
+        ) ⌝ }
 {
     let told = measure_parallel_congestion_profile_bounded_by_records(
         records,
@@ -84,9 +99,14 @@ pub extern "C" fn readability_congestion_by_records(
     scratch: &mut [u64],
     out: &mut [u64; 7],
 ) -> u32
-    ensures { λ r. ⌜ r ≡ Congestion.resultOf (Congestion.congestionAnswer (parallelColumns (now (records .entry))) cutoff (length (now (scratch .entry)))) .0 ⌝ }
-    ensures { λ _. ⌜ now (out .exit) ≡ congestionWords (Congestion.resultOf (Congestion.congestionAnswer (parallelColumns (now (records .entry))) cutoff (length (now (scratch .entry)))) .1) ⌝ }
-    ensures { λ _. ⌜ now (scratch .exit) ≡ scratchAfter (firstOf (congestionConditions (parallelColumns (now (records .entry))) cutoff (length (now (scratch .entry))))) (now (scratch .entry)) ⌝ }
+    ensures { λ r. ⌜ (
+        let lent = parallelColumns (now (records .entry)) in
+        let words = length (now (scratch .entry)) in
+        let result = Congestion.resultOf (Congestion.congestionAnswer lent cutoff words) in
+        (r ≡ result .0)
+        × (now (out .exit) ≡ congestionWords (result .1))
+        × (now (scratch .exit) ≡ scratchAfter (firstOf (congestionConditions lent cutoff words)) (now (scratch .entry)))
+        ) ⌝ }
 {
     let told = measure_parallel_congestion_by_records(records, cutoff, scratch);
     tell_congestion(told, out)
@@ -107,9 +127,16 @@ pub extern "C" fn readability_clearance_by_records(
     scratch: &mut [u64],
     out: &mut [u64; 4],
 ) -> u32
-    ensures { λ r. ⌜ r ≡ Clearance.resultOf (Clearance.clearanceAnswer (edgeNodeColumns (now (records .entry))) (nodeColumns (now (id .entry)) (now (x .entry)) (now (y .entry)) (now (width .entry)) (now (height .entry))) (exemptionColumns (now («exempt_net» .entry)) (now («exempt_node» .entry))) threshold allowance (length (now (scratch .entry)))) .0 ⌝ }
-    ensures { λ _. ⌜ now (out .exit) ≡ clearanceWords (Clearance.resultOf (Clearance.clearanceAnswer (edgeNodeColumns (now (records .entry))) (nodeColumns (now (id .entry)) (now (x .entry)) (now (y .entry)) (now (width .entry)) (now (height .entry))) (exemptionColumns (now («exempt_net» .entry)) (now («exempt_node» .entry))) threshold allowance (length (now (scratch .entry)))) .1) ⌝ }
-    ensures { λ _. ⌜ now (scratch .exit) ≡ scratchAfter (firstOf (clearanceConditions (edgeNodeColumns (now (records .entry))) (nodeColumns (now (id .entry)) (now (x .entry)) (now (y .entry)) (now (width .entry)) (now (height .entry))) (exemptionColumns (now («exempt_net» .entry)) (now («exempt_node» .entry))) threshold (length (now (scratch .entry))))) (now (scratch .entry)) ⌝ }
+    ensures { λ r. ⌜ (
+        let lentSegments = edgeNodeColumns (now (records .entry)) in
+        let lentNodes = nodeColumns (now (id .entry)) (now (x .entry)) (now (y .entry)) (now (width .entry)) (now (height .entry)) in
+        let lentExemptions = exemptionColumns (now («exempt_net» .entry)) (now («exempt_node» .entry)) in
+        let words = length (now (scratch .entry)) in
+        let result = Clearance.resultOf (Clearance.clearanceAnswer lentSegments lentNodes lentExemptions threshold allowance words) in
+        (r ≡ result .0)
+        × (now (out .exit) ≡ clearanceWords (result .1))
+        × (now (scratch .exit) ≡ scratchAfter (firstOf (clearanceConditions lentSegments lentNodes lentExemptions threshold words)) (now (scratch .entry)))
+        ) ⌝ }
 {
     let told = measure_edge_node_clearance_bounded_by_records(
         records,

@@ -60,9 +60,14 @@ pub extern "C" fn readability_separation(
     scratch: &mut [u64],
     out: &mut [u64; 5],
 ) -> u32
-    ensures { λ r. ⌜ r ≡ resultOf (separationAnswer (segmentColumns (now (net .entry)) (now (orientation .entry)) (now (fixed .entry)) (now (start .entry)) (now (end .entry))) allowance (length (now (scratch .entry)))) .0 ⌝ }
-    ensures { λ _. ⌜ now (out .exit) ≡ separationWords (resultOf (separationAnswer (segmentColumns (now (net .entry)) (now (orientation .entry)) (now (fixed .entry)) (now (start .entry)) (now (end .entry))) allowance (length (now (scratch .entry)))) .1) ⌝ }
-    ensures { λ _. ⌜ now (scratch .exit) ≡ scratchAfter (firstOf (separationConditions (segmentColumns (now (net .entry)) (now (orientation .entry)) (now (fixed .entry)) (now (start .entry)) (now (end .entry))) (length (now (scratch .entry))))) (now (scratch .entry)) ⌝ }
+    ensures { λ r. ⌜ (
+        let lent = segmentColumns (now (net .entry)) (now (orientation .entry)) (now (fixed .entry)) (now (start .entry)) (now (end .entry)) in
+        let words = length (now (scratch .entry)) in
+        let result = resultOf (separationAnswer lent allowance words) in
+        (r ≡ result .0)
+        × (now (out .exit) ≡ separationWords (result .1))
+        × (now (scratch .exit) ≡ scratchAfter (firstOf (separationConditions lent words)) (now (scratch .entry)))
+        ) ⌝ }
 {
     let told = measure_parallel_separation_bounded(
         net,

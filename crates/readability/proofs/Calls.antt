@@ -26,17 +26,17 @@ use Rattle.readability.specs.Calls.{Calls}
 
 pub calls : Calls
 calls = record {
-  of-clearance = record { ends = λ w γ k same. clearance-reads.known w γ k _ same (clearance.met (w .𝓤) (w .H) (w .𝓜) (w .𝓖) (w .𝓡)); asks-nothing = λ κs a. tt; says = λ κs a x e l. record { answers = l .0; leaves = l .1 .0; held = l .1 .1 } };
-  of-separation = record { ends = λ w γ k same. separation-reads.known w γ k _ same (separation.met (w .𝓤) (w .H) (w .𝓜) (w .𝓖) (w .𝓡)); asks-nothing = λ κs a. tt; says = λ κs a x e l. record { answers = l .0; leaves = l .1 .0; held = l .1 .1 } };
-  of-density = record { ends = λ w γ k same. density-reads.known w γ k _ same (density.met (w .𝓤) (w .H) (w .𝓜) (w .𝓖) (w .𝓡)); asks-nothing = λ κs a. tt; says = λ κs a x e l. record { answers = l .0; leaves = l .1 .0; held = l .1 .1 } };
-  of-profile = record { ends = λ w γ k same. profile-reads.known w γ k _ same (profile.met (w .𝓤) (w .H) (w .𝓜) (w .𝓖) (w .𝓡)); asks-nothing = λ κs a. tt; says = λ κs a x e l. record { answers = l .0; leaves = l .1 .0; held = l .1 .1 } };
-  of-congestion = record { ends = λ w γ k same. congestion-reads.known w γ k _ same (congestion.met (w .𝓤) (w .H) (w .𝓜) (w .𝓖) (w .𝓡)); asks-nothing = λ κs a. tt; says = λ κs a x e l. record { answers = l .0; leaves = l .1 .0; held = l .1 .1 } };
+  of-clearance = record { ends = λ w γ k same. clearance-reads.known w γ k _ same (clearance.met (w .𝓤) (w .H) (w .𝓜) (w .𝓖) (w .𝓡)); asks-nothing = λ κs a. tt; says = λ κs a x e l. record { answers = l .0; leaves = l .1; held = l .2 } };
+  of-separation = record { ends = λ w γ k same. separation-reads.known w γ k _ same (separation.met (w .𝓤) (w .H) (w .𝓜) (w .𝓖) (w .𝓡)); asks-nothing = λ κs a. tt; says = λ κs a x e l. record { answers = l .0; leaves = l .1; held = l .2 } };
+  of-density = record { ends = λ w γ k same. density-reads.known w γ k _ same (density.met (w .𝓤) (w .H) (w .𝓜) (w .𝓖) (w .𝓡)); asks-nothing = λ κs a. tt; says = λ κs a x e l. record { answers = l .0; leaves = l .1; held = l .2 } };
+  of-profile = record { ends = λ w γ k same. profile-reads.known w γ k _ same (profile.met (w .𝓤) (w .H) (w .𝓜) (w .𝓖) (w .𝓡)); asks-nothing = λ κs a. tt; says = λ κs a x e l. record { answers = l .0; leaves = l .1; held = l .2 } };
+  of-congestion = record { ends = λ w γ k same. congestion-reads.known w γ k _ same (congestion.met (w .𝓤) (w .H) (w .𝓜) (w .𝓖) (w .𝓡)); asks-nothing = λ κs a. tt; says = λ κs a x e l. record { answers = l .0; leaves = l .1; held = l .2 } };
   of-tight-pair = record { ends = λ w γ k same. tight-pair-reads.known w γ k _ same (tight-pair.met (w .𝓤) (w .H) (w .𝓜) (w .𝓖) (w .𝓡)); asks-nothing = λ κs a. tt; says = λ κs a x e l. l };
-  of-clearance-by-records = record { ends = λ w γ k same. clearance-entry-reads.known w γ k _ same (clearance-entry.met (w .𝓤) (w .H) (w .𝓜) (w .𝓖) (w .𝓡)); asks-nothing = λ κs a. tt; says = λ κs a x e l. record { answers = l .0; leaves = l .1 .0; held = l .1 .1 } };
-  of-separation-by-records = record { ends = λ w γ k same. separation-entry-reads.known w γ k _ same (separation-entry.met (w .𝓤) (w .H) (w .𝓜) (w .𝓖) (w .𝓡)); asks-nothing = λ κs a. tt; says = λ κs a x e l. record { answers = l .0; leaves = l .1 .0; held = l .1 .1 } };
-  of-density-by-records = record { ends = λ w γ k same. density-entry-reads.known w γ k _ same (density-entry.met (w .𝓤) (w .H) (w .𝓜) (w .𝓖) (w .𝓡)); asks-nothing = λ κs a. tt; says = λ κs a x e l. record { answers = l .0; leaves = l .1 .0; held = l .1 .1 } };
-  of-profile-by-records = record { ends = λ w γ k same. profile-entry-reads.known w γ k _ same (profile-entry.met (w .𝓤) (w .H) (w .𝓜) (w .𝓖) (w .𝓡)); asks-nothing = λ κs a. tt; says = λ κs a x e l. record { answers = l .0; leaves = l .1 .0; held = l .1 .1 } };
-  of-congestion-by-records = record { ends = λ w γ k same. congestion-entry-reads.known w γ k _ same (congestion-entry.met (w .𝓤) (w .H) (w .𝓜) (w .𝓖) (w .𝓡)); asks-nothing = λ κs a. tt; says = λ κs a x e l. record { answers = l .0; leaves = l .1 .0; held = l .1 .1 } };
+  of-clearance-by-records = record { ends = λ w γ k same. clearance-entry-reads.known w γ k _ same (clearance-entry.met (w .𝓤) (w .H) (w .𝓜) (w .𝓖) (w .𝓡)); asks-nothing = λ κs a. tt; says = λ κs a x e l. record { answers = l .0; leaves = l .1; held = l .2 } };
+  of-separation-by-records = record { ends = λ w γ k same. separation-entry-reads.known w γ k _ same (separation-entry.met (w .𝓤) (w .H) (w .𝓜) (w .𝓖) (w .𝓡)); asks-nothing = λ κs a. tt; says = λ κs a x e l. record { answers = l .0; leaves = l .1; held = l .2 } };
+  of-density-by-records = record { ends = λ w γ k same. density-entry-reads.known w γ k _ same (density-entry.met (w .𝓤) (w .H) (w .𝓜) (w .𝓖) (w .𝓡)); asks-nothing = λ κs a. tt; says = λ κs a x e l. record { answers = l .0; leaves = l .1; held = l .2 } };
+  of-profile-by-records = record { ends = λ w γ k same. profile-entry-reads.known w γ k _ same (profile-entry.met (w .𝓤) (w .H) (w .𝓜) (w .𝓖) (w .𝓡)); asks-nothing = λ κs a. tt; says = λ κs a x e l. record { answers = l .0; leaves = l .1; held = l .2 } };
+  of-congestion-by-records = record { ends = λ w γ k same. congestion-entry-reads.known w γ k _ same (congestion-entry.met (w .𝓤) (w .H) (w .𝓜) (w .𝓖) (w .𝓡)); asks-nothing = λ κs a. tt; says = λ κs a x e l. record { answers = l .0; leaves = l .1; held = l .2 } };
   stand-for = columns-entries;
   never-differ = columns-same;
 }

@@ -82,9 +82,16 @@ pub fn measure_edge_node_clearance_bounded_by_records(
     allowance: usize,
     scratch: &mut [u64],
 ) -> ClearanceAnswer
-    ensures { λ r. ⌜ r ≡ clearanceAnswer (edgeNodeColumns (now (records .entry))) (nodeColumns (now (id .entry)) (now (x .entry)) (now (y .entry)) (now (width .entry)) (now (height .entry))) (exemptionColumns (now («exempt_net» .entry)) (now («exempt_node» .entry))) threshold allowance (length (now (scratch .entry))) ⌝ }
-    ensures { λ _. ⌜ now (scratch .exit) ≡ scratchAfter (firstOf (clearanceConditions (edgeNodeColumns (now (records .entry))) (nodeColumns (now (id .entry)) (now (x .entry)) (now (y .entry)) (now (width .entry)) (now (height .entry))) (exemptionColumns (now («exempt_net» .entry)) (now («exempt_node» .entry))) threshold (length (now (scratch .entry))))) (now (scratch .entry)) ⌝ }
-    ensures { λ _. ⌜ (firstOf (clearanceConditions (edgeNodeColumns (now (records .entry))) (nodeColumns (now (id .entry)) (now (x .entry)) (now (y .entry)) (now (width .entry)) (now (height .entry))) (exemptionColumns (now («exempt_net» .entry)) (now («exempt_node» .entry))) threshold (length (now (scratch .entry)))) ≡ Passed → SegmentsHeld (edgeNodeColumns (now (records .entry))) × NodesHeld (nodeColumns (now (id .entry)) (now (x .entry)) (now (y .entry)) (now (width .entry)) (now (height .entry))) × Binary64 threshold) ⌝ }
+    ensures { λ r. ⌜ (
+        let lentSegments = edgeNodeColumns (now (records .entry)) in
+        let lentNodes = nodeColumns (now (id .entry)) (now (x .entry)) (now (y .entry)) (now (width .entry)) (now (height .entry)) in
+        let lentExemptions = exemptionColumns (now («exempt_net» .entry)) (now («exempt_node» .entry)) in
+        let words = length (now (scratch .entry)) in
+        let refusal = firstOf (clearanceConditions lentSegments lentNodes lentExemptions threshold words) in
+        (r ≡ clearanceAnswer lentSegments lentNodes lentExemptions threshold allowance words)
+        × (now (scratch .exit) ≡ scratchAfter refusal (now (scratch .entry)))
+        × (refusal ≡ Passed → SegmentsHeld lentSegments × NodesHeld lentNodes × Binary64 threshold)
+        ) ⌝ }
 {
     let n = records.len();
     let lines = edge_node_lines(records);

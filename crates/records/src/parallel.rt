@@ -78,9 +78,14 @@ pub fn measure_parallel_separation_bounded_by_records(
     allowance: usize,
     scratch: &mut [u64],
 ) -> SeparationAnswer
-    ensures { λ r. ⌜ r ≡ separationAnswer (parallelColumns (now (records .entry))) allowance (length (now (scratch .entry))) ⌝ }
-    ensures { λ _. ⌜ now (scratch .exit) ≡ scratchAfter (firstOf (separationConditions (parallelColumns (now (records .entry))) (length (now (scratch .entry))))) (now (scratch .entry)) ⌝ }
-    ensures { λ _. ⌜ (firstOf (separationConditions (parallelColumns (now (records .entry))) (length (now (scratch .entry)))) ≡ Passed → SegmentsHeld (parallelColumns (now (records .entry)))) ⌝ }
+    ensures { λ r. ⌜ (
+        let lent = parallelColumns (now (records .entry)) in
+        let words = length (now (scratch .entry)) in
+        let refusal = firstOf (separationConditions lent words) in
+        (r ≡ separationAnswer lent allowance words)
+        × (now (scratch .exit) ≡ scratchAfter refusal (now (scratch .entry)))
+        × (refusal ≡ Passed → SegmentsHeld lent)
+        ) ⌝ }
 {
     let n = records.len();
     let lines = parallel_lines(records);
@@ -93,9 +98,14 @@ pub fn measure_parallel_density_profile_bounded_by_records(
     allowance: usize,
     scratch: &mut [u64],
 ) -> CongestionAnswer
-    ensures { λ r. ⌜ r ≡ densityAnswer (parallelColumns (now (records .entry))) cutoff allowance (length (now (scratch .entry))) ⌝ }
-    ensures { λ _. ⌜ now (scratch .exit) ≡ scratchAfter (firstOf (congestionConditions (parallelColumns (now (records .entry))) cutoff (length (now (scratch .entry))))) (now (scratch .entry)) ⌝ }
-    ensures { λ _. ⌜ (firstOf (congestionConditions (parallelColumns (now (records .entry))) cutoff (length (now (scratch .entry)))) ≡ Passed → SegmentsHeld (parallelColumns (now (records .entry))) × Binary64 cutoff) ⌝ }
+    ensures { λ r. ⌜ (
+        let lent = parallelColumns (now (records .entry)) in
+        let words = length (now (scratch .entry)) in
+        let refusal = firstOf (congestionConditions lent cutoff words) in
+        (r ≡ densityAnswer lent cutoff allowance words)
+        × (now (scratch .exit) ≡ scratchAfter refusal (now (scratch .entry)))
+        × (refusal ≡ Passed → SegmentsHeld lent × Binary64 cutoff)
+        ) ⌝ }
 {
     let n = records.len();
     let lines = parallel_lines(records);
@@ -108,9 +118,14 @@ pub fn measure_parallel_congestion_profile_bounded_by_records(
     allowance: usize,
     scratch: &mut [u64],
 ) -> CongestionAnswer
-    ensures { λ r. ⌜ r ≡ profileAnswer (parallelColumns (now (records .entry))) cutoff allowance (length (now (scratch .entry))) ⌝ }
-    ensures { λ _. ⌜ now (scratch .exit) ≡ scratchAfter (firstOf (congestionConditions (parallelColumns (now (records .entry))) cutoff (length (now (scratch .entry))))) (now (scratch .entry)) ⌝ }
-    ensures { λ _. ⌜ (firstOf (congestionConditions (parallelColumns (now (records .entry))) cutoff (length (now (scratch .entry)))) ≡ Passed → SegmentsHeld (parallelColumns (now (records .entry))) × Binary64 cutoff) ⌝ }
+    ensures { λ r. ⌜ (
+        let lent = parallelColumns (now (records .entry)) in
+        let words = length (now (scratch .entry)) in
+        let refusal = firstOf (congestionConditions lent cutoff words) in
+        (r ≡ profileAnswer lent cutoff allowance words)
+        × (now (scratch .exit) ≡ scratchAfter refusal (now (scratch .entry)))
+        × (refusal ≡ Passed → SegmentsHeld lent × Binary64 cutoff)
+        ) ⌝ }
 {
     let n = records.len();
     let lines = parallel_lines(records);
@@ -122,9 +137,14 @@ pub fn measure_parallel_congestion_by_records(
     cutoff: f64,
     scratch: &mut [u64],
 ) -> CongestionAnswer
-    ensures { λ r. ⌜ r ≡ congestionAnswer (parallelColumns (now (records .entry))) cutoff (length (now (scratch .entry))) ⌝ }
-    ensures { λ _. ⌜ now (scratch .exit) ≡ scratchAfter (firstOf (congestionConditions (parallelColumns (now (records .entry))) cutoff (length (now (scratch .entry))))) (now (scratch .entry)) ⌝ }
-    ensures { λ _. ⌜ (firstOf (congestionConditions (parallelColumns (now (records .entry))) cutoff (length (now (scratch .entry)))) ≡ Passed → SegmentsHeld (parallelColumns (now (records .entry))) × Binary64 cutoff) ⌝ }
+    ensures { λ r. ⌜ (
+        let lent = parallelColumns (now (records .entry)) in
+        let words = length (now (scratch .entry)) in
+        let refusal = firstOf (congestionConditions lent cutoff words) in
+        (r ≡ congestionAnswer lent cutoff words)
+        × (now (scratch .exit) ≡ scratchAfter refusal (now (scratch .entry)))
+        × (refusal ≡ Passed → SegmentsHeld lent × Binary64 cutoff)
+        ) ⌝ }
 {
     let n = records.len();
     let lines = parallel_lines(records);

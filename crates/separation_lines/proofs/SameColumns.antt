@@ -12,7 +12,7 @@ use Rattle.separation.specs.declared.report.SeparationAnswer.{SeparationAnswer}
 use Rattle.separation.specs.Answer.{separationAnswer}
 
 abbrev Promised : ℕ → List ℕ → SeparationAnswer → List ℕ → SegmentColumns → Type 0
-Promised allowance before told after s = (told ≡ separationAnswer s allowance (length before)) × ((after ≡ scratchAfter (firstOf (separationConditions s (length before))) before) × (firstOf (separationConditions s (length before)) ≡ Passed → SegmentsHeld s))
+Promised allowance before told after s = (told ≡ separationAnswer s allowance (length before)) × (after ≡ scratchAfter (firstOf (separationConditions s (length before))) before) × (firstOf (separationConditions s (length before)) ≡ Passed → SegmentsHeld s)
 
 pub of-equal : (allowance : ℕ) (before : List ℕ) {told : SeparationAnswer} {after : List ℕ} {s t : SegmentColumns} → s ≡ t → Promised allowance before told after s → Promised allowance before told after t
 of-equal allowance before {told} {after} {s} {t} e p = subst (Promised allowance before told after) e p

@@ -20,9 +20,14 @@ pub fn separation_of_lines(
     allowance: usize,
     scratch: &mut [u64],
 ) -> SeparationAnswer
-    ensures { λ r. ⌜ r ≡ separationAnswer (columnsOf (map entryOf (take n lines))) allowance (length (now (scratch .entry))) ⌝ }
-    ensures { λ _. ⌜ now (scratch .exit) ≡ scratchAfter (firstOf (separationConditions (columnsOf (map entryOf (take n lines))) (length (now (scratch .entry))))) (now (scratch .entry)) ⌝ }
-    ensures { λ _. ⌜ (firstOf (separationConditions (columnsOf (map entryOf (take n lines))) (length (now (scratch .entry)))) ≡ Passed → SegmentsHeld (columnsOf (map entryOf (take n lines)))) ⌝ }
+    ensures { λ r. ⌜ (
+        let lent = columnsOf (map entryOf (take n lines)) in
+        let words = length (now (scratch .entry)) in
+        let refusal = firstOf (separationConditions lent words) in
+        (r ≡ separationAnswer lent allowance words)
+        × (now (scratch .exit) ≡ scratchAfter refusal (now (scratch .entry)))
+        × (refusal ≡ Passed → SegmentsHeld lent)
+        ) ⌝ }
 {
     let mut net = [0; 4097];
     let mut orientation = [0; 4097];

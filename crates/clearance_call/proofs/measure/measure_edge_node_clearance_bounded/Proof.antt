@@ -24,7 +24,7 @@ returns : tie.Need-returns
 returns c =
     let check = c .before .before .before .check-clearance .ensures in
     let told = c .before .check .given .1 in
-    (refused-answer (segmentColumns _ _ _ _ _) (nodeColumns _ _ _ _ _) (exemptionColumns _ _) _ _ _ _ _ check told, (refused-scratch _ _ _ _ check told, not-passed _ _ _ check told))
+    (refused-answer (segmentColumns _ _ _ _ _) (nodeColumns _ _ _ _ _) (exemptionColumns _ _) _ _ _ _ _ check told, refused-scratch _ _ _ _ check told, not-passed _ _ _ check told)
 
 enum-told : tie.Need-enum-told
 enum-told c = search needs
@@ -59,7 +59,8 @@ returns-2 c =
     let kept = ap (λ (k : ℕ). replicate {A = ℕ} k 0) (walked .walk-drawing .kept .1 .1 .1 .1 .1 .1 .1 .1 .1 .1 .1 .1 .1 .1 .0) in
     let cleared = c .before .before .before .clear .ensures ∙ kept in (
       passed-answer s n e _ _ _ passed lent _ (walked .walk-drawing .ensures) _ (c .answer-of .ensures),
-      (passed-scratch _ _ _ _ (walked .before .before .before .before .check-clearance .ensures) told cleared, λ p. (lent .segments-held, lent .nodes-held, lent .threshold-held)),
+      passed-scratch _ _ _ _ (walked .before .before .before .before .check-clearance .ensures) told cleared,
+      λ p. (lent .segments-held, lent .nodes-held, lent .threshold-held),
     )
 
 pub measure-edge-node-clearance-bounded-spec : {M : Type 1} → statement M

@@ -17,7 +17,7 @@ same-length c = search needs
 returns : tie.Need-returns
 returns c =
     let called = c .before .before .measure-parallel-density-profile-bounded in
-    (called .ensures .0 ∙ great-allowance (segmentColumns _ _ _ _ _) _ _ _ (omega arith), called .ensures .1)
+    (called .ensures .0 ∙ great-allowance (segmentColumns _ _ _ _ _) _ _ _ (omega arith), called .ensures .1, called .ensures .2)
 
 pub measure-parallel-congestion-spec : {M : Type 1} → statement M
 measure-parallel-congestion-spec =

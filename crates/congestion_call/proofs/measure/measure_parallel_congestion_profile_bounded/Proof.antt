@@ -20,7 +20,7 @@ same-length c = search needs
 returns : tie.Need-returns
 returns c =
     let called = c .before .before .before .measure-parallel-density-profile-bounded in
-    (c .without-density .ensures ∙ ap plainly (called .ensures .0) ∙ plain-answer (segmentColumns _ _ _ _ _) _ _ _, called .ensures .1)
+    (c .without-density .ensures ∙ ap plainly (called .ensures .0) ∙ plain-answer (segmentColumns _ _ _ _ _) _ _ _, called .ensures .1, called .ensures .2)
 
 pub measure-parallel-congestion-profile-bounded-spec : {M : Type 1} → statement M
 measure-parallel-congestion-profile-bounded-spec =

@@ -23,7 +23,7 @@ returns : tie.Need-returns
 returns c =
     let check = c .before .before .before .check-congestion .ensures in
     let told = c .before .check .given .1 in
-    (refused-answer (segmentColumns _ _ _ _ _) _ _ _ _ _ check told, (refused-scratch _ _ _ _ check told, not-passed _ _ _ check told))
+    (refused-answer (segmentColumns _ _ _ _ _) _ _ _ _ _ check told, refused-scratch _ _ _ _ check told, not-passed _ _ _ check told)
 
 enum-told : tie.Need-enum-told
 enum-told c = search needs
@@ -55,7 +55,8 @@ returns-2 c =
     let kept = ap (λ (k : ℕ). replicate {A = ℕ} k 0) (swept .sweep-both .kept .1 .1 .1 .1 .1 .1 .1 .0) in
     let cleared = c .before .before .before .clear .ensures ∙ kept in (
       passed-answer s _ _ _ passed _ (swept .sweep-both .ensures) _ (swept .before .before .total-length .ensures (agree s _ _ passed)) _ (c .answer-of .ensures),
-      (passed-scratch _ _ _ _ check told cleared, λ p. (held, subst T (sym (a .good .1 .1 .1 .1 .1 .0 .1)) tt)),
+      passed-scratch _ _ _ _ check told cleared,
+      λ p. (held, subst T (sym (a .good .1 .1 .1 .1 .1 .0 .1)) tt),
     )
 
 pub measure-parallel-density-profile-bounded-spec : {M : Type 1} → statement M

@@ -20,7 +20,8 @@ returns : tie.Need-returns
 returns c =
     let measured = c .before .before .before .before .measure-parallel-separation-bounded in (
       c .tell-separation .ensures .0 ∙ ap (λ a. resultOf a .0) (measured .ensures .0),
-      (c .tell-separation .ensures .1 ∙ ap (λ a. separationWords (resultOf a .1)) (measured .ensures .0), measured .ensures .1 .0),
+      c .tell-separation .ensures .1 ∙ ap (λ a. separationWords (resultOf a .1)) (measured .ensures .0),
+      measured .ensures .1,
     )
 
 pub readability-separation-spec : {M : Type 1} → statement M

@@ -35,10 +35,8 @@ returns c =
     let exemptions = exemptionColumns (now (given .exempt-net)) (now (given .exempt-node)) in
     let entries = map ofEdgeNode (now (given .records)) in (
       called .ensures .0 ∙ ap (λ l. clearanceAnswer (columnsOf l) nodes exemptions (given .threshold) (given .allowance) (length scratch)) lines ∙ clearance-decided entries nodes exemptions (given .threshold) (given .allowance) (length scratch),
-      (
-        called .ensures .1 .0 ∙ ap (λ l. scratchAfter (firstOf (clearanceConditions (columnsOf l) nodes exemptions (given .threshold) (length scratch))) scratch) lines ∙ ap (λ k. scratchAfter k scratch) (clearance-checked entries (length scratch) nodes exemptions (given .threshold)),
-        passed-all (λ l. firstOf (clearanceConditions (columnsOf l) nodes exemptions (given .threshold) (length scratch))) _ (λ k. clearance-many k nodes exemptions (given .threshold) (length scratch)) (λ l. SegmentsHeld (columnsOf l) × NodesHeld nodes × Binary64 (given .threshold)) _ entries lines (called .ensures .1 .1),
-      ),
+      called .ensures .1 ∙ ap (λ l. scratchAfter (firstOf (clearanceConditions (columnsOf l) nodes exemptions (given .threshold) (length scratch))) scratch) lines ∙ ap (λ k. scratchAfter k scratch) (clearance-checked entries (length scratch) nodes exemptions (given .threshold)),
+      passed-all (λ l. firstOf (clearanceConditions (columnsOf l) nodes exemptions (given .threshold) (length scratch))) _ (λ k. clearance-many k nodes exemptions (given .threshold) (length scratch)) (λ l. SegmentsHeld (columnsOf l) × NodesHeld nodes × Binary64 (given .threshold)) _ entries lines (called .ensures .2),
     )
 
 pub measure-edge-node-clearance-bounded-by-records-spec : {M : Type 1} → statement M

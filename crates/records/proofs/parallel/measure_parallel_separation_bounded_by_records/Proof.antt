@@ -33,10 +33,8 @@ returns c =
     let scratch = now (given .scratch) in
     let entries = map ofParallel (now (given .records)) in (
       called .ensures .0 ∙ ap (λ l. separationAnswer (columnsOf l) (given .allowance) (length scratch)) lines ∙ separation-decided entries (given .allowance) (length scratch),
-      (
-        called .ensures .1 .0 ∙ ap (λ l. scratchAfter (firstOf (separationConditions (columnsOf l) (length scratch))) scratch) lines ∙ ap (λ k. scratchAfter k scratch) (separation-checked entries (length scratch)),
-        passed-all (λ l. firstOf (separationConditions (columnsOf l) (length scratch))) _ (λ k. separation-many k (length scratch)) (λ l. SegmentsHeld (columnsOf l)) _ entries lines (called .ensures .1 .1),
-      ),
+      called .ensures .1 ∙ ap (λ l. scratchAfter (firstOf (separationConditions (columnsOf l) (length scratch))) scratch) lines ∙ ap (λ k. scratchAfter k scratch) (separation-checked entries (length scratch)),
+      passed-all (λ l. firstOf (separationConditions (columnsOf l) (length scratch))) _ (λ k. separation-many k (length scratch)) (λ l. SegmentsHeld (columnsOf l)) _ entries lines (called .ensures .2),
     )
 
 pub measure-parallel-separation-bounded-by-records-spec : {M : Type 1} → statement M

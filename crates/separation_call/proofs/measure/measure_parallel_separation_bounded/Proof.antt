@@ -23,7 +23,7 @@ returns : tie.Need-returns
 returns c =
     let check = c .before .before .before .check-separation .ensures in
     let told = c .before .check .given .1 in
-    (refused-answer (segmentColumns _ _ _ _ _) _ _ _ _ check told, (refused-scratch _ _ _ _ check told, not-passed _ _ _ check told))
+    (refused-answer (segmentColumns _ _ _ _ _) _ _ _ _ check told, refused-scratch _ _ _ _ check told, not-passed _ _ _ check told)
 
 enum-told : tie.Need-enum-told
 enum-told c = search needs
@@ -52,7 +52,8 @@ returns-2 c =
     let kept = ap (λ (k : ℕ). replicate {A = ℕ} k 0) (walked .walk-segments .kept .1 .1 .1 .1 .1 .1 .0) in
     let cleared = c .before .before .before .clear .ensures ∙ kept in (
       passed-answer s _ _ passed held _ (walked .walk-segments .ensures) _ (c .answer-of .ensures),
-      (passed-scratch _ _ _ _ check told cleared, λ p. held),
+      passed-scratch _ _ _ _ check told cleared,
+      λ p. held,
     )
 
 pub measure-parallel-separation-bounded-spec : {M : Type 1} → statement M
