@@ -41,7 +41,7 @@ fn walk_segments(
     scratch: &mut [u64],
 ) -> Walked
     requires { ⌜ firstOf (clearanceConditions (segmentColumns (now net) (now orientation) (now fixed) (now start) (now end)) (nodeColumns (now id) (now x) (now y) (now width) (now height)) (exemptionColumns (now «exempt_net») (now «exempt_node»)) threshold (length (now scratch))) ≡ Passed ⌝ }
-    ensures { λ r. ⌜ outcomeOf r ≡ within allowance (walkAll (exemptions (exemptionColumns (now («exempt_net» .entry)) (now («exempt_node» .entry)))) threshold (segments (segmentColumns (now (net .entry)) (now (orientation .entry)) (now (fixed .entry)) (now (start .entry)) (now (end .entry)))) (nodes (nodeColumns (now (id .entry)) (now (x .entry)) (now (y .entry)) (now (width .entry)) (now (height .entry))))) ⌝ }
+    ensures { λ r. ⌜ outcomeOf r ≡ within allowance (walkAll (exemptions (exemptionColumns (now («exempt_net» .entry)) (now («exempt_node» .entry)))) (λ _. threshold) (segments (segmentColumns (now (net .entry)) (now (orientation .entry)) (now (fixed .entry)) (now (start .entry)) (now (end .entry)))) (nodes (nodeColumns (now (id .entry)) (now (x .entry)) (now (y .entry)) (now (width .entry)) (now (height .entry))))) ⌝ }
 {
     let m = id.len();
     if m == 0 {
@@ -91,7 +91,7 @@ fn walk_drawing(
     scratch: &mut [u64],
 ) -> Walked
     requires { ⌜ firstOf (clearanceConditions (segmentColumns (now net) (now orientation) (now fixed) (now start) (now end)) (nodeColumns (now id) (now x) (now y) (now width) (now height)) (exemptionColumns (now «exempt_net») (now «exempt_node»)) threshold (length (now scratch))) ≡ Passed ⌝ }
-    ensures { λ r. ⌜ outcomeOf r ≡ within allowance (walkAll (exemptions (exemptionColumns (now («exempt_net» .entry)) (now («exempt_node» .entry)))) threshold (segments (segmentColumns (now (net .entry)) (now (orientation .entry)) (now (fixed .entry)) (now (start .entry)) (now (end .entry)))) (nodes (nodeColumns (now (id .entry)) (now (x .entry)) (now (y .entry)) (now (width .entry)) (now (height .entry))))) ⌝ }
+    ensures { λ r. ⌜ outcomeOf r ≡ within allowance (walkAll (exemptions (exemptionColumns (now («exempt_net» .entry)) (now («exempt_node» .entry)))) (λ _. threshold) (segments (segmentColumns (now (net .entry)) (now (orientation .entry)) (now (fixed .entry)) (now (start .entry)) (now (end .entry)))) (nodes (nodeColumns (now (id .entry)) (now (x .entry)) (now (y .entry)) (now (width .entry)) (now (height .entry))))) ⌝ }
 {
     if net.len() == 0 {
         return Walked::Went(at_start(allowance));
