@@ -52,9 +52,9 @@ fit-call s n e t words l h =
 
 -- ---- the result of such a call: "A call whose allowance reaches it returns the all-pairs report, whose visits are that count; a call whose allowance does not returns the spent-allowance refusal", which is 7
 pub result-settles : (s : SegmentColumns) (n : NodeColumns) (e : ExemptionColumns) (t : Float) (allowance words : ℕ) → passes s n e t words
-    → resultOf (clearanceAnswer s n e t allowance words) ≡ settle (λ g count. (0, reportOf g count)) (7, zeros) allowance (allPairs (exemptions e) t (segments s) (nodes n))
+    → resultOf (clearanceAnswer s n e t allowance words) ≡ settle (λ g count. (0, reportOf g count)) (7, zeros) allowance (allPairs (exemptions e) (λ net. t) (segments s) (nodes n))
 unfolding clearanceAnswer settle resultOf accepted numberOf
-result-settles s n e t allowance words h = let c = allPairs (exemptions e) t (segments s) (nodes n) in rw h (go (reaches allowance c) (c .value) (c .cost))
+result-settles s n e t allowance words h = let c = allPairs (exemptions e) (λ net. t) (segments s) (nodes n) in rw h (go (reaches allowance c) (c .value) (c .cost))
   where
     go : (b : Bool) (g : Figures) (count : ℕ) → resultOf (cond b (accepted g count) (Refused WorkLimitExceeded)) ≡ cond b (0, reportOf g count) (7, zeros)
     go true g count = refl

@@ -4,12 +4,12 @@ use mathlib.Core.Bool.{cond}
 use mathlib.Core.List.{List, map}
 use Prim.Native.Nat.{ℕ}
 use lib.Dec.{leb}
-use lib.Ieee.{Float, lt}
+use lib.Ieee.{Float}
 use Rattle.laws.specs.Lists.{All}
 use Rattle.laws.specs.Perm.{Perm}
 use Rattle.laws.specs.Charged.{free, visit, after, runs}
 use Rattle.laws.proofs.ListLaws.{all-map}
-use Rattle.laws.proofs.Perms.{perm-length, perm-count}
+use Rattle.laws.proofs.Perms.{perm-length}
 use Rattle.floats.specs.TotalOrder.{keyOf}
 use Rattle.drawing.specs.Entries.{Segment, Node, Exemption}
 use Rattle.drawing.proofs.GapLaws.{least-gap-perm}
@@ -22,6 +22,7 @@ use Rattle.clearance.specs.Walk.{contributes, withPair, walk, noFigures,
 use Rattle.clearance.specs.Answer.{allPairs}
 use Rattle.drawing.proofs.Fit.{FitSegment, FitNode}
 use Rattle.clearance.proofs.Distances.{exempt-perm, distances-good, distances-perm}
+use Rattle.clearance.proofs.Violations.{violations-perm}
 
 -- the walk looks at exemptions only through `exempt`
 walk-exempt : (ex ey : List Exemption) → ((net id : ℕ) → exempt ex net id ≡ exempt ey net id) → (t : Float) (s : Segment) (tree : Tree) (g : Figures) → walk ex t s tree g ≡ walk ey t s tree g
@@ -40,10 +41,10 @@ tree-order : {ns ms : List Node} → Perm ns ms → All NodeHeld ns → treeOf n
 unfolding treeOf
 tree-order r h = λ i. build (perm-length r i) (map indexed (nodes-one-order r h i))
 
-module _ {ex ey : List Exemption} (t : Float) {ss rs : List Segment} {ns ms : List Node} (p : Perm ex ey) (q : Perm ss rs) (r : Perm ns ms) where
+module _ {ex ey : List Exemption} (t : ℕ → Float) {ss rs : List Segment} {ns ms : List Node} (p : Perm ex ey) (q : Perm ss rs) (r : Perm ns ms) where
   pub walk-any-order : All SegmentHeld ss → All NodeHeld ns → walkAll ex t ss ns ≡ walkAll ey t rs ms
   unfolding walkAll
-  walk-any-order g h = λ i. runs (λ f s. walk-exempt ex ey (exempt-perm p) t s (tree-order r h i) f i) noFigures (segments-one-order q g i)
+  walk-any-order g h = λ i. runs (λ f s. walk-exempt ex ey (exempt-perm p) (t (s .net)) s (tree-order r h i) f i) noFigures (segments-one-order q g i)
 
   pub visits-any-order : All SegmentHeld ss → All NodeHeld ns → visitCount ex t ss ns ≡ visitCount ey t rs ms
   unfolding visitCount
@@ -51,9 +52,7 @@ module _ {ex ey : List Exemption} (t : Float) {ss rs : List Segment} {ns ms : Li
 
   pub figures-any-order : All FitSegment ss → All FitNode ns → figures ex t ss ns ≡ figures ey t rs ms
   unfolding figures
-  figures-any-order g h =
-      let d = distances-perm p q r in
-      λ i. record { least = least-gap-perm d (distances-good ex ss ns g h) i; violations = perm-count (λ x. lt x t) d i }
+  figures-any-order g h = λ i. record { least = least-gap-perm (distances-perm p q r) (distances-good ex ss ns g h) i; violations = violations-perm t p q r i }
 
   pub all-pairs-any-order : All FitSegment ss → All FitNode ns → allPairs ex t ss ns ≡ allPairs ey t rs ms
   unfolding allPairs

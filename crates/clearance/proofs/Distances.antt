@@ -12,18 +12,11 @@ use Rattle.laws.proofs.Perms.{perm-both, perm-some, perm-chosen, perm-cross}
 use Rattle.floats.proofs.Gaps.{Good}
 use Rattle.drawing.specs.Entries.{Segment, Node, Exemption}
 use Rattle.boxes.specs.Boxes.{nodeBox, segmentBox, distance}
-use Rattle.clearance.specs.Figures.{exempt, distances}
+use Rattle.clearance.specs.Figures.{exempt, notExempt, pairDistance, distances}
 use Rattle.clearance.specs.Tree.{IndexedNode, indexed}
 use Rattle.drawing.proofs.Fit.{FitSegment, FitNode}
 use Rattle.boxes.proofs.BoxLaws.{fit-segment, distance-good}
 use Rattle.clearance.proofs.TreeLaws.{FitIndexed, indexed-fit}
-
--- the test and the distance of the definition
-abbrev notExempt : List Exemption → Segment × Node → Bool
-notExempt ex p = not (exempt ex (p .0 .net) (p .1 .id))
-
-abbrev pairDistance : Segment × Node → Float
-pairDistance p = distance (segmentBox (p .0)) (nodeBox (p .1))
 
 -- ---- one segment with the nodes of a list
 abbrev pub distancesOf : List Exemption → Segment → List IndexedNode → List Float

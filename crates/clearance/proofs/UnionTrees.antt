@@ -46,43 +46,42 @@ rejoined-around (suc k) (n ∷ m ∷ l) some h f =
     around-perm _ (halves-perm n m l)
     (around-union _ _ (take half row) (drop half row) (rejoined-around k (take half row) (first-some n m l) (first-small n m l k h) (fit .0)) (rejoined-around k (drop half row) (second-some n m l) (second-small n m l k h) (fit .1)))
 
-module _ (ex : List Exemption) (t : Float) where
-  module _ (s : Segment) (p : FitSegment s) where
-    -- so both are equally far away
-    lower-rejoined : (k : ℕ) (l : List IndexedNode) → 1 ≤ length l → length l ≤ k → All FitIndexed l → lower s (rejoined (build k l)) ≡ lower s (build k l)
-    lower-rejoined k l some h f =
-        let a = rejoined-around k l some h f in
-        let b = build-around k l some h f in
-        distance-alike (segmentBox s) _ _ (fit-segment s p) (a .fit) (b .fit) (around-alike _ _ l a b)
+module _ (ex : List Exemption) (t : Float) (s : Segment) (p : FitSegment s) where
+  -- so both are equally far away
+  lower-rejoined : (k : ℕ) (l : List IndexedNode) → 1 ≤ length l → length l ≤ k → All FitIndexed l → lower s (rejoined (build k l)) ≡ lower s (build k l)
+  lower-rejoined k l some h f =
+      let a = rejoined-around k l some h f in
+      let b = build-around k l some h f in
+      distance-alike (segmentBox s) _ _ (fit-segment s p) (a .fit) (b .fit) (around-alike _ _ l a b)
 
-    -- and the walk prunes alike and takes the children in the same order
-    build-walk : (k : ℕ) (l : List IndexedNode) → length l ≤ k → All FitIndexed l → (g : Figures) → walk ex t s (rejoined (build k l)) g ≡ walk ex t s (build k l) g
-    unfolding build rejoined walk boundsOf ordered
-    build-walk zero l h f g = refl
-    build-walk (suc k) [] h f g = refl
-    build-walk (suc k) (n ∷ []) h f g = refl
-    build-walk (suc k) (n ∷ m ∷ l) h f g =
-        let row = ordered n m l in
-        let half = length row / 2 in
-        let fit = halves-all n m l FitIndexed f in
-        let a = first-small n m l k h in
-        let c = second-small n m l k h in
-        let left = build-walk k (take half row) a (fit .0) in
-        let right = build-walk k (drop half row) c (fit .1) in
-        let dl = lower-rejoined k (take half row) (first-some n m l) a (fit .0) in
-        let dr = lower-rejoined k (drop half row) (second-some n m l) c (fit .1) in
-        let d = lower-rejoined (suc k) (n ∷ m ∷ l) (omega arith) h f in
-        λ i. cond (contributes (d i) t (g .least)) (cond (leb (keyOf (dl i)) (keyOf (dr i))) (after (left g i) (λ x. right x i)) (after (right g i) (λ x. left x i))) (free g)
+  -- and the walk prunes alike and takes the children in the same order
+  build-walk : (k : ℕ) (l : List IndexedNode) → length l ≤ k → All FitIndexed l → (g : Figures) → walk ex t s (rejoined (build k l)) g ≡ walk ex t s (build k l) g
+  unfolding build rejoined walk boundsOf ordered
+  build-walk zero l h f g = refl
+  build-walk (suc k) [] h f g = refl
+  build-walk (suc k) (n ∷ []) h f g = refl
+  build-walk (suc k) (n ∷ m ∷ l) h f g =
+      let row = ordered n m l in
+      let half = length row / 2 in
+      let fit = halves-all n m l FitIndexed f in
+      let a = first-small n m l k h in
+      let c = second-small n m l k h in
+      let left = build-walk k (take half row) a (fit .0) in
+      let right = build-walk k (drop half row) c (fit .1) in
+      let dl = lower-rejoined k (take half row) (first-some n m l) a (fit .0) in
+      let dr = lower-rejoined k (drop half row) (second-some n m l) c (fit .1) in
+      let d = lower-rejoined (suc k) (n ∷ m ∷ l) (omega arith) h f in
+      λ i. cond (contributes (d i) t (g .least)) (cond (leb (keyOf (dl i)) (keyOf (dr i))) (after (left g i) (λ x. right x i)) (after (right g i) (λ x. left x i))) (free g)
 
-  module _ (ns : List Node) (h : All FitNode ns) where
-    runs-rejoined : (ss : List Segment) → All FitSegment ss → (g : Figures) → runs (λ f s. walk ex t s (rejoined (treeOf ns)) f) g ss ≡ runs (λ f s. walk ex t s (treeOf ns) f) g ss
-    unfolding runs treeOf
-    runs-rejoined [] p g = refl
-    runs-rejoined (s ∷ ss) p g =
-        let one = build-walk s (p .0) (length ns) (map indexed (nodesInOrder ns)) (enough ns) (in-order-fit ns h) in
-        λ i. after (one g i) (λ f. runs-rejoined ss (p .1) f i)
+module _ (ex : List Exemption) (t : ℕ → Float) (ns : List Node) (h : All FitNode ns) where
+  runs-rejoined : (ss : List Segment) → All FitSegment ss → (g : Figures) → runs (λ f s. walk ex (t (s .net)) s (rejoined (treeOf ns)) f) g ss ≡ runs (λ f s. walk ex (t (s .net)) s (treeOf ns) f) g ss
+  unfolding runs treeOf
+  runs-rejoined [] p g = refl
+  runs-rejoined (s ∷ ss) p g =
+      let one = build-walk ex (t (s .net)) s (p .0) (length ns) (map indexed (nodesInOrder ns)) (enough ns) (in-order-fit ns h) in
+      λ i. after (one g i) (λ f. runs-rejoined ss (p .1) f i)
 
-    -- the walks of all segments over the stored tree have the figures and the visits of the definition's walks
-    pub walk-all-rejoined : (ss : List Segment) → All FitSegment ss → runs (λ g s. walk ex t s (rejoined (treeOf ns)) g) noFigures (segmentsInOrder ss) ≡ walkAll ex t ss ns
-    unfolding walkAll
-    walk-all-rejoined ss p = runs-rejoined (segmentsInOrder ss) (perm-all FitSegment (perm-sym (segments-in-order-perm ss)) p) noFigures
+  -- the walks of all segments over the stored tree have the figures and the visits of the definition's walks
+  pub walk-all-rejoined : (ss : List Segment) → All FitSegment ss → runs (λ g s. walk ex (t (s .net)) s (rejoined (treeOf ns)) g) noFigures (segmentsInOrder ss) ≡ walkAll ex t ss ns
+  unfolding walkAll
+  walk-all-rejoined ss p = runs-rejoined (segmentsInOrder ss) (perm-all FitSegment (perm-sym (segments-in-order-perm ss)) p) noFigures

@@ -11,7 +11,7 @@ use lib.Dec.{leb}
 use lib.Ieee.{Float, binary64, lt}
 use lib.Ieee.Scale.{overflow}
 use borrow.Author.Tests.{le-ltb, ltb-false}
-use Rattle.laws.specs.Lists.{Mem, All, put, chosen, fold, bit, count}
+use Rattle.laws.specs.Lists.{Mem, All, put, chosen, fold, bit}
 use Rattle.laws.specs.Least.{least}
 use Rattle.laws.specs.Charged.{Charged}
 use Rattle.laws.proofs.Tests.{decide, clash, neither-left, neither-right}
@@ -34,25 +34,22 @@ use Rattle.drawing.proofs.Fit.{FitSegment}
 use Rattle.boxes.proofs.BoxLaws.{not-below, fit-segment, distance-good, distance-within}
 use Rattle.clearance.proofs.TreeLaws.{leaves, In, Sound, sound-box, sound-in, sound-fit}
 use Rattle.clearance.proofs.Distances.{all-distances, distancesOf, good-distances}
+use Rattle.clearance.proofs.Violations.{under}
 use Rattle.clearance.proofs.WalkSteps.{lower, walk-bare, walk-pruned, walk-leaf, walk-left-first, walk-right-first}
 
 -- the figures after the distances `seen` and v violations
 abbrev pub sofar : List Float → ℕ → Figures
 sofar seen v = record { least = leastGap seen; violations = v }
 
--- how many distances are below the threshold
-abbrev pub under : Float → List Float → ℕ
-under t ds = count (λ d. lt d t) ds
-
 -- the figures after the distances ds more
 abbrev pub onwards : Float → List Float → ℕ → List Float → Figures
 onwards t seen v ds = sofar (seen ++ ds) (v + under t ds)
 
-pub onwards-none : (t : Float) (seen : List Float) (v : ℕ) → onwards t seen v [] ≡ sofar seen v
+onwards-none : (t : Float) (seen : List Float) (v : ℕ) → onwards t seen v [] ≡ sofar seen v
 unfolding fold
 onwards-none t seen v = λ i. sofar (append-nil seen i) (add-zero v i)
 
-pub onwards-more : (t : Float) (seen : List Float) (v : ℕ) (ds es : List Float) → onwards t (seen ++ ds) (v + under t ds) es ≡ onwards t seen v (ds ++ es)
+onwards-more : (t : Float) (seen : List Float) (v : ℕ) (ds es : List Float) → onwards t (seen ++ ds) (v + under t ds) es ≡ onwards t seen v (ds ++ es)
 onwards-more t seen v ds es = λ i. sofar (append-assoc seen ds es i) ((add-assoc v (under t ds) (under t es) ∙ ap (λ (n : ℕ). v + n) (sym (fold-append plus (λ d. bit (lt d t)) ds es))) i)
 
 onwards-turn : (t : Float) (seen : List Float) (v : ℕ) (ds es : List Float) → All Good seen → All Good ds → All Good es → onwards t seen v (ds ++ es) ≡ onwards t seen v (es ++ ds)

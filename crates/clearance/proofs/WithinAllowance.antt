@@ -16,7 +16,7 @@ use Rattle.drawing.proofs.Fit.{FitSegment, FitNode, FitThreshold}
 use Rattle.clearance.proofs.AllPairs.{walk-all-pairs}
 
 -- for fit lists the walk of all segments that stops so gives the answer behind the checks
-pub reply-within : (ex : List Exemption) (t : Float) (ss : List Segment) (ns : List Node) → FitThreshold t → All FitSegment ss → All FitNode ns → (allowance : ℕ)
+pub reply-within : (ex : List Exemption) (t : ℕ → Float) (ss : List Segment) (ns : List Node) → ((net : ℕ) → FitThreshold (t net)) → All FitSegment ss → All FitNode ns → (allowance : ℕ)
     → reply accepted (Refused WorkLimitExceeded) allowance (within allowance (walkAll ex t ss ns)) ≡ settle accepted (Refused WorkLimitExceeded) allowance (allPairs ex t ss ns)
 reply-within ex t ss ns q p h allowance =
     settle-within accepted (Refused WorkLimitExceeded) allowance (walkAll ex t ss ns)

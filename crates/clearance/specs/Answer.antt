@@ -22,14 +22,14 @@ unfoldable pub accepted : Figures → ℕ → ClearanceAnswer
 accepted g count = Report (reportOf g count)
 
 -- "The all-pairs report is the measure's figures above with its visit count."
-unfoldable pub allPairs : List Exemption → Float → List Segment → List Node → Charged Figures
+unfoldable pub allPairs : List Exemption → (ℕ → Float) → List Segment → List Node → Charged Figures
 allPairs ex threshold ss ns = record { value = figures ex threshold ss ns; cost = visitCount ex threshold ss ns }
 
--- the checks in order; then "`WorkLimitExceeded`: the visit count exceeds the allowance", else the all-pairs report
+-- the checks in order; then "`WorkLimitExceeded`: the visit count exceeds the allowance", else the all-pairs report. Every net has the one threshold.
 unfoldable pub clearanceAnswer : SegmentColumns → NodeColumns → ExemptionColumns → Float → ℕ → ℕ → ClearanceAnswer
 clearanceAnswer s n e threshold allowance words =
     checked Refused (firstOf (clearanceConditions s n e threshold words))
-    (settle accepted (Refused WorkLimitExceeded) allowance (allPairs (exemptions e) threshold (segments s) (nodes n)))
+    (settle accepted (Refused WorkLimitExceeded) allowance (allPairs (exemptions e) (λ net. threshold) (segments s) (nodes n)))
 
 -- "a report of zeros and absent gaps"
 abbrev pub zeros : EdgeNodeClearance

@@ -14,14 +14,25 @@ use Rattle.boxes.specs.Boxes.{nodeBox, segmentBox, distance}
 unfoldable pub exempt : List Exemption → ℕ → ℕ → Bool
 exempt ex net id = some-of (λ e. eqb (e .net) net && eqb (e .node) id) ex
 
--- the distances of the "segment and node pairs not exempt"
+-- one of the "segment and node pairs not exempt"
+abbrev pub notExempt : List Exemption → Segment × Node → Bool
+notExempt ex p = not (exempt ex (p .0 .net) (p .1 .id))
+
+abbrev pub pairDistance : Segment × Node → Float
+pairDistance p = distance (segmentBox (p .0)) (nodeBox (p .1))
+
+-- the distances of these pairs
 unfoldable pub distances : List Exemption → List Segment → List Node → List Float
-distances ex ss ns = chosen (λ p. not (exempt ex (p .0 .net) (p .1 .id))) (λ p. distance (segmentBox (p .0)) (nodeBox (p .1))) (cross ss ns)
+distances ex ss ns = chosen (notExempt ex) pairDistance (cross ss ns)
+
+-- "violations are those pairs whose distance is strictly below the threshold": that of the segment's net. A call with one threshold has it for every net.
+unfoldable pub violates : List Exemption → (ℕ → Float) → Segment × Node → Bool
+violates ex threshold p = notExempt ex p && lt (pairDistance p) (threshold (p .0 .net))
 
 pub record Figures : Type 0 where
   pub least : Gap
   pub violations : ℕ
 
--- "least distance .., absent if there is none; violations are those pairs whose distance is strictly below the threshold"
-unfoldable pub figures : List Exemption → Float → List Segment → List Node → Figures
-figures ex threshold ss ns = record { least = leastGap (distances ex ss ns); violations = count (λ d. lt d threshold) (distances ex ss ns) }
+-- "least distance .., absent if there is none", and how many violations there are
+unfoldable pub figures : List Exemption → (ℕ → Float) → List Segment → List Node → Figures
+figures ex threshold ss ns = record { least = leastGap (distances ex ss ns); violations = count (violates ex threshold) (cross ss ns) }

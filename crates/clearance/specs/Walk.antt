@@ -46,10 +46,10 @@ walk ex threshold s (branch box l r) g =
 abbrev pub noFigures : Figures
 noFigures = record { least = Absent; violations = 0 }
 
--- "the Rust's walk with no limit, its lists ordered as the departures say"; `compare_edge_node_segments` orders segments as document 01 does
-unfoldable pub walkAll : List Exemption → Float → List Segment → List Node → Charged Figures
-walkAll ex threshold ss ns = runs (λ g s. walk ex threshold s (treeOf ns) g) noFigures (segmentsInOrder ss)
+-- "the Rust's walk with no limit, its lists ordered as the departures say"; `compare_edge_node_segments` orders segments as document 01 does. Each segment is walked with its net's threshold.
+unfoldable pub walkAll : List Exemption → (ℕ → Float) → List Segment → List Node → Charged Figures
+walkAll ex threshold ss ns = runs (λ g s. walk ex (threshold (s .net)) s (treeOf ns) g) noFigures (segmentsInOrder ss)
 
 -- the visit count: "the visits of the Rust's walk with no limit"
-unfoldable pub visitCount : List Exemption → Float → List Segment → List Node → ℕ
+unfoldable pub visitCount : List Exemption → (ℕ → Float) → List Segment → List Node → ℕ
 visitCount ex threshold ss ns = walkAll ex threshold ss ns .cost

@@ -8,7 +8,7 @@ use drawing::Gap;
 use drawing::Refusal;
 use drawing::visits_used;
 
-// The least distance that the walks kept as a float. Only a NaN differs from itself.
+// The least distance as a gap. The walks keep it as a float, which is a NaN where there is none: only a NaN is unequal to itself.
 fn gap_of_float(least: f64) -> Gap
     ensures { λ r. ⌜ r ≡ gapOfFloat least ⌝ }
 {

@@ -15,7 +15,7 @@ pub struct Halves {
     pub farther: Subtree,
 }
 
-// The nearer half first, the left one on a tie. The halves come by their fields: structs that are parameters would go through memory wherever the walk halves a part.
+// The nearer half first, the left one on a tie. The halves come by their fields: a struct that is a parameter is handed over in memory, so that its fields would be stored and loaded again wherever the walk halves a part.
 pub fn nearer_first(
     first: usize,
     half: usize,

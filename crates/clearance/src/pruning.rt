@@ -4,7 +4,7 @@ ghost use Rattle.clearance.specs.Walk.{contributes};
 ghost use Rattle.clearance.specs.State.{Number, gapOfFloat, axisBelow, edgesBelow};
 use boxes::Aabb;
 
-// Whether a part whose box is at this distance may still change the figures. A NaN is at most nothing. The walk hands over distances of boxes, which are numbers.
+// Whether a part whose box is at this distance may still change the figures. Where there is no least distance yet, `least` is a NaN: then `least <= lower` is false, and every part may. The distance of two boxes, which the walk hands over, is never a NaN.
 pub fn clearance_subtree_can_contribute(lower: f64, threshold: f64, least: f64) -> bool
     ensures { λ r. ⌜ (Number lower → r ≡ contributes lower threshold (gapOfFloat least)) ⌝ }
 {
@@ -15,7 +15,7 @@ pub fn clearance_subtree_can_contribute(lower: f64, threshold: f64, least: f64) 
     }
 }
 
-// Along one axis: whether d lies less than the threshold beyond b, and c less than the threshold before a. Then nothing in c..d is as far from a..b as the threshold, where that is above 0.
+// Along one axis: whether d lies less than the threshold beyond b, and c less than the threshold before a. Where the threshold is above 0, everything in c..d is then nearer to a..b than the threshold.
 fn axis_below(a: f64, b: f64, c: f64, d: f64, threshold: f64) -> bool
     ensures { λ r. ⌜ r ≡ axisBelow a b c d threshold ⌝ }
 {
@@ -26,7 +26,7 @@ fn axis_below(a: f64, b: f64, c: f64, d: f64, threshold: f64) -> bool
     }
 }
 
-// Whether the farthest edges of the box `around` are nearer to the given box than the threshold. Then so is every box in it, where the threshold is above 0.
+// Whether the farthest edges of the box `around` are nearer to the given box than the threshold. Where the threshold is above 0, so is then every box in it.
 pub fn edges_below(bounds: Aabb, around: Aabb, threshold: f64) -> bool
     ensures { λ r. ⌜ r ≡ edgesBelow bounds around threshold ⌝ }
 {

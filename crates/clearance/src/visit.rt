@@ -41,7 +41,7 @@ pub fn at_start(allowance: usize) -> Walking
     }
 }
 
-// The least distance so far with one more.
+// The least distance so far with one more. Where there is none so far, `least` is a NaN: then the comparison is false, and the new one is taken.
 fn least_with(least: f64, distance: f64) -> f64
     ensures { λ r. ⌜ (Number distance → gapOfFloat r ≡ lesserGap (gapOfFloat least) (Present distance)) ⌝ }
 {

@@ -45,9 +45,9 @@ walkable-whole s w m d p b st part box bounds e room fit nested = record { part 
 pub turn-small : (order : List ℕ) (c : SegmentColumns) → InTurns order c → (q : ℕ) → q < length (c .net) → getD order q 0 < length (c .net)
 turn-small order c p q h = first-at (λ i. i < length (c .net)) 0 (length (c .net)) order (p .inside) (p .small) q h
 
-module _ (t : Float) (w : List ℕ) (m : ℕ) (order packed groups : List ℕ) (k : ℕ) (c : SegmentColumns) (allowance : ℕ) where
+module _ (t : ℕ → Float) (w : List ℕ) (m : ℕ) (order packed groups : List ℕ) (k : ℕ) (c : SegmentColumns) (allowance : ℕ) where
   abbrev step : List Exemption → Figures → Segment → Charged Figures
-  step ex g s = walk ex t s (storedTree m w 0 m) g
+  step ex g s = walk ex (t (s .net)) s (storedTree m w 0 m) g
 
   abbrev rest : ℕ → List Segment
   rest q = map (segmentAt c) (drop q (take (length (c .net)) order))
@@ -67,7 +67,7 @@ module _ (t : Float) (w : List ℕ) (m : ℕ) (order packed groups : List ℕ) (
   turned-none p h state e v l marks long = record { turns = p; room = omega arith; below = omega arith; long = long; low = omega arith; stand = λ ex a b h. absurd (omega arith); onwards = λ ex a b i. within (l i) (runs (step ex) (record { least = gapOfFloat (e i); violations = v i }) (rest 0)) }
 
   module _ (state : Walking) (marks : List ℕ) (used marked q : ℕ) (u : Turned state marks used marked q) (less : q < length (c .net)) (r : Walked)
-      (e : (ex : List Exemption) → Holds packed ex → length ex ≡ k → outcomeOf r ≡ within (state .left) (walk ex t (segmentAt c (getD order q 0)) (storedTree m w 0 m) (soFar state))) where
+      (e : (ex : List Exemption) → Holds packed ex → length ex ≡ k → outcomeOf r ≡ within (state .left) (walk ex (t (segmentAt c (getD order q 0) .net)) (segmentAt c (getD order q 0)) (storedTree m w 0 m) (soFar state))) where
     next : rest q ≡ segmentAt c (getD order q 0) ∷ rest (q + 1)
     next =
         let n = length (c .net) in
@@ -85,7 +85,7 @@ module _ (t : Float) (w : List ℕ) (m : ℕ) (order packed groups : List ℕ) (
     pub turned-next : Held packed k → (after : List ℕ) (n net : ℕ) → length after ≡ 64 → n ≤ 64 → ((ex : List Exemption) → Holds packed ex → length ex ≡ k → Marked (take n after) groups w ex net) → (v : Walking) → r ≡ Went v → Turned v after n net (q + 1)
     turned-next held after n net long low fresh v x = record {
       turns = u .turns;
-      room = omega (arith, u .room, walk-room (held .ex) t (segmentAt c (getD order q 0)) (storedTree m w 0 m) state r (e (held .ex) (held .holds) (held .count)) v x);
+      room = omega (arith, u .room, walk-room (held .ex) (t (segmentAt c (getD order q 0) .net)) (segmentAt c (getD order q 0)) (storedTree m w 0 m) state r (e (held .ex) (held .holds) (held .count)) v x);
       below = omega arith;
       long = long;
       low = low;

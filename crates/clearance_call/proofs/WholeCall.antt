@@ -93,30 +93,30 @@ pub nodes-held : (c : NodeColumns) → NodesAgree c → ((i : ℕ) → T (fits b
 nodes-held c a x y w h = all-placed (nodes c) (nodeAt c) (length (c .id)) (length-nodes c a) (nodes-at c a (nodeAt c 0)) NodeHeld (λ i. record { x = x i; y = y i; width = w i; height = h i })
 
 -- ---- no nodes: no tree to walk
-runs-bare : (ex : List Exemption) (t : Float) (g : Figures) (ss : List Segment) → runs (λ h s. walk ex t s bare h) g ss ≡ free g
+runs-bare : (ex : List Exemption) (t : ℕ → Float) (g : Figures) (ss : List Segment) → runs (λ h s. walk ex (t (s .net)) s bare h) g ss ≡ free g
 unfolding runs
 runs-bare ex t g [] = refl
 runs-bare ex t g (s ∷ ss) =
     let rest = runs-bare ex t g ss in
-    (λ i. after (walk-bare ex t s g i) (λ h. runs (λ f r. walk ex t r bare f) h ss)) ∙ (λ i. record { value = rest i .value; cost = 0 + rest i .cost })
+    (λ i. after (walk-bare ex (t (s .net)) s g i) (λ h. runs (λ f r. walk ex (t (r .net)) r bare f) h ss)) ∙ (λ i. record { value = rest i .value; cost = 0 + rest i .cost })
 
 no-tree : (ns : List Node) → length ns ≡ 0 → treeOf ns ≡ bare
 unfolding treeOf build
 no-tree ns h = ap (λ (k : ℕ). build k (map indexed (nodesInOrder ns))) h
 
-pub walked-none : (ex : List Exemption) (t : Float) (ss : List Segment) (n : NodeColumns) → NodesAgree n → length (n .id) ≡ 0 → (allowance : ℕ) (state : Walking) → state ≡ atStart allowance
+pub walked-none : (ex : List Exemption) (t : ℕ → Float) (ss : List Segment) (n : NodeColumns) → NodesAgree n → length (n .id) ≡ 0 → (allowance : ℕ) (state : Walking) → state ≡ atStart allowance
     → outcomeOf (Went state) ≡ within allowance (walkAll ex t ss (nodes n))
 unfolding gapOfFloat outcomeOf walkAll
 walked-none ex t ss n a h allowance state e =
     let tree = no-tree (nodes n) (length-nodes n a ∙ h) in
-    rw e (sym (ap (within allowance) (ap (λ (z : Tree). runs (λ g s. walk ex t s z g) noFigures (segmentsInOrder ss)) tree ∙ runs-bare ex t noFigures (segmentsInOrder ss)) ∙ within-free allowance noFigures))
+    rw e (sym (ap (within allowance) (ap (λ (z : Tree). runs (λ g s. walk ex (t (s .net)) s z g) noFigures (segmentsInOrder ss)) tree ∙ runs-bare ex t noFigures (segmentsInOrder ss)) ∙ within-free allowance noFigures))
 
 -- ---- no segments: nothing to walk
 no-entries : {A : Type 0} (l : List A) → length l ≡ 0 → l ≡ []
 no-entries [] h = refl
 no-entries (x ∷ l) h = absurd (omega arith)
 
-pub walked-no-segment : (ex : List Exemption) (t : Float) (s : SegmentColumns) (ns : List Node) → SegmentsAgree s → length (s .net) ≡ 0 → (allowance : ℕ) (state : Walking) → state ≡ atStart allowance
+pub walked-no-segment : (ex : List Exemption) (t : ℕ → Float) (s : SegmentColumns) (ns : List Node) → SegmentsAgree s → length (s .net) ≡ 0 → (allowance : ℕ) (state : Walking) → state ≡ atStart allowance
     → outcomeOf (Went state) ≡ within allowance (walkAll ex t (segments s) ns)
 unfolding gapOfFloat outcomeOf walkAll segmentsInOrder sortBy runs
 walked-no-segment ex t s ns a h allowance state e =
@@ -219,7 +219,7 @@ module _ (s : SegmentColumns) (n : NodeColumns) (e : ExemptionColumns) (words : 
         let e = length-nodes n (z .nodes) in
         subst Nested (sym (ap (λ (l : List ℕ). storedTree m l 0 m) tree-words ∙ grown-tree n g (z .nodes) f w)) (nested-tree (nodes n) (omega arith) f)
 
-    pub walked-all : (t : Float) (packed p₀ : List ℕ) → Gathered e p₀ packed → All FitSegment (segments s) → All FitNode (nodes n) → Grown n g → (allowance : ℕ) (r : Walked)
+    pub walked-all : (t : ℕ → Float) (packed p₀ : List ℕ) → Gathered e p₀ packed → All FitSegment (segments s) → All FitNode (nodes n) → Grown n g → (allowance : ℕ) (r : Walked)
         → ((ex : List Exemption) → Holds packed ex → length ex ≡ length (e .net) → outcomeOf r ≡ within allowance (allWalks ex t tree m (midOf 0 (length s₂ - 0) s₂) s))
         → outcomeOf r ≡ within allowance (walkAll (exemptions e) t (segments s) (nodes n))
     walked-all t packed p₀ gathered fs f w allowance r h =
@@ -227,7 +227,7 @@ module _ (s : SegmentColumns) (n : NodeColumns) (e : ExemptionColumns) (words : 
         let grown = ap (λ (l : List ℕ). storedTree m l 0 m) tree-words ∙ grown-tree n g (z .nodes) f w in
         let line = ap (map (segmentAt s)) turns ∙ ord .ordered in
         h ex (gathered .holds) (gathered .count)
-        ∙ (λ i. within allowance (runs (λ a b. walk ex t b (grown i) a) noFigures (line i)))
+        ∙ (λ i. within allowance (runs (λ a b. walk ex (t (b .net)) b (grown i) a) noFigures (line i)))
         ∙ ap (within allowance) (walk-all-rejoined ex t (nodes n) f (segments s) fs)
 
 pub held-of : (e : ExemptionColumns) (p₀ packed : List ℕ) → Gathered e p₀ packed → Held packed (length (e .net))
@@ -238,9 +238,9 @@ pub refused-answer : (s : SegmentColumns) (n : NodeColumns) (e : ExemptionColumn
 unfolding clearanceAnswer
 refused-answer s n e t allowance words c r h g = sym (rw (sym h ∙ g))
 
-pub passed-answer : (s : SegmentColumns) (n : NodeColumns) (e : ExemptionColumns) (t : Float) (allowance words : ℕ) → passes s n e t words → Lent s n t → (w : Walked) → outcomeOf w ≡ within allowance (walkAll (exemptions e) t (segments s) (nodes n))
+pub passed-answer : (s : SegmentColumns) (n : NodeColumns) (e : ExemptionColumns) (t : Float) (allowance words : ℕ) → passes s n e t words → Lent s n t → (w : Walked) → outcomeOf w ≡ within allowance (walkAll (exemptions e) (λ net. t) (segments s) (nodes n))
     → (a : ClearanceAnswer) → Answers w allowance a → a ≡ clearanceAnswer s n e t allowance words
 unfolding clearanceAnswer
 passed-answer s n e t allowance words p lent w h a k =
     let f = fit-call s n e t words lent p in
-    rw p (k ∙ ap (reply accepted (Refused WorkLimitExceeded) allowance) h ∙ reply-within (exemptions e) t (segments s) (nodes n) (f .threshold-fit) (f .segments-fit) (f .nodes-fit) allowance)
+    rw p (k ∙ ap (reply accepted (Refused WorkLimitExceeded) allowance) h ∙ reply-within (exemptions e) (λ net. t) (segments s) (nodes n) (λ net. f .threshold-fit) (f .segments-fit) (f .nodes-fit) allowance)

@@ -48,7 +48,7 @@ pub record BoxPut (s r : List ℕ) (p : ℕ) (b : Aabb) : Type 0 where
   pub low : (q : ℕ) → q < p → getD r q 0 ≡ getD s q 0
   pub high : (q : ℕ) → p + 4 ≤ q → getD r q 0 ≡ getD s q 0
 
--- a leaf was put at word p, and nothing outside its nine words changed
+-- a leaf was put at word p, and no word before p changed
 pub record LeafPut (s r : List ℕ) (p : ℕ) (n : IndexedNode) : Type 0 where
   pub len : length r ≡ length s
   pub leaf : leafFrom r p ≡ n

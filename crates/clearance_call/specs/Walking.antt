@@ -100,6 +100,6 @@ pub record InTurns (order : List ℕ) (c : SegmentColumns) : Type 0 where
   pub small : All (λ i. i < length (c .net)) (take (length (c .net)) order)
   pub fit : (i : ℕ) → i < length (c .net) → FitBox (segmentBox (segmentAt c i))
 
--- the walks of the segments at these places, one after another, over the n leaves from leaf 0 on
-abbrev pub allWalks : List Exemption → Float → List ℕ → ℕ → List ℕ → SegmentColumns → Charged Figures
-allWalks ex threshold w n order c = runs (λ g s. walk ex threshold s (storedTree n w 0 n) g) noFigures (map (segmentAt c) (take (length (c .net)) order))
+-- the walks of the segments at these places, one after another, each with its net's threshold, over the n leaves from leaf 0 on
+abbrev pub allWalks : List Exemption → (ℕ → Float) → List ℕ → ℕ → List ℕ → SegmentColumns → Charged Figures
+allWalks ex threshold w n order c = runs (λ g s. walk ex (threshold (s .net)) s (storedTree n w 0 n) g) noFigures (map (segmentAt c) (take (length (c .net)) order))

@@ -84,7 +84,7 @@ fn mark_net(marks: &mut [u64], net: u32, packed: &[u64], k: usize, ids: &[u64], 
     MARK_WORDS
 }
 
-// The same where the first `used` words are the marks of the net `marked`, if that is a net: they are made anew only for another one.
+// The same where the first `used` words are the marks of the net `marked`: they are kept for that net, and made anew for another one. Before the first net `marked` is a number that no net has.
 pub(crate) fn renew_marks(
     marks: &mut [u64],
     used: usize,
@@ -105,7 +105,7 @@ pub(crate) fn renew_marks(
     mark_net(marks, net, packed, k, ids, m)
 }
 
-// Whether leaf i is marked. Where no marks count, its group is not read.
+// Whether leaf i is marked. Where the net has no exemptions there are no marks, and the leaf's group is not read.
 pub(crate) fn is_marked(marks: &[u64], groups: &[u64], i: usize) -> bool
     requires { ⌜ i < length (now groups) ⌝ }
     ensures { λ r. ⌜ r ≡ member (now (marks .entry)) (getD (now (groups .entry)) i 0) ⌝ }

@@ -22,7 +22,7 @@ use drawing::check_clearance;
 use drawing::clear;
 use exemptions::gather;
 
-// The walks of all segments of a fit drawing. The scratch holds 6 words for each segment, for their order, and behind them 20 for each node, for the tree and the groups of its leaves.
+// The walks of all segments of a fit drawing. Without segments or without nodes there are no pairs, and nothing is put in order. Otherwise the scratch holds 6 words for each segment, for their order, and behind them 20 for each node, for the tree and the groups of its leaves.
 fn walk_segments(
     net: &[u32],
     orientation: &[u8],
@@ -41,8 +41,11 @@ fn walk_segments(
     scratch: &mut [u64],
 ) -> Walked
     requires { ⌜ firstOf (clearanceConditions (segmentColumns (now net) (now orientation) (now fixed) (now start) (now end)) (nodeColumns (now id) (now x) (now y) (now width) (now height)) (exemptionColumns (now «exempt_net») (now «exempt_node»)) threshold (length (now scratch))) ≡ Passed ⌝ }
-    ensures { λ r. ⌜ outcomeOf r ≡ within allowance (walkAll (exemptions (exemptionColumns (now («exempt_net» .entry)) (now («exempt_node» .entry)))) threshold (segments (segmentColumns (now (net .entry)) (now (orientation .entry)) (now (fixed .entry)) (now (start .entry)) (now (end .entry)))) (nodes (nodeColumns (now (id .entry)) (now (x .entry)) (now (y .entry)) (now (width .entry)) (now (height .entry))))) ⌝ }
+    ensures { λ r. ⌜ outcomeOf r ≡ within allowance (walkAll (exemptions (exemptionColumns (now («exempt_net» .entry)) (now («exempt_node» .entry)))) (λ _. threshold) (segments (segmentColumns (now (net .entry)) (now (orientation .entry)) (now (fixed .entry)) (now (start .entry)) (now (end .entry)))) (nodes (nodeColumns (now (id .entry)) (now (x .entry)) (now (y .entry)) (now (width .entry)) (now (height .entry))))) ⌝ }
 {
+    if net.len() == 0 {
+        return Walked::Went(at_start(allowance));
+    }
     let m = id.len();
     if m == 0 {
         return Walked::Went(at_start(allowance));
@@ -69,49 +72,6 @@ fn walk_segments(
         &scratch[first..last],
         &scratch[first + m..last],
         allowance,
-    )
-}
-
-// The same, with nothing put in order where there is no segment.
-fn walk_drawing(
-    net: &[u32],
-    orientation: &[u8],
-    fixed: &[f64],
-    start: &[f64],
-    end: &[f64],
-    id: &[u32],
-    x: &[f64],
-    y: &[f64],
-    width: &[f64],
-    height: &[f64],
-    exempt_net: &[u32],
-    exempt_node: &[u32],
-    threshold: f64,
-    allowance: usize,
-    scratch: &mut [u64],
-) -> Walked
-    requires { ⌜ firstOf (clearanceConditions (segmentColumns (now net) (now orientation) (now fixed) (now start) (now end)) (nodeColumns (now id) (now x) (now y) (now width) (now height)) (exemptionColumns (now «exempt_net») (now «exempt_node»)) threshold (length (now scratch))) ≡ Passed ⌝ }
-    ensures { λ r. ⌜ outcomeOf r ≡ within allowance (walkAll (exemptions (exemptionColumns (now («exempt_net» .entry)) (now («exempt_node» .entry)))) threshold (segments (segmentColumns (now (net .entry)) (now (orientation .entry)) (now (fixed .entry)) (now (start .entry)) (now (end .entry)))) (nodes (nodeColumns (now (id .entry)) (now (x .entry)) (now (y .entry)) (now (width .entry)) (now (height .entry))))) ⌝ }
-{
-    if net.len() == 0 {
-        return Walked::Went(at_start(allowance));
-    }
-    walk_segments(
-        net,
-        orientation,
-        fixed,
-        start,
-        end,
-        id,
-        x,
-        y,
-        width,
-        height,
-        exempt_net,
-        exempt_node,
-        threshold,
-        allowance,
-        scratch,
     )
 }
 
@@ -163,7 +123,7 @@ pub fn measure_edge_node_clearance_bounded(
     if let Check::Refused(why) = check {
         return ClearanceAnswer::Refused(why);
     }
-    let walked = walk_drawing(
+    let walked = walk_segments(
         net,
         orientation,
         fixed,

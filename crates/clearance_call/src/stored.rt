@@ -24,7 +24,7 @@ fn box_from(words: &[u64], p: usize) -> Aabb
     }
 }
 
-// The same for a box that is known to be fit. `float_of_bits` tests for the bits of a NaN first; here none can stand, and the walk reads a box at every step.
+// The same for a box that is known to be fit, without the test for the bits of a NaN that `float_of_bits` makes: a fit box has none, and the walk reads a box at every step.
 pub(crate) fn fit_box_from(words: &[u64], p: usize) -> Aabb
     requires { ⌜ p + 4 ≤ length (now words) ⌝ }
     requires { ⌜ FitBox (boxAt (now words) p) ⌝ }

@@ -1,4 +1,4 @@
-// The walk of one segment over the stored tree, within what is left of the allowance: a loop over the parts of the tree, which keeps those that wait.
+// The walk of one segment over the stored tree, within what is left of the allowance: a loop over the parts of the tree, with a stack of those that are still to be walked.
 ghost use mathlib.Core.Path.{_≡_};
 ghost use mathlib.Core.Bool.{true};
 ghost use mathlib.Core.List.{List};
@@ -55,11 +55,11 @@ fn visit_leaf(
     requires { ⌜ state .violations + state .left < 2 ^ 64 ⌝ }
     ensures { λ r. ⌜ outcomeOf r ≡ within (state .left) (visit (free (withPair (member (now (marks .entry)) (getD (now (groups .entry)) i 0)) threshold distance (soFar state)))) ⌝ }
 {
-    // `visit_pair` tests this too. Tested before the mark is read, it costs the loop over leaves nothing: the compiler bounds that loop by the visits left.
+    // `visit_pair` tests this too. With the test before the mark is read, the compiler bounds the loop over leaves by the visits left, so that the test costs nothing there.
     if state.left == 0 {
         return Walked::Spent;
     }
-    // A call for each side, so that the mark is tested once.
+    // Each side has a call with a constant: with the mark itself as an argument, `visit_pair` would test it once more.
     if is_marked(marks, groups, i) {
         return visit_pair(true, distance, threshold, state);
     }
@@ -94,7 +94,7 @@ fn part_below(words: &[u64], i: usize, n: usize, lower: f64, bounds: Aabb, thres
     if n < FEW {
         return false;
     }
-    // A threshold above a distance is above 0.
+    // The box itself is not nearer. Behind this test the threshold is above a distance, and so above 0, without which `edges_below` says nothing of the boxes in a part.
     if !(lower < threshold) {
         return false;
     }
@@ -149,7 +149,7 @@ fn step_of(walked: Walked) -> Step
     Step::Done(state)
 }
 
-// A look at one part, for a segment with the given box, whose net has these marks. The part is pruned, or its leaves are visited, or it is halved. The state comes by its fields, since of a float that is a parameter itself the proof knows that binary64 holds it.
+// A look at one part, for a segment with the given box, whose net has these marks. The part is pruned, or its leaves are visited, or it is halved. The state comes by its fields: of a float that is itself a parameter, as `least` is here, the proof knows that it is a value of binary64.
 fn look_at_part(
     words: &[u64],
     part: Subtree,
@@ -185,10 +185,10 @@ fn look_at_part(
     Step::Split(halve(words, i, n, bounds))
 }
 
-// No more parts wait at once: a tree has at most 4,096 leaves, 2 to the power 12, and each part that waits has at most half of the leaves, rounded up, of the part that was halved.
+// The stack never holds more parts: a tree has at most 4,096 leaves, 2 to the power 12, and each part on the stack has at most half of the leaves, rounded up, of the part that was halved.
 const DEPTH: usize = 12;
 
-// The walk of a segment with the given box, whose net has these marks, over one part of the tree. Where a part is halved, its nearer half is next and its farther half waits; where a part is done, the last one that began to wait is next.
+// The walk of a segment with the given box, whose net has these marks, over one part of the tree. Where a part is halved, its nearer half is next and its farther half is put on the stack, `waiting`; where a part is done, the one on top of the stack is next.
 pub(crate) fn visit_segment_candidates(
     words: &[u64],
     whole: Subtree,

@@ -77,7 +77,7 @@ pub(crate) fn walk_all(
     requires { ⌜ InTurns (now order) (segmentColumns (now net) (now orientation) (now fixed) (now start) (now end)) ⌝ }
     requires { ⌜ Held (now packed) k × (0 < k → Grouped (now ids) (now groups) (now tree) m) × (length (now tree) ≤ 9 * length (now groups)) ⌝ }
     requires { ⌜ Nested (storedTree m (now tree) 0 m) ⌝ }
-    ensures { λ r. ⌜ ((ex : List Exemption) → Holds (now (packed .entry)) ex → length ex ≡ k → outcomeOf r ≡ within allowance (allWalks ex threshold (now (tree .entry)) m (now (order .entry)) (segmentColumns (now (net .entry)) (now (orientation .entry)) (now (fixed .entry)) (now (start .entry)) (now (end .entry))))) ⌝ }
+    ensures { λ r. ⌜ ((ex : List Exemption) → Holds (now (packed .entry)) ex → length ex ≡ k → outcomeOf r ≡ within allowance (allWalks ex (λ _. threshold) (now (tree .entry)) m (now (order .entry)) (segmentColumns (now (net .entry)) (now (orientation .entry)) (now (fixed .entry)) (now (start .entry)) (now (end .entry))))) ⌝ }
 {
     let mut state = at_start(allowance);
     let mut marks = [0; MARK_WORDS];

@@ -47,12 +47,12 @@ same : (d e : Lists) (t : Float) (words : ℕ) → clearance .Reordered d e → 
 unfolding allPairs
 same d e t words o h p =
     let f = fit d t words h p in
-    let all = all-pairs-any-order t (o .2) (o .0) (o .1) (f .segments-fit) (f .nodes-fit) in
+    let all = all-pairs-any-order (λ net. t) (o .2) (o .0) (o .1) (f .segments-fit) (f .nodes-fit) in
     record { figures = ap (λ (c : Charged Figures). c .value) all; count = ap (λ (c : Charged Figures). c .cost) all }
 
 walks : (d : Lists) (t : Float) (words : ℕ) → clearance .Held d t → Passes clearance d t words → clearance .walk d t ≡ record { value = clearance .figures d t; cost = clearance .count d t }
 unfolding allPairs
-walks d t words h p = let f = fit d t words h p in walk-all-pairs (exemptions (d .exemptions)) t (segments (d .segments)) (nodes (d .nodes)) (f .threshold-fit) (f .segments-fit) (f .nodes-fit)
+walks d t words h p = let f = fit d t words h p in walk-all-pairs (exemptions (d .exemptions)) (λ net. t) (segments (d .segments)) (nodes (d .nodes)) (λ net. f .threshold-fit) (f .segments-fit) (f .nodes-fit)
 
 numbers : (d : Lists) (t : Float) (words : ℕ) → clearance .Held d t → Passes clearance d t words → All Reported (clearance .floats (clearance .figures d t))
 unfolding figures

@@ -79,7 +79,7 @@ exactly s cutoff words h = let p = none-passed (congestionConditions s cutoff wo
 
 pub counts : Counts
 counts = record {
-  clearance-at-most = λ d threshold. visits-at-most (exemptions (d .exemptions)) threshold (segments (d .segments)) (nodes (d .nodes));
+  clearance-at-most = λ d threshold. visits-at-most (exemptions (d .exemptions)) (λ net. threshold) (segments (d .segments)) (nodes (d .nodes));
   separation-at-most = λ d. visit-bound (segments d);
   density-exactly = λ r h. exactly (r .drawing) (r .settings) (length (r .before)) h;
   profile-exactly = λ r h. exactly (r .drawing) (r .settings) (length (r .before)) h;

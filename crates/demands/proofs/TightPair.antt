@@ -36,11 +36,11 @@ module _ (s : SegmentColumns) (n : NodeColumns) (e : ExemptionColumns) (r : Tigh
       let w = first-refused 0 (tightPairConditions s n e) (rises s n e) k f in
       ap resultOf (answered (Stopped (w .refusal)) (w .first) _ refl) ∙ ap (λ (j : ℕ). (j, none)) (w .number)
 
-  no-pair : NoneApplies (tightPairConditions s n e) → (threshold : Float) → figures (exemptions e) threshold (segments s) (nodes n) .least ≡ Absent → resultOf r ≡ (0, none)
+  no-pair : NoneApplies (tightPairConditions s n e) → (threshold : Float) → figures (exemptions e) (λ net. threshold) (segments s) (nodes n) .least ≡ Absent → resultOf r ≡ (0, none)
   unfolding found resultOf figures
   no-pair h threshold g = ap resultOf (answered Passed (none-passed (tightPairConditions s n e) h) Absent g)
 
-  some-pair : NoneApplies (tightPairConditions s n e) → (threshold d : Float) → figures (exemptions e) threshold (segments s) (nodes n) .least ≡ Present d → Pair s n e r
+  some-pair : NoneApplies (tightPairConditions s n e) → (threshold d : Float) → figures (exemptions e) (λ net. threshold) (segments s) (nodes n) .least ≡ Present d → Pair s n e r
   unfolding found resultOf figures
   some-pair h threshold d g =
       let is : r ≡ tightPair.Pair (a .choice .0) (a .choice .1) = answered Passed (none-passed (tightPairConditions s n e) h) (Present d) g in

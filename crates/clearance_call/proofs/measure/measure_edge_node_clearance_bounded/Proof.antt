@@ -29,8 +29,8 @@ returns c =
 enum-told : tie.Need-enum-told
 enum-told c = search needs
 
-walk-drawing-requires : tie.Need-walk-drawing-requires
-walk-drawing-requires c κs = sym (c .before .before .before .check-clearance .ensures) ∙ c .before .enum-told .given .1
+walk-segments-requires : tie.Need-walk-segments-requires
+walk-segments-requires c κs = sym (c .before .before .before .check-clearance .ensures) ∙ c .before .enum-told .given .1
 
 clear-requires : tie.Need-clear-requires
 clear-requires c κs = search needs
@@ -56,9 +56,9 @@ returns-2 c =
       nodes-held = nodes-held n (z .nodes) (walked .before .before .before .before .before .before .before .before .before .before .before .shared-slice-known7 .given) (walked .before .before .before .before .before .before .before .before .before .before .shared-slice-known8 .given) (walked .before .before .before .before .before .before .before .before .before .shared-slice-known9 .given) (walked .before .before .before .before .before .before .before .before .shared-slice-known10 .given);
       threshold-held = subst T (sym (a .good .1 .1 .1 .1 .1 .1 .1 .1 .1 .1 .1 .1 .0 .1)) tt;
     } in
-    let kept = ap (λ (k : ℕ). replicate {A = ℕ} k 0) (walked .walk-drawing .kept .1 .1 .1 .1 .1 .1 .1 .1 .1 .1 .1 .1 .1 .1 .0) in
+    let kept = ap (λ (k : ℕ). replicate {A = ℕ} k 0) (walked .walk-segments .kept .1 .1 .1 .1 .1 .1 .1 .1 .1 .1 .1 .1 .1 .1 .0) in
     let cleared = c .before .before .before .clear .ensures ∙ kept in (
-      passed-answer s n e _ _ _ passed lent _ (walked .walk-drawing .ensures) _ (c .answer-of .ensures),
+      passed-answer s n e _ _ _ passed lent _ (walked .walk-segments .ensures) _ (c .answer-of .ensures),
       passed-scratch _ _ _ _ (walked .before .before .before .before .check-clearance .ensures) told cleared,
       λ p. (lent .segments-held, lent .nodes-held, lent .threshold-held),
     )
@@ -71,7 +71,7 @@ measure-edge-node-clearance-bounded-spec =
     enum-known-check
     returns
     enum-told
-    walk-drawing-requires
+    walk-segments-requires
     clear-requires
     answer-of-requires
     same-length

@@ -12,7 +12,7 @@ use Rattle.clearance_call.proofs.walk_all.walk_all.Statement.{statement
 use Rattle.clearance_call.proofs.walk_all.walk_all.Tie as tie
 
 abbrev Inv-loop : tie.InvT-loop
-Inv-loop tree m order net orientation fixed start end threshold packed k ids groups allowance state₀ marks₀ used₀ marked₀ q₀ state marks used marked q = Turned threshold tree m order packed groups k (segmentColumns net orientation fixed start end) allowance state marks used marked q
+Inv-loop tree m order net orientation fixed start end threshold packed k ids groups allowance state₀ marks₀ used₀ marked₀ q₀ state marks used marked q = Turned (λ net. threshold) tree m order packed groups k (segmentColumns net orientation fixed start end) allowance state marks used marked q
 
 abbrev μ-loop : tie.MeasureT-loop
 μ-loop tree m order net orientation fixed start end threshold packed k ids groups allowance state₀ marks₀ used₀ marked₀ q₀ state marks used marked q = length net - q
