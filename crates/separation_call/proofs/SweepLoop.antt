@@ -10,10 +10,10 @@ use lib.ListN.{length, getD, drop, length-take}
 use lib.Seq.{length-take-le}
 use Rattle.laws.specs.Lists.{Mem}
 use Rattle.laws.specs.Charged.{Charged, runs}
-use Rattle.laws.specs.Allowance.{Outcome, spent, left, within}
+use Rattle.laws.specs.Allowance.{Outcome, left, within}
 use Rattle.laws.proofs.Tests.{le-or-lt, cond-true, cond-false}
 use Rattle.laws.proofs.Places.{first-at}
-use Rattle.laws.proofs.Runs.{within-enough, within-short, onward-spent, onward-left}
+use Rattle.laws.proofs.Runs.{read-left, read-spent, onward-spent, onward-left}
 use Rattle.laws.proofs.Loops.{Onwards, loop-next, loop-stops, loop-ends, told-next, told-none}
 use Rattle.rows.specs.Rows.{Row, Event, ends, starts, events}
 use Rattle.rows.specs.Tables.{rowFrom, eventFrom}
@@ -71,30 +71,6 @@ module _ (s : List ℕ) (n leaves e : ℕ) where
         let k : e - n ≡ e - length l = omega arith in
         let c : step (lines l) H here (eventFrom l e) ≡ startsAt (lines l) H here (rowFrom l (e - n)) = ap (step (lines l) H here) (starts-at l e (omega arith)) ∙ starting (lines l) H here (e - length l) (rowFrom l (e - length l)) ∙ ap (λ (j : ℕ). startsAt (lines l) H here (rowFrom l j)) (sym k) in
         subst (Step l F H b) (sym c) (g .0, λ to w. subst (λ (a : List Row). Ready l F H (b + 1) a t) (sym (start-active (lines l) H active st (rowFrom l (e - n)))) (g .1 to w))
-
--- ---- what is known of a run by its figures
-left-parts : (f g : Figures) (k m : ℕ) → left f k ≡ left g m → (f ≡ g) × (k ≡ m)
-left-parts f g k m e = (cc, cc)
-
-not-spent : (f : Figures) (k : ℕ) → left f k ≡ spent → ⊥
-not-spent f k e = let z : _≡_ {A = ℕ} 0 1 = cc in omega arith
-
-figures-left : (m : ℕ) (c : Charged Sweep) (f : Figures) (k : ℕ) → figuresOf (within m c) ≡ left f k → within m c ≡ left (record { active = c .value .active; met = f }) k
-figures-left m c f k e = elim (le-or-lt (c .cost) m) [
-  | inl h ↦ go (within-enough m c h)
-  | inr h ↦ absurd (not-spent f k (sym e ∙ ap figuresOf (within-short m c h) ∙ onward-spent (λ t z. left (t .met) z)))
-]
-  where
-    go : within m c ≡ left (c .value) (m - c .cost) → within m c ≡ left (record { active = c .value .active; met = f }) k
-    go w =
-        let p = left-parts (c .value .met) f (m - c .cost) k (sym (ap figuresOf w ∙ onward-left (c .value) (m - c .cost) (λ t z. left (t .met) z)) ∙ e) in
-        w ∙ (λ i. left (record { active = c .value .active; met = p .0 i }) (p .1 i))
-
-figures-spent : (m : ℕ) (c : Charged Sweep) → figuresOf (within m c) ≡ spent → within m c ≡ spent
-figures-spent m c e = elim (le-or-lt (c .cost) m) [
-  | inl h ↦ absurd (not-spent (c .value .met) (m - c .cost) (sym (ap figuresOf (within-enough m c h) ∙ onward-left (c .value) (m - c .cost) (λ t z. left (t .met) z)) ∙ e))
-  | inr h ↦ within-short m c h
-]
 
 -- ---- the loop
 module _ (l : List Row) (F : List ℕ) (H allowance : ℕ) where
@@ -179,19 +155,19 @@ module _ (l : List Row) (F : List ℕ) (H allowance : ℕ) where
         pub going-stops : r ≡ Spent → Spent ≡ sweptOf all
         unfolding sweptOf
         going-stops x =
-            let z = figures-spent (st .left) c (spent-is (figuresOf (within (st .left) c)) (sym x ∙ e)) in
+            let z = read-spent (λ (a : Sweep). a .met) (st .left) c (spent-is (figuresOf (within (st .left) c)) (sym x ∙ e)) in
             sym (ap sweptOf (ap figuresOf (loop-stops (g .onwards) next-is z) ∙ onward-spent (λ t m. left (t .met) m)))
 
         pub going-next : (to : Sweeping) → r ≡ Went to → Going to t (q + 1)
         going-next to x =
-            let z = figures-left (st .left) c (metBy to) (to .left) (went-is (figuresOf (within (st .left) c)) to (sym x ∙ e)) in
+            let z = read-left (λ (a : Sweep). a .met) (st .left) c (metBy to) (to .left) (went-is (figuresOf (within (st .left) c)) to (sym x ∙ e)) in
             record {
               active = c .value .active;
               ready = k to x;
               proper = g .proper;
               state = next-state;
               below = omega arith;
-              onwards = loop-next (g .onwards) next-is z;
+              onwards = loop-next (g .onwards) next-is (z .0 ∙ (λ i. left (record { active = c .value .active; met = z .1 i }) (to .left)));
             }
 
     pub going-all : 2 * length l ≤ q → Went st ≡ sweptOf all
