@@ -1,15 +1,15 @@
 -- The visits of the leaves of a part, one after another: the loop, step by step; and that they are the part's walk where its farthest edges are below the threshold. Assumes nothing.
 use mathlib.Core.Path.{_≡_, sym, ap, subst, _∙_}
 use mathlib.Core.Bool.{Bool, true}
-use mathlib.Core.List.{List}
+use mathlib.Core.List.{List, _∷_}
 use Prim.Native.Nat.{ℕ, suc, _+_, _-_, _*_, _≤_, _<_, _^_}
 use native.Mathlib.Omega.{arith}
 use lib.Dec.{T}
 use lib.Ieee.{Float, nan, inf, fin, binary64, fits, isNan, lt}
 use lib.ListN.{length, getD}
-use Rattle.laws.specs.Charged.{Charged, free, visit, runs}
-use Rattle.laws.specs.Allowance.{Outcome, within, onward}
-use Rattle.laws.proofs.Runs.{within-none, within-next}
+use Rattle.laws.specs.Charged.{free, visit, runs}
+use Rattle.laws.specs.Allowance.{Outcome, within}
+use Rattle.laws.proofs.Loops.{Onwards, loop-next, loop-stops, loop-ends}
 use Rattle.bitset.specs.Members.{member}
 use Rattle.drawing.specs.Entries.{Exemption}
 use Rattle.boxes.specs.declared.aabb.Aabb.{Aabb}
@@ -21,7 +21,7 @@ use Rattle.clearance.specs.declared.visit.Walking.{Walking}
 use Rattle.clearance.specs.declared.visit.Walked.{Walked}
 use Rattle.clearance.specs.declared.visit.Walked.the-variants.{Spent, Went}
 use Rattle.clearance.specs.Figures.{Figures, exempt}
-use Rattle.clearance.specs.Tree.{IndexedNode, boundsOf}
+use Rattle.clearance.specs.Tree.{boundsOf}
 use Rattle.clearance_call.specs.Stored.{boxAt, leafAt, storedTree, leavesFrom}
 use Rattle.clearance.specs.Walk.{withPair}
 use Rattle.clearance_call.specs.Marks.{Marked}
@@ -32,7 +32,7 @@ use Rattle.clearance.proofs.Visits.{pair-violations}
 use Rattle.clearance.proofs.Below.{below-number, above-zero}
 use Rattle.clearance_call.proofs.NestedTrees.{stored-same, stored-leaves, nested-box, nested-below}
 use Rattle.clearance_call.proofs.Unpruned.{NumberGap, walk-unpruned}
-use Rattle.clearance_call.proofs.StoredWalk.{near-good, onward-stopped, onward-went, visited-room}
+use Rattle.clearance_call.proofs.StoredWalk.{near-good, visited-room}
 
 -- ---- a visit by the marks of a net is one by its exemptions
 pub by-mark : (marks groups w : List ℕ) (ex : List Exemption) (net : ℕ) → Marked marks groups w ex net → (j : ℕ) → 9 * (j + 1) ≤ length w → (t d : Float) (m : ℕ) (g : Figures) (o : Outcome Figures)
@@ -41,15 +41,16 @@ by-mark marks groups w ex net l j inside t d m g o h = h ∙ ap (λ (b : Bool). 
 
 -- ---- the loop: the leaves before leaf j are visited
 module _ (t : Float) (w : List ℕ) (i n : ℕ) (p : Aabb) (marks groups : List ℕ) (from : Walking) where
-  abbrev run : List Exemption → ℕ → Figures → List IndexedNode → Charged Figures
-  run ex net g l = runs (leafVisit ex t net p) g l
+  -- what all leaves of the part come to
+  abbrev whole : List Exemption → ℕ → Outcome Figures
+  whole ex net = within (from .left) (runs (leafVisit ex t net p) (soFar from) (leavesFrom w i n))
 
   pub record Visiting (state : Walking) (j : ℕ) : Type 0 where
     pub part : Part w i n
     pub begun : i ≤ j
     pub below : j ≤ i + n
     pub room : state .violations + state .left < 2 ^ 64
-    pub onwards : (ex : List Exemption) (net : ℕ) → Marked marks groups w ex net → within (state .left) (run ex net (soFar state) (leavesFrom w j (i + n - j))) ≡ within (from .left) (run ex net (soFar from) (leavesFrom w i n))
+    pub onwards : (ex : List Exemption) (net : ℕ) → Marked marks groups w ex net → Onwards (leafVisit ex t net p) (whole ex net) (leavesFrom w j (i + n - j)) (soFar state) (state .left)
 
   pub visiting-none : Part w i n → from .violations + from .left < 2 ^ 64 → Visiting from i
   visiting-none part room = record {
@@ -57,7 +58,7 @@ module _ (t : Float) (w : List ℕ) (i n : ℕ) (p : Aabb) (marks groups : List 
     begun = omega arith;
     below = omega arith;
     room = room;
-    onwards = λ ex net l. let e : i + n - i ≡ n = omega arith in ap (λ (z : ℕ). within (from .left) (run ex net (soFar from) (leavesFrom w i z))) e;
+    onwards = λ ex net l. let e : i + n - i ≡ n = omega arith in record { come = ap (λ (z : ℕ). within (from .left) (runs (leafVisit ex t net p) (soFar from) (leavesFrom w i z))) e };
   }
 
   module _ (state : Walking) (j : ℕ) (u : Visiting state j) (less : j < i + n) (b : Aabb) (box : b ≡ boxAt w (9 * j)) (d : Float) (e : d ≡ distance p b) (r : Walked)
@@ -65,32 +66,30 @@ module _ (t : Float) (w : List ℕ) (i n : ℕ) (p : Aabb) (marks groups : List 
     now-visited : (ex : List Exemption) (net : ℕ) → Marked marks groups w ex net → outcomeOf r ≡ within (state .left) (leafVisit ex t net p (soFar state) (leafAt w j))
     now-visited ex net l = by-mark marks groups w ex net l j (omega (arith, u .part .inside)) t d (state .left) (soFar state) (outcomeOf r) h ∙ ap (λ (z : Float). within (state .left) (visit (free (withPair (exempt ex net (leafAt w j .id)) t z (soFar state))))) (e ∙ ap (distance p) box)
 
-    split : (ex : List Exemption) (net : ℕ) → within (state .left) (run ex net (soFar state) (leavesFrom w j (i + n - j))) ≡ onward (within (state .left) (leafVisit ex t net p (soFar state) (leafAt w j))) (λ g z. within z (run ex net g (leavesFrom w (j + 1) (i + n - (j + 1)))))
+    next : leavesFrom w j (i + n - j) ≡ leafAt w j ∷ leavesFrom w (j + 1) (i + n - (j + 1))
     unfolding leavesFrom
-    split ex net =
+    next =
         let more : i + n - j ≡ suc (i + n - (j + 1)) = omega arith in
-        let next : suc j ≡ j + 1 = omega arith in
-        ap (λ (z : ℕ). within (state .left) (run ex net (soFar state) (leavesFrom w j z))) more
-        ∙ within-next (leafVisit ex t net p) (state .left) (soFar state) (leafAt w j) (leavesFrom w (suc j) (i + n - (j + 1)))
-        ∙ ap (λ (z : ℕ). onward (within (state .left) (leafVisit ex t net p (soFar state) (leafAt w j))) (λ g y. within y (run ex net g (leavesFrom w z (i + n - (j + 1)))))) next
+        let place : suc j ≡ j + 1 = omega arith in
+        ap (leavesFrom w j) more ∙ ap (λ (z : ℕ). leafAt w j ∷ leavesFrom w z (i + n - (j + 1))) place
 
-    pub visiting-stopped : r ≡ Spent → (ex : List Exemption) (net : ℕ) → Marked marks groups w ex net → outcomeOf Spent ≡ within (from .left) (runs (leafVisit ex t net p) (soFar from) (leavesFrom w i n))
-    visiting-stopped x ex net l = onward-stopped _ _ r x (now-visited ex net l) ∙ sym (split ex net) ∙ u .onwards ex net l
+    pub visiting-stopped : r ≡ Spent → (ex : List Exemption) (net : ℕ) → Marked marks groups w ex net → outcomeOf Spent ≡ whole ex net
+    unfolding outcomeOf
+    visiting-stopped x ex net l = sym (loop-stops (u .onwards ex net l) next (sym (ap outcomeOf (sym x) ∙ now-visited ex net l)))
 
     pub visiting-next : NetMarks marks groups w → (v : Walking) → r ≡ Went v → Visiting v (j + 1)
+    unfolding outcomeOf
     visiting-next some v x = record {
       part = u .part;
       begun = omega (arith, u .begun);
       below = omega arith;
       room = omega (arith, u .room, visited-room (state .left) (soFar state) _ v (pair-violations (some .ex) t (exempt (some .ex) (some .net) (leafAt w j .id)) (distance p (boxAt w (9 * j))) (soFar state)) (ap outcomeOf (sym x) ∙ now-visited (some .ex) (some .net) (some .marked)));
-      onwards = λ ex net l. onward-went _ (λ g z. within z (run ex net g (leavesFrom w (j + 1) (i + n - (j + 1))))) r v x (now-visited ex net l) ∙ sym (split ex net) ∙ u .onwards ex net l;
+      onwards = λ ex net l. loop-next (u .onwards ex net l) next (sym (ap outcomeOf (sym x) ∙ now-visited ex net l));
     }
 
-  pub visiting-all : (state : Walking) (j : ℕ) → Visiting state j → i + n ≤ j → (ex : List Exemption) (net : ℕ) → Marked marks groups w ex net → outcomeOf (Went state) ≡ within (from .left) (runs (leafVisit ex t net p) (soFar from) (leavesFrom w i n))
+  pub visiting-all : (state : Walking) (j : ℕ) → Visiting state j → i + n ≤ j → (ex : List Exemption) (net : ℕ) → Marked marks groups w ex net → outcomeOf (Went state) ≡ whole ex net
   unfolding outcomeOf leavesFrom
-  visiting-all state j u h ex net l =
-      let e : i + n - j ≡ 0 = omega arith in
-      sym (ap (λ (z : ℕ). within (state .left) (run ex net (soFar state) (leavesFrom w j z))) e ∙ within-none (leafVisit ex t net p) (state .left) (soFar state)) ∙ u .onwards ex net l
+  visiting-all state j u h ex net l = let e : i + n - j ≡ 0 = omega arith in sym (loop-ends (u .onwards ex net l) (ap (leavesFrom w j) e))
 
 pub distance-number : (d : Float) (p b : Aabb) → d ≡ distance p b → Number d
 distance-number d p b e = subst Number (sym e) (any-distance-good p b .num .1)

@@ -9,9 +9,9 @@ use borrow.Author.Tests.{le-leb, lt-leb}
 use lib.Dec.{leb}
 use lib.Ieee.{Float, lt}
 use Rattle.laws.specs.Charged.{Charged, free, visit}
-use Rattle.laws.specs.Allowance.{Outcome, spent, left, within, onward}
-use Rattle.laws.proofs.Tests.{le-or-lt, decide}
-use Rattle.laws.proofs.Runs.{within-enough, within-short, within-free}
+use Rattle.laws.specs.Allowance.{Outcome, left, within, onward}
+use Rattle.laws.proofs.Tests.{decide}
+use Rattle.laws.proofs.Runs.{within-left, within-free}
 use Rattle.floats.specs.TotalOrder.{keyOf}
 use Rattle.floats.proofs.Gaps.{Good}
 use Rattle.drawing.specs.Entries.{Segment, Exemption}
@@ -66,14 +66,7 @@ Visited g c = c .value .violations ≤ g .violations + c .cost
 
 pub visited-room : (m : ℕ) (g : Figures) (c : Charged Figures) (v : Walking) → Visited g c → outcomeOf (Went v) ≡ within m c → v .violations + v .left ≤ g .violations + m
 unfolding outcomeOf
-visited-room m g c v h e = elim (le-or-lt (c .cost) m) [
-  | inl q ↦
-      let x : left (soFar v) (v .left) ≡ left (c .value) (m - c .cost) = e ∙ within-enough m c q in
-      let y : soFar v ≡ c .value = cc in
-      let z : v .left ≡ m - c .cost = cc in
-      omega (arith, ap (λ (f : Figures). f .violations) y)
-  | inr q ↦ let x : left (soFar v) (v .left) ≡ spent = e ∙ within-short m c q in let z : _≡_ {A = ℕ} 0 1 = cc in absurd (omega arith)
-]
+visited-room m g c v h e = let p = within-left m c (soFar v) (v .left) (sym e) in omega (arith, p .0, p .2, ap (λ (f : Figures). f .violations) (p .1))
 
 -- the state that a walk hands on has as much room
 pub walk-room : (ex : List Exemption) (t : Float) (s : Segment) (tree : Tree) (st : Walking) (r : Walked) → outcomeOf r ≡ within (st .left) (walk ex t s tree (soFar st)) → (v : Walking) → r ≡ Went v → v .violations + v .left ≤ st .violations + st .left

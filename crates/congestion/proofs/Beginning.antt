@@ -9,12 +9,12 @@ use native.Mathlib.Nat.{le-of-eq}
 use lib.Dec.{T, leb}
 use lib.ListN.{length}
 use borrow.Author.Tests.{le-ltb}
-use Rattle.laws.specs.Lists.{Mem, fold}
+use Rattle.laws.specs.Lists.{Mem, Pairwise, fold}
 use Rattle.laws.proofs.Perms.{perm-sym, perm-mem}
 use Rattle.laws.proofs.Folds.{Monoid, fold-perm}
 use Rattle.congestion.specs.Wires.{Wire}
 use Rattle.congestion.specs.Sweep.{Item, Event, numbered, at, events, inOrder, firstAt, begin}
-use Rattle.congestion.proofs.Sets.{Pairwise, Rising, neighborsIn, congested-same, pairs-same, none-congested, none-paired}
+use Rattle.congestion.proofs.Sets.{Rising, neighborsIn, congested-same, pairs-same, none-congested, none-paired}
 use Rattle.congestion.proofs.Tracking.{facing, row, rowIn, Tracks}
 use Rattle.congestion.proofs.Moments.{Fit, Pending, event, startKey, endKey, key, activeAt, at-order, head-first}
 use Rattle.congestion.proofs.EventOrder.{in-order-perm, in-list, rising-events}

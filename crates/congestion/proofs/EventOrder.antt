@@ -1,5 +1,5 @@
 -- The order of events is the order of their keys, and the events of a numbered list come in rising order. Assumes nothing.
-use mathlib.Core.Path.{_≡_, refl, sym, ap, ap₂, _∙_, subst}
+use mathlib.Core.Path.{_≡_, refl, sym, ap, ap₂, _∙_}
 use mathlib.Core.Logic.{inl, inr}
 use mathlib.Core.List.{List, [], _∷_}
 use mathlib.Core.Bool.{Bool, true, false, cond}
@@ -8,16 +8,15 @@ use native.Mathlib.Omega.{arith}
 use native.Mathlib.Nat.{le-antisymm, mul-le-mul-right}
 use lib.Dec.{leb}
 use borrow.Author.Tests.{le-leb, lt-leb, leb-true}
-use Rattle.laws.specs.Lists.{Mem}
-use Rattle.laws.specs.Perm.{Perm, none, first, swap, via}
+use Rattle.laws.specs.Lists.{Mem, Pairwise}
+use Rattle.laws.specs.Perm.{Perm}
 use Rattle.laws.specs.Rows.{rowLe}
 use Rattle.laws.specs.Sort.{Sorted}
 use Rattle.laws.proofs.Tests.{le-or-lt}
-use Rattle.laws.proofs.Perms.{perm-sym, perm-mem}
+use Rattle.laws.proofs.Perms.{perm-sym, perm-mem, perm-pairwise}
 use Rattle.laws.proofs.RowLaws.{row-less, row-more, row-next, by-rows}
 use Rattle.laws.proofs.Sorting.{sort-perm, sort-sorted}
 use Rattle.congestion.specs.Sweep.{Item, Event, at, eventRow, events, inOrder}
-use Rattle.congestion.proofs.Sets.{Pairwise}
 use Rattle.congestion.proofs.Moments.{Fit, event, key, starts-differ, ends-differ, kinds-differ}
 
 -- ---- "(coordinate, 0 for an end and 1 for a start, index)" as one number
@@ -81,17 +80,6 @@ distinct (i ∷ l) f = (ends-first, (later false, distinct l (record { rise = f 
     ends-first y (inl p) e = kinds-differ (i .wire .end) (i .index) (i .wire .start) (i .index) (f .small i (inl refl)) (f .small i (inl refl)) (e ∙ ap key p)
     ends-first y (inr m) e = later true y m e
 
--- what holds of each two entries either way round holds in every order of the list
-pairwise-perm : {A : Type 0} {R : A → A → Type 0} → ((x y : A) → R x y → R y x) → {l r : List A} → Perm l r → Pairwise R l → Pairwise R r
-pairwise-perm t none w = w
-pairwise-perm t (first p) w = (λ y m. w .0 y (perm-mem y (perm-sym p) m), pairwise-perm t p (w .1))
-pairwise-perm {A} {R} t (swap {x = x} {y = y} {l = l}) w = (ahead, (λ z m. w .0 z (inr m), w .1 .1))
-  where
-    ahead : (z : A) → Mem z (x ∷ l) → R y z
-    ahead z (inl e) = subst (R y) (sym e) (t x y (w .0 y (inl refl)))
-    ahead z (inr m) = w .1 .0 z m
-pairwise-perm t (via p q) w = pairwise-perm t q (pairwise-perm t p w)
-
 -- ---- so they come in rising order
 pub in-order-perm : (l : List Event) → Perm (inOrder l) l
 unfolding inOrder
@@ -116,4 +104,4 @@ module _ (l : List Item) (fit : Fit l) where
   in-list e m = events-inside l e (perm-mem e (in-order-perm (events l)) m)
 
   pub rising-events : Pairwise (λ x y. key x < key y) (inOrder (events l))
-  rising-events = rising-of (inOrder (events l)) (λ e m. fit .small (e .item) (in-list e m)) (in-order-sorted (events l)) (pairwise-perm (λ x y h e. h (sym e)) (perm-sym (in-order-perm (events l))) (distinct l fit))
+  rising-events = rising-of (inOrder (events l)) (λ e m. fit .small (e .item) (in-list e m)) (in-order-sorted (events l)) (perm-pairwise (λ x y h e. h (sym e)) (perm-sym (in-order-perm (events l))) (distinct l fit))

@@ -17,6 +17,7 @@ pub mod RangeFloats
 pub mod Tracking
 pub mod Moments
 pub mod Passing
+pub mod Peaks
 mod EventOrder
 pub mod Beginning
 mod Meetings

@@ -13,7 +13,7 @@ use borrow.Author.Tests.{lt-ltb}
 use Rattle.laws.specs.Lists.{Mem, some-of, fold, bit, sum, pairs}
 use Rattle.laws.specs.Least.{lesser}
 use Rattle.laws.proofs.Tests.{is-true, is-false, same-test}
-use Rattle.laws.proofs.ListLaws.{mem-pairs, both, pairs-map}
+use Rattle.laws.proofs.ListLaws.{mem-pairs, of-pair, both, pairs-map}
 use Rattle.laws.proofs.Folds.{Monoid, plus, greatest, idr, exchange, fold-same, fold-both, fold-unit, fold-map, fold-fold, fold-square, at-most-greatest}
 use Rattle.congestion.specs.Wires.{Wire}
 use Rattle.congestion.specs.Cells.{cellsFrom, cells, covers}
@@ -21,10 +21,11 @@ use Rattle.congestion.specs.Figures.{apart, near, overlaps, overlap, clo
 use Rattle.congestion.specs.Sweep.{Item, numbered, events, inOrder, inRange, nonzero, gap, begin, oriented}
 use Rattle.congestion.proofs.FoldLaws.{fewest, lesser-same, fold-chosen, sum-const, some-count}
 use Rattle.congestion.proofs.CellLaws.{covers-from, covers-to, is-covered, length-cells, cells-unit, cells-within}
-use Rattle.congestion.proofs.Sets.{of-pair, neighborsIn, congestedIn, pairsIn, congested-same, pairs-same, none-congested, none-paired}
+use Rattle.congestion.proofs.Sets.{neighborsIn, congestedIn, pairsIn, congested-same, pairs-same, none-congested, none-paired}
 use Rattle.congestion.proofs.Tracking.{facing, facing-sym, facing-irr, eqb-turn}
 use Rattle.congestion.proofs.Moments.{Fit, startKey, endKey, activeAt, off-before, on-before}
-use Rattle.congestion.proofs.Passing.{on, run-sum, run-cost, run-least, run-peak}
+use Rattle.congestion.proofs.Passing.{on, run-sum, run-cost, run-least}
+use Rattle.congestion.proofs.Peaks.{tops, run-peak}
 use Rattle.congestion.proofs.Beginning.{Sound, wires-of, of-numbered, fit-numbered, fold-events, pending, tracks, from-first, at-bound}
 use Rattle.congestion.proofs.Meetings.{ends-once, starts-once}
 
@@ -132,15 +133,20 @@ module _ (c : ℕ) (L : List Wire) (sound : Sound L) (alike : (s t : Wire) → M
       (λ i m. own-cells plus i m (λ b k. bit (b && not (eqb (neighborsIn (facing c) l (on k) i) 0))) (λ k. bit (not (eqb (neighborsOn c L (i .wire) k) 0))) (λ k. refl) (λ k x y. ap (λ (n : ℕ). bit (not (eqb n 0))) (sym (neighbors-on-is i m k x y))) ∙ sym (stretches-are c L (i .wire)))
       ∙ sym (fold-numbered plus (stretches c L) L)
 
+  -- the greatest of any count N over all cells is the greatest wire by wire, where g is the count on a cell of a wire
+  pub tops-are : (N : (Item → Bool) → Item → ℕ) (g : Wire → ℕ → ℕ) → ((i : Item) → Mem i l → (k : ℕ) → i .wire .start ≤ k → k < i .wire .end → g (i .wire) k ≡ N (on k) i) → tops l N hi lo ≡ fold max 0 (λ s. fold max 0 (g s) (cells s)) L
+  tops-are N g on-cell =
+      sym (fold-fold greatest (λ i k. cond (on k i) (N (on k) i) 0) l (cellsFrom lo (hi - lo)))
+      ∙ fold-same greatest (λ i. fold max 0 (λ k. cond (on k i) (N (on k) i) 0) (cellsFrom lo (hi - lo))) (λ i. fold max 0 (g (i .wire)) (cells (i .wire))) l
+      (λ i m. own-cells greatest i m (λ b k. cond b (N (on k) i) 0) (g (i .wire)) (λ k. refl) (λ k x y. sym (on-cell i m k x y)))
+      ∙ sym (fold-numbered greatest (λ s. fold max 0 (g s) (cells s)) L)
+
   pub peak-is : oriented c L .value .peakCloseNeighbors ≡ peak c L
   unfolding oriented peak
   peak-is =
       run-peak c l fit hi ended 0 (inOrder (events l)) (begin l) (pending c l fit) (tracks c l fit)
       ∙ greatest .idl _
-      ∙ sym (fold-fold greatest (λ i k. cond (on k i) (neighborsIn (facing c) l (on k) i) 0) l (cellsFrom lo (hi - lo)))
-      ∙ fold-same greatest (λ i. fold max 0 (λ k. cond (on k i) (neighborsIn (facing c) l (on k) i) 0) (cellsFrom lo (hi - lo))) (λ i. fold max 0 (neighborsOn c L (i .wire)) (cells (i .wire))) l
-      (λ i m. own-cells greatest i m (λ b k. cond b (neighborsIn (facing c) l (on k) i) 0) (neighborsOn c L (i .wire)) (λ k. refl) (λ k x y. sym (neighbors-on-is i m k x y)))
-      ∙ sym (fold-numbered greatest (λ s. fold max 0 (neighborsOn c L s) (cells s)) L)
+      ∙ tops-are (neighborsIn (facing c) l) (neighborsOn c L) neighbors-on-is
 
   -- ---- pairs: n where they are in range, o where their nets differ, v where they overlap
   shared : (i j : Item) → Mem i l → (n o v : Bool) → overlaps (i .wire) (j .wire) ≡ v → sum (λ k. bit (on k i && (on k j && (n && o)))) (cellsFrom lo (hi - lo)) ≡ cond ((n && v) && o) (overlap (i .wire) (j .wire)) 0

@@ -1,35 +1,18 @@
 -- What one item more does to the counts over a set of items. The counts of the sweep are these, of the active set. Assumes nothing.
 use mathlib.Core.Path.{_≡_, refl, sym, ap, ap₂, _∙_, subst}
 use mathlib.Core.Logic.{inl, inr}
-use mathlib.Core.List.{List, [], _∷_}
+use mathlib.Core.List.{List, _∷_}
 use mathlib.Core.Bool.{Bool, true, false, not, _&&_, _||_, cond}
-use Prim.Native.Nat.{ℕ, _+_, _<_}
+use Prim.Native.Nat.{ℕ, _+_, _≤_, _<_}
 use native.Mathlib.Omega.{arith}
 use lib.Dec.{T, eqb, eqb→eq, eqb-refl}
+use lib.Ieee.Fits.{and-l, and-r, and-i}
 use borrow.Author.Tests.{ne-eqb}
-use Rattle.laws.specs.Lists.{Mem, All, fold, bit, sum, count, beside, pairs}
+use Rattle.laws.specs.Lists.{Mem, Pairwise, fold, bit, sum, count, pairs}
 use Rattle.laws.proofs.Tests.{clash, is-true}
-use Rattle.laws.proofs.ListLaws.{all-mem, all-append, mem-pairs}
-use Rattle.laws.proofs.Folds.{Monoid, plus, idr, fold-same, fold-both, fold-unit, fold-square}
+use Rattle.laws.proofs.ListLaws.{mem-pairs}
+use Rattle.laws.proofs.Folds.{Monoid, plus, idr, fold-same, fold-both, fold-unit, fold-square, count-grows}
 use Rattle.congestion.specs.Sweep.{Item, same}
-
--- R holds of each entry and each later one
-abbrev pub Pairwise : {A : Type 0} → (A → A → Type 0) → List A → Type 0
-Pairwise R [] = Unit {0}
-Pairwise R (x ∷ l) = ((y : _) → Mem y l → R x y) × Pairwise R l
-
--- so it holds of each pair
-pub of-pair : {A : Type 0} (R : A → A → Type 0) (l : List A) → Pairwise R l → (p : A × A) → Mem p (pairs l) → R (p .0) (p .1)
-unfolding pairs
-of-pair {A} R l w = all-mem (λ (p : A × A). R (p .0) (p .1)) (pairs l) (every l w)
-  where
-    row : (x : A) (l : List A) → ((y : A) → Mem y l → R x y) → All (λ (p : A × A). R (p .0) (p .1)) (beside x l)
-    row x [] h = tt
-    row x (y ∷ l) h = (h y (inl refl), row x l (λ z m. h z (inr m)))
-
-    every : (l : List A) → Pairwise R l → All (λ (p : A × A). R (p .0) (p .1)) (pairs l)
-    every [] w = tt
-    every (x ∷ l) w = all-append (λ (p : A × A). R (p .0) (p .1)) (beside x l) (pairs l) (row x l (w .0)) (every l (w .1))
 
 -- ---- indices rise along the list, so that an index belongs to one item
 abbrev pub Rising : List Item → Type 0
@@ -77,6 +60,10 @@ module _ (R : Item → Item → Bool) (l : List Item) (v w : Item → Bool) (eq 
   pub pairs-same : pairsIn R l v ≡ pairsIn R l w
   pairs-same = fold-same plus (λ p. bit (v (p .0) && (v (p .1) && R (p .0) (p .1)))) (λ p. bit (w (p .0) && (w (p .1) && R (p .0) (p .1)))) (pairs l)
       (λ p m. let h = mem-pairs p l m in ap₂ (λ (a b : Bool). bit (a && (b && R (p .0) (p .1)))) (eq (p .0) (h .0)) (eq (p .1) (h .1)))
+
+-- a wider set has no fewer neighbors
+pub neighbors-grow : (R : Item → Item → Bool) (l : List Item) (v w : Item → Bool) → ((j : Item) → Mem j l → T (v j) → T (w j)) → (i : Item) → neighborsIn R l v i ≤ neighborsIn R l w i
+neighbors-grow R l v w h i = count-grows (λ j. v j && R i j) (λ j. w j && R i j) l (λ j m t. and-i (w j) (R i j) (h j m (and-l (v j) (R i j) t)) (and-r (v j) (R i j) t))
 
 -- nothing is counted of the empty set
 module _ (R : Item → Item → Bool) (l : List Item) where

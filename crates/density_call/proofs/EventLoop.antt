@@ -3,21 +3,20 @@ use mathlib.Core.Path.{_≡_, refl, sym, ap, ap₂, _∙_, subst}
 use mathlib.Core.Logic.{inl, inr}
 use mathlib.Core.Bool.{Bool, false}
 use mathlib.Core.List.{List, [], _∷_, map, map-map}
-use mathlib.Core.Option.{none}
 use Prim.Native.Nat.{ℕ, zero, suc, _+_, _-_, _*_, _/_, _%_, _^_, _≤_, _<_}
-use native.Mathlib.Numerals.{add-one}
 use native.Mathlib.Omega.{arith}
 use native.Mathlib.Nat.{le-of-eq, add-sub-of-le, lt-of-le-of-lt, le-of-suc-le-suc, not-suc-le-zero}
 use lib.Ieee.{Float, binary64, inf, ofBits}
-use lib.ListN.{length, getD, take, drop, length-map, length-drop, drop-of-length-le, List·getD-map}
-use lib.Seq.{drop-cons, getD-take, getD-drop, length-take-le}
+use lib.ListN.{length, getD, drop, length-map, length-drop}
+use lib.Seq.{getD-drop}
 use Rattle.laws.specs.Lists.{Mem}
 use Rattle.laws.specs.Charged.{Charged, runs}
-use Rattle.laws.specs.Allowance.{Outcome, left, within, onward}
+use Rattle.laws.specs.Allowance.{left, within}
 use Rattle.laws.proofs.Tests.{le-or-lt}
 use Rattle.laws.proofs.Places.{first-at}
 use Rattle.laws.proofs.ListLaws.{mem-map, map-same}
-use Rattle.laws.proofs.Runs.{within-none, within-next, within-enough, within-short, onward-spent, onward-left}
+use Rattle.laws.proofs.Runs.{within-enough, within-short}
+use Rattle.laws.proofs.Loops.{Onwards, loop-next, loop-stops, loop-ends, told-next, told-none}
 use Rattle.sorting.specs.Sorted.{upTo}
 use Rattle.sorting.proofs.Entries.{upTo-below, upTo-entries, upTo-placed}
 use Rattle.bitset.specs.Members.{member}
@@ -145,7 +144,7 @@ module _ (s₀ : List ℕ) (n allowance : ℕ) (a : AtFirst s₀ n) where
     pub follows : Follows state st
     pub reached : Reached (a .c) items (drop q order) st
     pub whole : run (a .c) (drop q order) st ≡ all .value
-    pub onwards : within (state .left) (runs (step (a .c)) st (drop q order)) ≡ within allowance all
+    pub onwards : Onwards (step (a .c)) (within allowance all) (drop q order) st (state .left)
 
   -- event q, and those behind it
   module _ (s : List ℕ) (room : 10 * n + 1 ≤ length s) (tabled : Tabled (a .c) (a .L) s) (q : ℕ) where
@@ -155,17 +154,14 @@ module _ (s₀ : List ℕ) (n allowance : ℕ) (a : AtFirst s₀ n) where
     long : 2 * length (a .L) ≤ length s
     long = omega (arith, a .size)
 
-    order-long : length order ≡ 2 * n
-    order-long = ap length (sym (tabled .ordered)) ∙ length-map (take (2 * length (a .L)) s) (eventAt (a .L)) ∙ length-take-le (2 * length (a .L)) s long ∙ ap (λ (k : ℕ). 2 * k) (a .size)
-
     number-small : q < 2 * n → number < 2 * n
     number-small h = omega (arith, a .size, first-at (λ e. e < 2 * length (a .L)) 0 (2 * length (a .L)) s long (tabled .small) q (omega (arith, a .size)))
 
     next-is : q < 2 * n → drop q order ≡ eventAt (a .L) number ∷ drop (q + 1) order
-    next-is h =
-        let none = eventAt (a .L) 0 in
-        let here : getD order q none ≡ eventAt (a .L) number = ap (λ (l : List Event). getD l q none) (sym (tabled .ordered)) ∙ List·getD-map (eventAt (a .L)) (take (2 * length (a .L)) s) q 0 ∙ ap (eventAt (a .L)) (getD-take (2 * length (a .L)) s q 0 (omega (arith, a .size))) in
-        rw (add-one q) (drop-cons order q none (omega (arith, order-long)) ∙ ap (λ (e : Event). e ∷ drop (suc q) order) here)
+    next-is h = told-next 0 (eventAt (a .L)) (2 * length (a .L)) s long order (tabled .ordered) q (omega (arith, a .size))
+
+    none-ahead : 2 * n ≤ q → drop q order ≡ []
+    none-ahead h = told-none 0 (eventAt (a .L)) (2 * length (a .L)) s long order (tabled .ordered) q (omega (arith, a .size))
 
   -- ---- before the first event
   pub going-first : (x top : Float) → x ≡ floatAt (getD s₀ (2 * n + getD s₀ 0 0) 0) → top ≡ inf false → Going (record { «congested_active» = 0; «congested_length» = ofBits binary64 0; «close_pairs» = 0; «pair_overlap_length» = ofBits binary64 0; «peak_close_neighbors» = 0; «minimum_positive» = top; previous = x; left = allowance }) s₀ 0
@@ -192,7 +188,7 @@ module _ (s₀ : List ℕ) (n allowance : ℕ) (a : AtFirst s₀ n) where
     };
     reached = at-first (a .c) items fit;
     whole = refl;
-    onwards = refl;
+    onwards = record { come = refl };
   }
     where
       first : order ≡ eventAt (a .L) (getD s₀ 0 0) ∷ drop 1 order
@@ -239,15 +235,12 @@ module _ (s₀ : List ℕ) (n allowance : ℕ) (a : AtFirst s₀ n) where
       abbrev taken : Charged State
       taken = step (a .c) (g .st) now
 
-      split : within allowance all ≡ onward (within (state .left) taken) (λ t m. within m (runs (step (a .c)) t rest))
-      split = sym (g .onwards) ∙ ap (λ (l : List Event). within (state .left) (runs (step (a .c)) (g .st) l)) ahead ∙ within-next (step (a .c)) (state .left) (g .st) now rest
-
       module _ (r : Handled) (t : List ℕ) (steps : Steps (a .c) (a .L) n (g .st) now t (state .left) r) where
         pub going-stops : r ≡ Spent → Short ≡ sweptOf (within allowance all)
         unfolding sweptOf
         going-stops e = elim (le-or-lt (taken .cost) (state .left)) [
           | inl h ↦ never (steps .1 h .to) (sym (steps .1 h .went) ∙ e)
-          | inr h ↦ sym (ap sweptOf (split ∙ ap (λ (o : Outcome State). onward o (λ t m. within m (runs (step (a .c)) t rest))) (within-short (state .left) taken h) ∙ onward-spent (λ t m. within m (runs (step (a .c)) t rest))))
+          | inr h ↦ sym (ap sweptOf (loop-stops (g .onwards) ahead (within-short (state .left) taken h)))
         ]
 
         pub going-next : (to : Sweeping) → r ≡ Went to → length t ≡ length s → Going to t (q + 1)
@@ -258,7 +251,6 @@ module _ (s₀ : List ℕ) (n allowance : ℕ) (a : AtFirst s₀ n) where
               let o = steps .1 h in
               let is : o .to ≡ to = same-state (o .to) to (sym (o .went) ∙ e) in
               let remains : to .left ≡ state .left - taken .cost = sym (ap (λ (z : Sweeping). z .left) is) ∙ o .left in
-              let on : State → ℕ → Outcome State = λ t m. within m (runs (step (a .c)) t rest) in
               record {
                 st = taken .value;
                 room = omega (arith, g .room);
@@ -267,7 +259,7 @@ module _ (s₀ : List ℕ) (n allowance : ℕ) (a : AtFirst s₀ n) where
                 follows = subst (λ (z : Sweeping). Follows z (taken .value)) is (o .follows);
                 reached = one-more (a .c) items fit now rest (g .st) reached-now;
                 whole = whole-now;
-                onwards = ap (λ (m : ℕ). within m (runs (step (a .c)) (taken .value) rest)) remains ∙ sym (split ∙ ap (λ (z : Outcome State). onward z on) (within-enough (state .left) taken h) ∙ onward-left (taken .value) (state .left - taken .cost) on);
+                onwards = loop-next (g .onwards) ahead (within-enough (state .left) taken h ∙ ap (left (taken .value)) (sym remains));
               }
         ]
 
@@ -276,8 +268,7 @@ module _ (s₀ : List ℕ) (n allowance : ℕ) (a : AtFirst s₀ n) where
     unfolding sweptOf
     going-all h r f =
         let gap = f ∙ ap gapOfFloat (g .follows .least) ∙ gap-again (g .st .minimumPositive) (g .follows .held) in
-        let e : drop q order ≡ [] = drop-of-length-le order {i = q} (omega (arith, order-long s (g .room) (g .tabled) q)) in
-        let z : within allowance all ≡ left (g .st) (state .left) = sym (g .onwards) ∙ ap (λ (l : List Event). within (state .left) (runs (step (a .c)) (g .st) l)) e ∙ within-none (step (a .c)) (state .left) (g .st) in
+        let z : within allowance all ≡ left (g .st) (state .left) = loop-ends (g .onwards) (none-ahead s (g .room) (g .tabled) q h) in
         (λ i. Done (record { «congested_length» = g .follows .congested i; «pair_overlap_length» = g .follows .overlap i; «peak_close_neighbors» = g .follows .peak i; «minimum_positive» = gap i; left = state .left })) ∙ sym (ap sweptOf z)
 
 pub first-small : (s₀ : List ℕ) (n : ℕ) → AtFirst s₀ n → getD s₀ 0 0 < 2 * n

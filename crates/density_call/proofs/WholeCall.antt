@@ -1,13 +1,10 @@
 -- The whole call: the answer from what the sweep came to. Assumes nothing.
 use mathlib.Core.Path.{_≡_, refl, sym, ap, _∙_}
-use mathlib.Core.Logic.{inl, inr}
 use Prim.Native.Nat.{ℕ, _-_}
-use native.Mathlib.Omega.{arith}
 use lib.Ieee.{Float}
 use Rattle.laws.specs.Charged.{Charged}
 use Rattle.laws.specs.Allowance.{Outcome, spent, left, within, reply}
-use Rattle.laws.proofs.Tests.{le-or-lt}
-use Rattle.laws.proofs.Runs.{within-enough, within-short, settle-within}
+use Rattle.laws.proofs.Runs.{within-left, settle-within}
 use Rattle.drawing.specs.declared.gap.Gap.{Gap}
 use Rattle.drawing.specs.declared.refusal.Refusal.{Refusal}
 use Rattle.drawing.specs.declared.refusal.Refusal.the-variants.{WorkLimitExceeded}
@@ -56,16 +53,7 @@ module _ (c : SegmentColumns) (cutoff : Float) (allowance words : ℕ) where
 
     -- the rounded sum over all segments is the total length of the report
     same-total : (total : Float) → total ≡ roundedTotal (segments c) → (p : Profile) (m : ℕ) → within allowance report ≡ left p m → total ≡ p .0 .«total_length»
-    same-total total t p m e = elim (le-or-lt (report .cost) allowance) [
-      | inl q ↦ t ∙ report-exact cutoff (segments c) (fit-list c cutoff words passed) .total ∙ ap (λ (v : Profile). v .0 .«total_length») (same-value _ _ _ _ (sym (within-enough allowance report q) ∙ e))
-      | inr q ↦ absurd (never _ _ (sym (within-short allowance report q) ∙ e))
-    ]
-      where
-        same-value : (v w : Profile) (k n : ℕ) → left v k ≡ left w n → v ≡ w
-        same-value v w k n e = cc
-
-        never : (v : Profile) (k : ℕ) → spent ≡ left v k → ⊥
-        never v k e = let z : _≡_ {A = ℕ} 0 1 = cc in omega arith
+    same-total total t p m e = t ∙ report-exact cutoff (segments c) (fit-list c cutoff words passed) .total ∙ ap (λ (v : Profile). v .0 .«total_length») (within-left allowance report p m e .1)
 
     pub passed-answer : (r : Swept) → r ≡ foundOf (within allowance report) → (total : Float) → total ≡ roundedTotal (segments c) → (a : CongestionAnswer) → a ≡ answerOf r total allowance → a ≡ densityAnswer c cutoff allowance words
     unfolding densityAnswer settled

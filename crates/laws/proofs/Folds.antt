@@ -6,6 +6,7 @@ use mathlib.Core.Bool.{Bool, true, false}
 use Prim.Native.Nat.{ℕ, suc, _+_, _*_, _≤_, max, zero-le}
 use native.Mathlib.Nat.{le-refl, suc-mul}
 use native.Mathlib.Omega.{arith}
+use lib.Dec.{T}
 use lib.ListN.{length}
 use Rattle.laws.specs.Lists.{Mem, fold, bit, sum, count, chosen, put, beside, pairs}
 use Rattle.laws.specs.Perm.{Perm, none, first, swap, via}
@@ -110,6 +111,18 @@ module _ {A : Type 0} where
       go : (b : Bool) (m n : ℕ) → m ≤ n → bit b + m ≤ suc n
       go true m n h = omega arith
       go false m n h = omega arith
+
+  -- a wider test counts no fewer
+  pub count-grows : (p q : A → Bool) (l : List A) → ((x : A) → Mem x l → T (p x) → T (q x)) → count p l ≤ count q l
+  unfolding fold
+  count-grows p q [] h = le-refl 0
+  count-grows p q (x ∷ l) h = go (p x) (q x) (count p l) (count q l) (h x (inl refl)) (count-grows p q l (λ y m. h y (inr m)))
+    where
+      go : (a b : Bool) (m n : ℕ) → (T a → T b) → m ≤ n → bit a + m ≤ bit b + n
+      go true true m n h p = omega arith
+      go true false m n h p = absurd (h tt)
+      go false true m n h p = omega arith
+      go false false m n h p = omega arith
 
   pub count-chosen : {C : Type 0} (p : A → Bool) (h : A → C) (l : List A) → count p l ≡ length (chosen p h l)
   unfolding fold chosen

@@ -9,6 +9,8 @@ pub mod RowLaws
 pub mod Sorting
 pub mod SortedLists
 pub mod Leasts
+pub mod Differents
 pub mod Runs
+pub mod Loops
 pub mod Parts
 pub mod Columns

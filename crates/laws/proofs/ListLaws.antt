@@ -9,7 +9,7 @@ use native.Mathlib.Omega.{arith}
 use native.Mathlib.Numerals.{add-one}
 use lib.ListN.{length, getD, drop, length-append, drop-of-length-le}
 use lib.Seq.{drop-cons}
-use Rattle.laws.specs.Lists.{Mem, All, every, some-of, put, chosen, beside, cross, pairs}
+use Rattle.laws.specs.Lists.{Mem, All, Pairwise, every, some-of, put, chosen, beside, cross, pairs}
 use Rattle.laws.proofs.Tests.{clash, and-left, and-right, and-both, or-elim, or-left, or-right, neither-left, neither-right}
 
 -- functions that agree on the entries map alike
@@ -194,6 +194,19 @@ module _ {A : Type 0} where
     | inl a ↦ inl (append-right (x, y) (beside z l) (pairs l) a)
     | inr b ↦ inr (append-right (y, x) (beside z l) (pairs l) b)
   ]
+
+  -- what holds of each entry and each later one holds of each pair
+  pub of-pair : (R : A → A → Type 0) (l : List A) → Pairwise R l → (p : A × A) → Mem p (pairs l) → R (p .0) (p .1)
+  unfolding pairs
+  of-pair R l w = all-mem (λ (p : A × A). R (p .0) (p .1)) (pairs l) (each l w)
+    where
+      row : (x : A) (l : List A) → ((y : A) → Mem y l → R x y) → All (λ (p : A × A). R (p .0) (p .1)) (beside x l)
+      row x [] h = tt
+      row x (y ∷ l) h = (h y (inl refl), row x l (λ z m. h z (inr m)))
+
+      each : (l : List A) → Pairwise R l → All (λ (p : A × A). R (p .0) (p .1)) (pairs l)
+      each [] w = tt
+      each (x ∷ l) w = all-append (λ (p : A × A). R (p .0) (p .1)) (beside x l) (pairs l) (row x l (w .0)) (each l (w .1))
 
 -- both entries of a pair under g
 abbrev pub both : {A B : Type 0} → (A → B) → A × A → B × B

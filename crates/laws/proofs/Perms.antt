@@ -7,7 +7,7 @@ use Prim.Native.Nat.{ℕ, zero, suc, _+_, _<_}
 use native.Mathlib.Nat.{not-suc-le-zero, le-of-suc-le-suc}
 use native.Mathlib.Omega.{arith}
 use lib.ListN.{length, getD, set}
-use Rattle.laws.specs.Lists.{Mem, All, some-of, chosen, put, fold, bit, count, beside, cross, pairs}
+use Rattle.laws.specs.Lists.{Mem, All, Pairwise, some-of, chosen, put, fold, bit, count, beside, cross, pairs}
 use Rattle.laws.specs.Perm.{Perm, none, first, swap, via}
 use Rattle.laws.proofs.Tests.{or-swap}
 use Rattle.laws.proofs.ListLaws.{chosen-append}
@@ -47,6 +47,17 @@ module _ {A : Type 0} where
   perm-all P (first p) h = (h .0, perm-all P p (h .1))
   perm-all P swap h = (h .1 .0, (h .0, h .1 .1))
   perm-all P (via p q) h = perm-all P q (perm-all P p h)
+
+  -- what holds of each two entries either way round holds in every order of the list
+  pub perm-pairwise : {R : A → A → Type 0} → ((x y : A) → R x y → R y x) → {l r : List A} → Perm l r → Pairwise R l → Pairwise R r
+  perm-pairwise t none w = w
+  perm-pairwise t (first p) w = (λ y m. w .0 y (perm-mem y (perm-sym p) m), perm-pairwise t p (w .1))
+  perm-pairwise {R} t (swap {x = x} {y = y} {l = l}) w = (ahead, (λ z m. w .0 z (inr m), w .1 .1))
+    where
+      ahead : (z : A) → Mem z (x ∷ l) → R y z
+      ahead z (inl e) = subst (R y) (sym e) (t x y (w .0 y (inl refl)))
+      ahead z (inr m) = w .1 .0 z m
+  perm-pairwise t (via p q) w = perm-pairwise t q (perm-pairwise t p w)
 
   -- ---- joined lists
   pub perm-right : (l : List A) {m r : List A} → Perm m r → Perm (l ++ m) (l ++ r)

@@ -23,6 +23,12 @@ after-after c f g = let e = add-assoc (c .cost) (f (c .value) .cost) (g (f (c .v
 
 -- ---- a run within an allowance
 module _ {A : Type 0} where
+  left-parts : {a b : A} {k n : ℕ} → left a k ≡ left b n → (a ≡ b) × (k ≡ n)
+  left-parts e = (cc, cc)
+
+  not-spent : {a : A} {k : ℕ} → spent ≡ left a k → ⊥
+  not-spent e = let z : _≡_ {A = ℕ} 0 1 = cc in omega arith
+
   pub within-enough : (m : ℕ) (c : Charged A) → c .cost ≤ m → within m c ≡ left (c .value) (m - c .cost)
   unfolding within
   within-enough m c h = cond-true (leb (c .cost) m) _ _ (le-leb (c .cost) m h)
@@ -30,6 +36,16 @@ module _ {A : Type 0} where
   pub within-short : (m : ℕ) (c : Charged A) → m < c .cost → within m c ≡ spent
   unfolding within
   within-short m c h = cond-false (leb (c .cost) m) _ _ (lt-leb (c .cost) m h)
+
+  -- what an outcome tells of its run
+  pub within-left : (m : ℕ) (c : Charged A) (a : A) (k : ℕ) → within m c ≡ left a k → (c .cost ≤ m) × (c .value ≡ a) × (m - c .cost ≡ k)
+  within-left m c a k e = elim (le-or-lt (c .cost) m) [
+    | inl h ↦ let p = left-parts (sym (within-enough m c h) ∙ e) in (h, p .0, p .1)
+    | inr h ↦ absurd (not-spent (sym (within-short m c h) ∙ e))
+  ]
+
+  pub within-spent : (m : ℕ) (c : Charged A) → within m c ≡ spent → m < c .cost
+  within-spent m c e = elim (le-or-lt (c .cost) m) [ inl h ↦ absurd (not-spent (sym e ∙ within-enough m c h)) | inr h ↦ h ]
 
   pub within-free : (m : ℕ) (a : A) → within m (free a) ≡ left a m
   within-free m a = within-enough m (free a) (omega arith) ∙ ap (left a) (omega arith)
@@ -64,6 +80,20 @@ module _ {A B : Type 0} where
       second : c .cost ≤ m → (k (c .value) .cost ≤ m - c .cost) ⊎ (m - c .cost < k (c .value) .cost) → within m (after c k) ≡ within (m - c .cost) (k (c .value))
       second h (inl g) = within-enough m (after c k) (omega arith) ∙ ap (left (k (c .value) .value)) (omega arith) ∙ sym (within-enough (m - c .cost) (k (c .value)) g)
       second h (inr g) = within-short m (after c k) (omega arith) ∙ sym (within-short (m - c .cost) (k (c .value)) g)
+
+  -- ---- a run of which only f of the value is read
+  module _ (f : A → B) (m : ℕ) (c : Charged A) where
+    pub within-read : onward (within m c) (λ a k. left (f a) k) ≡ within m (record { value = f (c .value); cost = c .cost })
+    within-read = elim (le-or-lt (c .cost) m) [
+      | inl h ↦ rw (within-enough m c h) (onward-left (c .value) (m - c .cost) (λ a k. left (f a) k)) ∙ sym (within-enough m (record { value = f (c .value); cost = c .cost }) h)
+      | inr h ↦ rw (within-short m c h) (onward-spent (λ a k. left (f a) k)) ∙ sym (within-short m (record { value = f (c .value); cost = c .cost }) h)
+    ]
+
+    pub read-left : (b : B) (k : ℕ) → onward (within m c) (λ a k. left (f a) k) ≡ left b k → (within m c ≡ left (c .value) k) × (f (c .value) ≡ b)
+    read-left b k e = let r = within-left m (record { value = f (c .value); cost = c .cost }) b k (sym within-read ∙ e) in (within-enough m c (r .0) ∙ ap (left (c .value)) (r .2), r .1)
+
+    pub read-spent : onward (within m c) (λ a k. left (f a) k) ≡ spent → within m c ≡ spent
+    read-spent e = within-short m c (within-spent m (record { value = f (c .value); cost = c .cost }) (sym within-read ∙ e))
 
 -- ---- a run for each entry of a list
 module _ {S X : Type 0} (step : S → X → Charged S) where

@@ -3,6 +3,7 @@ pub mod Lists
 pub mod Perm
 pub mod Sort
 pub mod Rows
+pub mod Different
 pub mod Least
 pub mod Charged
 pub mod Allowance

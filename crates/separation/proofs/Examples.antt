@@ -8,6 +8,7 @@ use lib.Ieee.{Float, inf, binary64, ofBits, ofFields, toBits, round, units, odd,
 use Rattle.laws.specs.Lists.{some-of, chosen, pairs}
 use Rattle.laws.specs.Rows.{rowLe}
 use Rattle.laws.specs.Sort.{insertBy, sortBy}
+use Rattle.laws.specs.Different.{distinct}
 use Rattle.laws.specs.Least.{lesser, least}
 use Rattle.laws.specs.Charged.{runs, settle}
 use Rattle.floats.specs.Values.{plusZero, canonicalZero, lesserOf, greaterOf, absOf, gapOf}
@@ -24,7 +25,7 @@ use Rattle.drawing.specs.Checks.{segmentsDiffer, separationConditions}
 use Rattle.rows.specs.Rows.{fixedOf, startOf, endOf, rowOf, words, oriented, moment, eventsFrom, events}
 use Rattle.separation.specs.declared.report.SeparationAnswer.the-variants.{Refused}
 use Rattle.separation.specs.Figures.{overlapping, counted, gapBetween, gaps, nonzero, leastOf, figures}
-use Rattle.separation.specs.Lines.{distinct, lines, index, levels}
+use Rattle.separation.specs.Lines.{lines, index, levels}
 use Rattle.separation.specs.Searches.{otherIn, rightmost, leftmost, setRun}
 use Rattle.separation.specs.Walk.{nothing, lesserFigures, same, remove, looking, startsAt, endsAt, step, sweep, along, walkAll, visitCount}
 use Rattle.separation.specs.Answer.{accepted, allPairs, separationAnswer, resultOf}

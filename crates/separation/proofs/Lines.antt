@@ -1,26 +1,27 @@
 -- The different fixed values rise, each at its index; and what it means that another net is active on a range of them. Assumes nothing.
-use mathlib.Core.Path.{_≡_, refl, sym, ap, _∙_}
+use mathlib.Core.Path.{_≡_, sym, ap, _∙_}
 use mathlib.Core.Logic.{_⊎_, inl, inr}
 use mathlib.Core.List.{List, [], _∷_, map}
-use mathlib.Core.Bool.{Bool, true, false, not, _&&_, _||_}
+use mathlib.Core.Bool.{true, not, _&&_, _||_}
 use Prim.Native.Nat.{ℕ, suc, _-_, _+_, _*_, _^_, _≤_, _<_}
 use native.Mathlib.Nat.{le-refl, le-antisymm, pow-succ'}
 use native.Mathlib.Omega.{arith}
-use borrow.Author.Tests.{lt-ltb, le-ltb, ltb-true, leb-true, le-leb, eqb-true, eqb-false, ne-eqb, not-true, not-false}
+use borrow.Author.Tests.{lt-ltb, le-ltb, ltb-true, leb-true, le-leb, eqb-false, ne-eqb, not-true}
 use lib.Dec.{ltb, leb, eqb}
 use lib.ListN.{length, getD}
 use lib.Ieee.Digits.{size-lt, size-le}
 use lib.Pow.{pow-pos, pow-mono}
 use lib.Count.{leadingZeros, leading-length}
 use lib.Ieee.{size}
-use Rattle.laws.specs.Lists.{Mem, put, some-of}
+use Rattle.laws.specs.Lists.{Mem, Pairwise, some-of}
 use Rattle.laws.specs.Rows.{rowLe}
 use Rattle.laws.specs.Sort.{Sorted}
 use Rattle.laws.proofs.Tests.{clash, and-left, and-right, and-both, le-or-lt, or-elim, or-left, or-right}
 use Rattle.laws.proofs.ListLaws.{mem-map, map-mem, some-mem, mem-some}
 use Rattle.laws.proofs.RowLaws.{row-more}
+use Rattle.laws.proofs.Differents.{mem-distinct, distinct-rising}
 use Rattle.rows.specs.Rows.{Row, words, rowsInOrder}
-use Rattle.separation.specs.Lines.{differs, distinct, lines, index, levels}
+use Rattle.separation.specs.Lines.{lines, index, levels}
 use Rattle.separation.specs.Searches.{otherIn}
 use Rattle.separation.proofs.Summaries.{otherThan, both}
 
@@ -56,51 +57,7 @@ lines-in-order (r ∷ l) s = (λ p m. let g = mem-map (λ (t : Row). t .line) l 
 
 -- ---- of values in order the different ones rise
 abbrev pub Rising : List ℕ → Type 0
-Rising [] = Unit {0}
-Rising (q ∷ l) = ((p : ℕ) → Mem p l → q < p) × Rising l
-
-distinct-mem : (z : ℕ) (l : List ℕ) → Mem z (distinct l) → Mem z l
-unfolding distinct
-distinct-mem z [] m = m
-distinct-mem z (p ∷ l) m = go (differs p l) m (distinct-mem z l)
-  where
-    go : (b : Bool) → Mem z (put b p (distinct l)) → (Mem z (distinct l) → Mem z l) → Mem z (p ∷ l)
-    go true (inl e) h = inl e
-    go true (inr n) h = inr (h n)
-    go false n h = inr (h n)
-
-mem-distinct : (z : ℕ) (l : List ℕ) → Mem z l → Mem z (distinct l)
-unfolding distinct
-mem-distinct z (p ∷ l) m = go (differs p l) refl m (mem-distinct z l)
-  where
-    next : (l : List ℕ) → differs p l ≡ false → z ≡ p → Mem z l
-    next [] e k = clash true refl e
-    next (q ∷ l) e k = inl (k ∙ eqb-true p q (not-false (eqb p q) e))
-
-    go : (b : Bool) → differs p l ≡ b → Mem z (p ∷ l) → (Mem z l → Mem z (distinct l)) → Mem z (put b p (distinct l))
-    go true e (inl k) h = inl k
-    go true e (inr n) h = inr (h n)
-    go false e (inl k) h = h (next l e k)
-    go false e (inr n) h = h n
-
-distinct-rising : (l : List ℕ) → Sorted leb l → Rising (distinct l)
-unfolding distinct
-distinct-rising [] s = tt
-distinct-rising (p ∷ l) s = go (differs p l) refl (distinct-rising l (s .1))
-  where
-    under : (l : List ℕ) → Sorted leb (p ∷ l) → differs p l ≡ true → (z : ℕ) → Mem z l → p < z
-    under (q ∷ l) s e z m =
-        let h = leb-true p q (s .0 q (inl refl)) in
-        let n = eqb-false p q (not-true (eqb p q) e) in
-        above h n m
-      where
-        above : p ≤ q → (p ≡ q → ⊥) → Mem z (q ∷ l) → p < z
-        above h n (inl k) = omega arith
-        above h n (inr m) = let g = leb-true q z (s .1 .0 z m) in omega arith
-
-    go : (b : Bool) → differs p l ≡ b → Rising (distinct l) → Rising (put b p (distinct l))
-    go true e h = (λ z m. under l s e z (distinct-mem z l m), h)
-    go false e h = h
+Rising l = Pairwise (λ q p. q < p) l
 
 pub lines-rising : (l : List Row) → Sorted rowsInOrder l → Rising (lines l)
 unfolding lines

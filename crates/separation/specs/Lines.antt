@@ -1,21 +1,11 @@
 -- The lines of one orientation: the different fixed values of its rows, and the levels of the tree over them.
-use mathlib.Core.Bool.{Bool, true, not, cond}
+use mathlib.Core.Bool.{cond}
 use mathlib.Core.List.{List, [], _∷_, map}
 use Prim.Native.Nat.{ℕ, suc, _-_}
-use lib.Dec.{ltb, eqb}
+use lib.Dec.{ltb}
 use lib.Ieee.{size}
-use Rattle.laws.specs.Lists.{put}
+use Rattle.laws.specs.Different.{distinct}
 use Rattle.rows.specs.Rows.{Row}
-
--- p differs from the first entry of a list
-abbrev pub differs : ℕ → List ℕ → Bool
-differs p [] = true
-differs p (q ∷ l) = not (eqb p q)
-
--- of entries that are equal and stand side by side only the last stays
-unfoldable pub distinct : List ℕ → List ℕ
-distinct [] = []
-distinct (p ∷ l) = put (differs p l) p (distinct l)
 
 -- the different fixed values of segments in order, rising
 unfoldable pub lines : List Row → List ℕ

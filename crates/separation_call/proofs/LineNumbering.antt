@@ -13,12 +13,14 @@ use lib.ListN.{length, getD, take, drop, set, length-append, length-set, length-
 use lib.Seq.{take-suc, take-suc-set, take-take, take-all, split-at, append-snoc, drop-set-lt, drop-set-add, take-set-le, getD-set-same, getD-set-other, ext-getD}
 use Rattle.laws.specs.Lists.{All, put}
 use Rattle.laws.specs.Sort.{Sorted}
+use Rattle.laws.specs.Different.{differs, distinct}
 use Rattle.laws.proofs.Tests.{same-or-not}
 use Rattle.laws.proofs.ListLaws.{mem-all, mem-map, append-right}
+use Rattle.laws.proofs.Differents.{distinct-few}
 use Rattle.rows.specs.Rows.{Row, rowsInOrder}
 use Rattle.rows.specs.Tables.{noRow, column}
 use Rattle.rows.proofs.ColumnParts.{getD-map, column-length, column-at, column-set}
-use Rattle.separation.specs.Lines.{differs, distinct, lines, index}
+use Rattle.separation.specs.Lines.{lines, index}
 use Rattle.separation.proofs.Lines.{Rising, lines-rising, line-mem, index-lt}
 use Rattle.separation_call.specs.Numbered.{lineOf, Numbered, LinesNumbered}
 
@@ -127,15 +129,6 @@ number-is K i h b =
     ap (λ (l : List ℕ). index l x) e ∙ index-behind (firsts (take i K) x) x (g .0) (subst Rising e h)
 
 -- ---- how many lines there are
-distinct-few : (l : List ℕ) → length (distinct l) ≤ length l
-unfolding distinct
-distinct-few [] = omega arith
-distinct-few (x ∷ l) = go (differs x l) (distinct-few l)
-  where
-    go : (b : Bool) → length (distinct l) ≤ length l → length (put b x (distinct l)) ≤ suc (length l)
-    go true h = omega arith
-    go false h = omega arith
-
 pub lines-few : (l : List Row) → length (lines l) ≤ length l
 unfolding lines
 lines-few l = omega (arith, distinct-few (map (λ (r : Row). r .line) l), length-map l (λ (r : Row). r .line))

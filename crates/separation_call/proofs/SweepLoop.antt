@@ -2,22 +2,21 @@
 use mathlib.Core.Path.{_≡_, refl, sym, ap, _∙_, subst}
 use mathlib.Core.Logic.{inl, inr}
 use mathlib.Core.List.{List, [], _∷_}
-use Prim.Native.Nat.{ℕ, suc, _+_, _-_, _*_, _^_, _≤_, _<_}
-use native.Mathlib.Numerals.{add-one}
+use Prim.Native.Nat.{ℕ, _+_, _-_, _*_, _^_, _≤_, _<_}
 use native.Mathlib.Omega.{arith}
 use borrow.Author.Tests.{lt-ltb, le-ltb}
 use lib.Dec.{ltb}
-use lib.ListN.{length, getD, take, drop, drop-of-length-le, length-map, length-take}
-use lib.Seq.{drop-cons, getD-take, length-take-le}
+use lib.ListN.{length, getD, drop, length-take}
+use lib.Seq.{length-take-le}
 use Rattle.laws.specs.Lists.{Mem}
 use Rattle.laws.specs.Charged.{Charged, runs}
-use Rattle.laws.specs.Allowance.{Outcome, spent, left, within, onward}
+use Rattle.laws.specs.Allowance.{Outcome, left, within}
 use Rattle.laws.proofs.Tests.{le-or-lt, cond-true, cond-false}
 use Rattle.laws.proofs.Places.{first-at}
-use Rattle.laws.proofs.Runs.{within-none, within-next, within-enough, within-short, onward-spent, onward-left}
+use Rattle.laws.proofs.Runs.{read-left, read-spent, onward-spent, onward-left}
+use Rattle.laws.proofs.Loops.{Onwards, loop-next, loop-stops, loop-ends, told-next, told-none}
 use Rattle.rows.specs.Rows.{Row, Event, ends, starts, events}
 use Rattle.rows.specs.Tables.{rowFrom, eventFrom}
-use Rattle.rows.proofs.ColumnParts.{getD-map}
 use Rattle.separation.specs.Figures.{Figures}
 use Rattle.separation.specs.Lines.{lines, levels}
 use Rattle.separation.specs.Walk.{nothing, Sweep, remove, startsAt, endsAt, step, sweep}
@@ -73,37 +72,17 @@ module _ (s : List ℕ) (n leaves e : ℕ) where
         let c : step (lines l) H here (eventFrom l e) ≡ startsAt (lines l) H here (rowFrom l (e - n)) = ap (step (lines l) H here) (starts-at l e (omega arith)) ∙ starting (lines l) H here (e - length l) (rowFrom l (e - length l)) ∙ ap (λ (j : ℕ). startsAt (lines l) H here (rowFrom l j)) (sym k) in
         subst (Step l F H b) (sym c) (g .0, λ to w. subst (λ (a : List Row). Ready l F H (b + 1) a t) (sym (start-active (lines l) H active st (rowFrom l (e - n)))) (g .1 to w))
 
--- ---- what is known of a run by its figures
-left-parts : (f g : Figures) (k m : ℕ) → left f k ≡ left g m → (f ≡ g) × (k ≡ m)
-left-parts f g k m e = (cc, cc)
-
-not-spent : (f : Figures) (k : ℕ) → left f k ≡ spent → ⊥
-not-spent f k e = let z : _≡_ {A = ℕ} 0 1 = cc in omega arith
-
-figures-left : (m : ℕ) (c : Charged Sweep) (f : Figures) (k : ℕ) → figuresOf (within m c) ≡ left f k → within m c ≡ left (record { active = c .value .active; met = f }) k
-figures-left m c f k e = elim (le-or-lt (c .cost) m) [
-  | inl h ↦ go (within-enough m c h)
-  | inr h ↦ absurd (not-spent f k (sym e ∙ ap figuresOf (within-short m c h) ∙ onward-spent (λ t z. left (t .met) z)))
-]
-  where
-    go : within m c ≡ left (c .value) (m - c .cost) → within m c ≡ left (record { active = c .value .active; met = f }) k
-    go w =
-        let p = left-parts (c .value .met) f (m - c .cost) k (sym (ap figuresOf w ∙ onward-left (c .value) (m - c .cost) (λ t z. left (t .met) z)) ∙ e) in
-        w ∙ (λ i. left (record { active = c .value .active; met = p .0 i }) (p .1 i))
-
-figures-spent : (m : ℕ) (c : Charged Sweep) → figuresOf (within m c) ≡ spent → within m c ≡ spent
-figures-spent m c e = elim (le-or-lt (c .cost) m) [
-  | inl h ↦ absurd (not-spent (c .value .met) (m - c .cost) (sym (ap figuresOf (within-enough m c h) ∙ onward-left (c .value) (m - c .cost) (λ t z. left (t .met) z)) ∙ e))
-  | inr h ↦ within-short m c h
-]
-
 -- ---- the loop
 module _ (l : List Row) (F : List ℕ) (H allowance : ℕ) where
   abbrev start : Sweep
   start = record { active = []; met = nothing }
 
+  -- what all events come to
+  abbrev whole : Outcome Sweep
+  whole = within allowance (runs (step (lines l) H) start (events l))
+
   abbrev all : Outcome Figures
-  all = figuresOf (within allowance (runs (step (lines l) H) start (events l)))
+  all = figuresOf whole
 
   pub record Going (st : Sweeping) (s : List ℕ) (q : ℕ) : Type 0 where
     pub active : List Row
@@ -111,7 +90,7 @@ module _ (l : List Row) (F : List ℕ) (H allowance : ℕ) where
     pub proper : (r : Row) → Mem r l → r .start < r .end
     pub state : State l active (drop q (events l))
     pub below : q ≤ 2 * length l
-    pub onwards : figuresOf (within (st .left) (runs (step (lines l) H) (record { active = active; met = metBy st }) (drop q (events l)))) ≡ all
+    pub onwards : Onwards (step (lines l) H) whole (drop q (events l)) (record { active = active; met = metBy st }) (st .left)
 
   pub going-none : (st : Sweeping) (s : List ℕ) → Ready l F H 0 [] s → ((r : Row) → Mem r l → r .start < r .end) → metBy st ≡ nothing → st .left ≡ allowance → Going st s 0
   going-none st s ready proper e k = record {
@@ -120,7 +99,7 @@ module _ (l : List Row) (F : List ℕ) (H allowance : ℕ) where
     proper = proper;
     state = begin l;
     below = omega arith;
-    onwards = λ i. figuresOf (within (k i) (runs (step (lines l) H) (record { active = []; met = e i }) (events l)));
+    onwards = record { come = λ i. within (k i) (runs (step (lines l) H) (record { active = []; met = e i }) (events l)) };
   }
 
   module _ (st : Sweeping) (s : List ℕ) (q : ℕ) (g : Going st s q) where
@@ -129,8 +108,8 @@ module _ (l : List Row) (F : List ℕ) (H allowance : ℕ) where
         let e = ap length (g .ready .front) in
         omega (arith, length-take-le (9 * length l) s (omega (arith, g .ready .room)), length-take (9 * length l) F)
 
-    events-long : length (events l) ≡ 2 * length l
-    events-long = ap length (sym (g .ready .prepared .ordered)) ∙ length-map (take (2 * length l) F) (eventFrom l) ∙ length-take-le (2 * length l) F (omega (arith, tables-long))
+    enough : 2 * length l ≤ length F
+    enough = omega (arith, tables-long)
 
     module _ (less : q < 2 * length l) where
       abbrev number : ℕ
@@ -141,14 +120,11 @@ module _ (l : List Row) (F : List ℕ) (H allowance : ℕ) where
 
       pub number-small : number < 2 * length l
       number-small =
-          let k : getD F q 0 < 2 * length l = first-at (λ e. e < 2 * length l) 0 (2 * length l) F (omega (arith, tables-long)) (g .ready .prepared .small) q less in
+          let k : getD F q 0 < 2 * length l = first-at (λ e. e < 2 * length l) 0 (2 * length l) F enough (g .ready .prepared .small) q less in
           omega (arith, same-word)
 
       next-is : drop q (events l) ≡ eventFrom l number ∷ drop (q + 1) (events l)
-      next-is =
-          let none = eventFrom l 0 in
-          let here : getD (events l) q none ≡ eventFrom l number = ap (λ (c : List Event). getD c q none) (sym (g .ready .prepared .ordered)) ∙ getD-map (eventFrom l) (take (2 * length l) F) q 0 none (omega (arith, length-take-le (2 * length l) F (omega (arith, tables-long)))) ∙ ap (eventFrom l) (getD-take (2 * length l) F q 0 less ∙ sym same-word) in
-          rw (add-one q) (drop-cons (events l) q none (omega (arith, events-long)) ∙ ap (λ (e : Event). e ∷ drop (suc q) (events l)) here)
+      next-is = told-next 0 (eventFrom l) (2 * length l) F enough (events l) (g .ready .prepared .ordered) q less ∙ ap (λ (e : ℕ). eventFrom l e ∷ drop (q + 1) (events l)) (sym same-word)
 
       now-state : State l (g .active) (eventFrom l number ∷ drop (q + 1) (events l))
       now-state = subst (State l (g .active)) next-is (g .state)
@@ -175,37 +151,30 @@ module _ (l : List Row) (F : List ℕ) (H allowance : ℕ) where
             subst (λ (z : List Row). State l z (drop (q + 1) (events l))) (sym a) (after-start l (g .proper) (g .active) j (rowFrom l j) (drop (q + 1) (events l)) (subst (λ (z : Event). State l (g .active) (z ∷ drop (q + 1) (events l))) e now-state))
       ]
 
-      split : figuresOf (within (st .left) (runs (step (lines l) H) here (drop q (events l)))) ≡ figuresOf (onward (within (st .left) c) (λ t m. within m (runs (step (lines l) H) t (drop (q + 1) (events l)))))
-      split = ap (λ (es : List Event). figuresOf (within (st .left) (runs (step (lines l) H) here es))) next-is ∙ ap figuresOf (within-next (step (lines l) H) (st .left) here (eventFrom l number) (drop (q + 1) (events l)))
-
       module _ (r : Swept) (t : List ℕ) (e : r ≡ sweptOf (figuresOf (within (st .left) c))) (k : (to : Sweeping) → r ≡ Went to → Ready l F H (q + 1) (c .value .active) t) where
         pub going-stops : r ≡ Spent → Spent ≡ sweptOf all
         unfolding sweptOf
         going-stops x =
-            let z = figures-spent (st .left) c (spent-is (figuresOf (within (st .left) c)) (sym x ∙ e)) in
-            let y : all ≡ spent = sym (g .onwards) ∙ split ∙ ap (λ (o : Outcome Sweep). figuresOf (onward o (λ t m. within m (runs (step (lines l) H) t (drop (q + 1) (events l)))))) z ∙ ap figuresOf (onward-spent (λ t m. within m (runs (step (lines l) H) t (drop (q + 1) (events l))))) ∙ onward-spent (λ t m. left (t .met) m) in
-            sym (ap sweptOf y)
+            let z = read-spent (λ (a : Sweep). a .met) (st .left) c (spent-is (figuresOf (within (st .left) c)) (sym x ∙ e)) in
+            sym (ap sweptOf (ap figuresOf (loop-stops (g .onwards) next-is z) ∙ onward-spent (λ t m. left (t .met) m)))
 
         pub going-next : (to : Sweeping) → r ≡ Went to → Going to t (q + 1)
         going-next to x =
-            let z = figures-left (st .left) c (metBy to) (to .left) (went-is (figuresOf (within (st .left) c)) to (sym x ∙ e)) in
-            let on : Sweep → ℕ → Outcome Sweep = λ t m. within m (runs (step (lines l) H) t (drop (q + 1) (events l))) in
+            let z = read-left (λ (a : Sweep). a .met) (st .left) c (metBy to) (to .left) (went-is (figuresOf (within (st .left) c)) to (sym x ∙ e)) in
             record {
               active = c .value .active;
               ready = k to x;
               proper = g .proper;
               state = next-state;
               below = omega arith;
-              onwards = sym (split ∙ ap (λ (o : Outcome Sweep). figuresOf (onward o on)) z ∙ ap figuresOf (onward-left (record { active = c .value .active; met = metBy to }) (to .left) on)) ∙ g .onwards;
+              onwards = loop-next (g .onwards) next-is (z .0 ∙ (λ i. left (record { active = c .value .active; met = z .1 i }) (to .left)));
             }
 
     pub going-all : 2 * length l ≤ q → Went st ≡ sweptOf all
     unfolding sweptOf
     going-all h =
-        let e : drop q (events l) ≡ [] = drop-of-length-le (events l) {i = q} (omega (arith, events-long)) in
-        let here : Sweep = record { active = g .active; met = metBy st } in
-        let z : all ≡ left (metBy st) (st .left) = sym (g .onwards) ∙ ap (λ (es : List Event). figuresOf (within (st .left) (runs (step (lines l) H) here es))) e ∙ ap figuresOf (within-none (step (lines l) H) (st .left) here) ∙ onward-left here (st .left) (λ t m. left (t .met) m) in
-        sym (ap sweptOf z)
+        let e = told-none 0 (eventFrom l) (2 * length l) F enough (events l) (g .ready .prepared .ordered) q h in
+        sym (ap sweptOf (ap figuresOf (loop-ends (g .onwards) e) ∙ onward-left (record { active = g .active; met = metBy st }) (st .left) (λ t m. left (t .met) m)))
 
   -- all events are the sweep
   pub swept-all : H ≡ levels (length (lines l)) → sweptOf all ≡ sweptOf (within allowance (sweep l))

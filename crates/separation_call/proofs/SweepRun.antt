@@ -8,12 +8,11 @@ use borrow.Rule.Slice.PartMut.{putMid}
 use lib.ListN.{length, getD, take, drop, length-append, length-drop}
 use lib.Seq.{drop-at, take-at, take-take, drop-drop, length-take-le}
 use Rattle.laws.specs.Lists.{Mem}
-use Rattle.laws.specs.Charged.{Charged, free, after}
+use Rattle.laws.specs.Charged.{free, after}
 use Rattle.laws.specs.Allowance.{Outcome, spent, left, within, onward}
-use Rattle.laws.proofs.Tests.{le-or-lt}
 use Rattle.laws.proofs.Parts.{tail-lent, tail-back}
 use Rattle.laws.proofs.Places.{at-mem}
-use Rattle.laws.proofs.Runs.{within-after, within-free, within-enough, within-short, onward-spent, onward-left}
+use Rattle.laws.proofs.Runs.{within-after, within-free, within-read, onward-spent, onward-left}
 use Rattle.rows.specs.Rows.{Row}
 use Rattle.rows.specs.Tables.{noRow, rowFrom}
 use Rattle.rows.proofs.ColumnParts.{front-same, column-same, row-word}
@@ -158,14 +157,6 @@ module _ (l : List Row) (F : List ℕ) (H b : ℕ) (active : List Row) (s : List
       after-leave is m f = still-ready (subst (λ (z : List Row). Working n (b + 1) ls H lineOf netOf slotOf z e) (sym is) (f b ls H lineOf netOf slotOf active (rowFrom l j) j to count (at-place j inside) lent-work m went))
 
 -- ---- what a step comes to, as far as the figures go
-figures-within : (m : ℕ) (c : Charged Sweep) → figuresOf (within m c) ≡ within m (record { value = c .value .met; cost = c .cost })
-figures-within m c =
-    let d : Charged Figures = record { value = c .value .met; cost = c .cost } in
-    elim (le-or-lt (c .cost) m) [
-      | inl h ↦ rw (within-enough m c h) (onward-left (c .value) (m - c .cost) (λ t k. left (t .met) k)) ∙ sym (within-enough m d h)
-      | inr h ↦ rw (within-short m c h) (onward-spent (λ t k. left (t .met) k)) ∙ sym (within-short m d h)
-    ]
-
 flatten : (active : List Row) (st : Sweeping) (x : Row) (o : Outcome (Unit {0})) → figuresOf (onward o (λ done r. left (record { active = remove x active; met = metBy st }) r)) ≡ onward o (λ done m. left (metBy st) m)
 unfolding onward
 flatten active st x spent = refl
@@ -178,7 +169,7 @@ module _ (ls : List ℕ) (H : ℕ) (active : List Row) (st : Sweeping) (x : Row)
   start-figures : figuresOf (within (st .left) (startsAt ls H here x)) ≡ onward (within (st .left) (looking ls H active (metBy st) x)) (λ f r. onward (within r (setRun H)) (λ done r. left f r))
   unfolding startsAt
   start-figures =
-      figures-within (st .left) (startsAt ls H here x)
+      within-read (λ (t : Sweep). t .met) (st .left) (startsAt ls H here x)
       ∙ within-after (st .left) (looking ls H active (metBy st) x) (λ f. after (setRun H) (λ done. free f))
       ∙ (λ i. onward (within (st .left) (looking ls H active (metBy st) x)) (λ f r. paid f r i))
     where

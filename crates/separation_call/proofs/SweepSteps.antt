@@ -1,6 +1,5 @@
 -- The steps of the sweep as the code takes them: a search's answer joined to the figures, what a start looks at, and a paid `set`. Assumes nothing.
 use mathlib.Core.Path.{_≡_, refl, sym, ap, _∙_}
-use mathlib.Core.Logic.{inl, inr}
 use mathlib.Core.Bool.{Bool, true, false, _&&_}
 use mathlib.Core.List.{List}
 use mathlib.Core.Option.{Option, none, some}
@@ -13,8 +12,7 @@ use lib.ListN.{length, getD, take}
 use lib.Seq.{getD-take}
 use Rattle.laws.specs.Charged.{Charged, free, visit, after}
 use Rattle.laws.specs.Allowance.{Outcome, spent, left, within, onward}
-use Rattle.laws.proofs.Tests.{le-or-lt}
-use Rattle.laws.proofs.Runs.{within-free, within-after, within-enough, within-short, visit-spent, visit-paid, onward-spent, onward-left}
+use Rattle.laws.proofs.Runs.{within-free, within-after, within-left, visit-spent, visit-paid, onward-spent, onward-left}
 use Rattle.floats.specs.Values.{gapOf}
 use Rattle.floats.specs.TotalOrder.{floatAt}
 use Rattle.rows.specs.Rows.{Row}
@@ -90,19 +88,8 @@ module _ (has : ℕ → ℕ → ℕ → Bool) (q : ℕ) where
       found-node (ltb q (s + 2 ^ suc h) && has k s (s + 2 ^ suc h)) (leftmost has q h (2 * k) s) (leftmost has q h (2 * k + 1) (s + 2 ^ h)) (λ j. j < s + 2 ^ suc h) i
       (λ g. omega (arith, left-inside h (2 * k) s i g)) (λ g. omega (arith, left-inside h (2 * k + 1) (s + 2 ^ h) i g)) e
 
--- the value of a run that came to something
-value-is : {A : Type 0} (m r : ℕ) (c : Charged A) (v : A) → within m c ≡ left v r → c .value ≡ v
-value-is {A} m r c v e = elim (le-or-lt (c .cost) m) [
-  | inl h ↦ ap of (sym (within-enough m c h) ∙ e)
-  | inr h ↦ ap of (sym (within-short m c h) ∙ e)
-]
-  where
-    of : Outcome A → A
-    of spent = c .value
-    of (left a k) = a
-
 found-value : (m i r : ℕ) (c : Charged (Option ℕ)) (search : Search) → search ≡ searchOf (within m c) → search ≡ Found i r → c .value ≡ some i
-found-value m i r c search e h = value-is m r c (some i) (was-found (within m c) i r (sym h ∙ e))
+found-value m i r c search e h = within-left m c (some i) r (was-found (within m c) i r (sym h ∙ e)) .1
 
 -- the line and what a search found are within the leaves
 module _ (leaves line n left : ℕ) (search : Search) (has : ℕ → ℕ → ℕ → Bool) (q H : ℕ) (count : leaves ≡ 2 ^ H) (own : line < leaves) (room : leaves ≤ n) where

@@ -2,11 +2,12 @@
 -- Segments are known by their places 0 .. n - 1 in order. Those of one line and one net share a slot. The words are: for each slot how many of its segments are active; then for each line how many different nets are active on it; then for each line the sum of these nets, which is the net itself where there is one.
 use mathlib.Core.Path.{_≡_}
 use mathlib.Core.Bool.{Bool, _&&_, cond}
-use mathlib.Core.List.{List, [], _∷_}
+use mathlib.Core.List.{List, _∷_}
 use Prim.Native.Nat.{ℕ, _+_, _*_, _%_, _^_, _≤_, _<_}
 use lib.Dec.{eqb}
 use lib.ListN.{length, getD}
 use Rattle.laws.specs.Lists.{Mem, sum, count}
+use Rattle.laws.specs.Different.{Different}
 use Rattle.rows.specs.Rows.{Row}
 use Rattle.separation.specs.declared.summary.NetSummary.{NetSummary}
 use Rattle.separation.specs.declared.summary.NetSummary.the-variants.{Nothing, One, Two}
@@ -21,11 +22,6 @@ onLine ls i m r = eqb (index ls (r .line)) i && eqb (r .net) m
 -- how many active rows are
 abbrev pub netCount : List ℕ → List Row → ℕ → ℕ → ℕ
 netCount ls active i m = count (onLine ls i m) active
-
--- no entry twice
-abbrev pub Different : List ℕ → Type 0
-Different [] = Unit {0}
-Different (m ∷ l) = (Mem m l → ⊥) × Different l
 
 -- the different nets that are active on line i: so many, with this sum, and not more than b
 pub record NetsOn (ls : List ℕ) (active : List Row) (b i many total : ℕ) : Type 0 where
