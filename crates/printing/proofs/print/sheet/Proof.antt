@@ -5,7 +5,7 @@ use borrow.Author.Needs.{needs}
 use Rattle.file.specs.declared.reading.Header.{Header}
 use Rattle.file.specs.Reading.{read}
 use Rattle.printing.specs.Sheet.{sheet}
-use Rattle.printing.proofs.TextPuts.{put-same, put-front}
+use Rattle.text.proofs.TextPuts.{put-same, put-front}
 use Rattle.printing.proofs.Printing.{refused-sheet, Said, said, prefix-count, segment-room, node-room, exemption-room, segments-lent, nodes-lent, exemptions-lent, lines-lent}
 use Rattle.printing.proofs.print.sheet.Statement.{statement}
 use Rattle.printing.proofs.print.sheet.Tie as tie
@@ -114,7 +114,7 @@ returns : tie.Need-returns
 unfolding sheet
 returns c =
     let refused = refused-sheet _ _ (sym (c .before .before .before .told .given .1) ∙ c .before .before .before .before .before .read-drawing .ensures .0) in
-    let put = put-front (put-same refused (c .file-refused .ensures)) (omega (arith, c .before .file-refused-arg .given .0 .1)) in
+    let put = put-front (put-same refused (c .file-refused .ensures)) (omega (arith, c .before .file-refused-arg .given .0 .1)) (omega arith) in
     (put .1, put .0)
 
 returns-2 : tie.Need-returns-2
@@ -123,7 +123,7 @@ returns-2 c =
     let q = is-said (c .before .before .before .before .before .before .before .before .before .before .before .before .before .before) in
     let r = c .before .before .before .before .before .before .before .before .before .before .before .before .before .before .before .before .before in
     let lines = lines-lent q (segments-lent q _ _ _ _ _ _ _ _ _ _ (r .read-drawing .ensures .1 .0) (r .read-drawing .ensures .1 .1 .0) (r .read-drawing .ensures .1 .1 .1 .0) (r .read-drawing .ensures .1 .1 .1 .1 .0) (r .read-drawing .ensures .1 .1 .1 .1 .1 .0)) (nodes-lent q _ _ _ _ _ _ _ _ _ _ (r .read-drawing .ensures .1 .1 .1 .1 .1 .1 .0) (r .read-drawing .ensures .1 .1 .1 .1 .1 .1 .1 .0) (r .read-drawing .ensures .1 .1 .1 .1 .1 .1 .1 .1 .0) (r .read-drawing .ensures .1 .1 .1 .1 .1 .1 .1 .1 .1 .0) (r .read-drawing .ensures .1 .1 .1 .1 .1 .1 .1 .1 .1 .1 .0)) (exemptions-lent q _ _ _ _ (r .read-drawing .ensures .1 .1 .1 .1 .1 .1 .1 .1 .1 .1 .1 .0) (r .read-drawing .ensures .1 .1 .1 .1 .1 .1 .1 .1 .1 .1 .1 .1)) in
-    let put = put-front (put-same lines (c .put-lines .ensures)) (omega (arith, c .before .put-lines-arg .given .0 .1)) in
+    let put = put-front (put-same lines (c .put-lines .ensures)) (omega (arith, c .before .put-lines-arg .given .0 .1)) (omega arith) in
     (put .1, put .0)
 
 pub sheet-spec : {M : Type 1} → statement M

@@ -1,47 +1,61 @@
-// Bytes, words, numbers and fields, put into a lent buffer from an index on. Each function answers the index behind its text.
+// Bytes, words and numbers, put into a lent buffer from an index on. Each function answers the index behind its text. What does not fit into the buffer is left out and still counted, so that a text put into an empty buffer is measured, and texts follow each other without a look at the room: whether all of them fitted shows at the last index.
 ghost use mathlib.Core.Path.{_≡_};
 ghost use mathlib.Core.List.{[], _∷_};
-ghost use Prim.Native.Nat.{_+_, _≤_, _<_};
 ghost use lib.ListN.{length};
-ghost use Rattle.printing.specs.Text as Text;
-ghost use Rattle.printing.specs.TextPut.{Put};
-use drawing::Gap;
+ghost use Rattle.text.specs.Text as Text;
+ghost use Rattle.text.specs.TextPut as TextPut;
+ghost use Rattle.text.specs.TextPut.{Put};
 use floats::bits_of;
 
-pub(crate) fn put_byte(byte: u8, text: &mut [u8], at: usize) -> usize
-    requires { ⌜ at < length (now text) ⌝ }
+const LAST_INDEX: usize = 0xffff_ffff_ffff_ffff;
+
+fn behind(at: usize, count: usize) -> usize
+    ensures { λ r. ⌜ r ≡ TextPut.behind at count ⌝ }
+{
+    if count < LAST_INDEX - at {
+        at + count
+    } else {
+        LAST_INDEX
+    }
+}
+
+pub fn put_byte(byte: u8, text: &mut [u8], at: usize) -> usize
     ensures { λ r. ⌜ Put 1 (now (text .entry)) at (byte ∷ []) (now (text .exit)) r ⌝ }
 {
+    let next = behind(at, 1);
+    if at >= text.len() {
+        return next;
+    }
     text[at] = byte;
-    at + 1
+    next
 }
 
-pub(crate) fn put_word(word: &[u8], text: &mut [u8], at: usize) -> usize
-    requires { ⌜ at + length (now word) ≤ length (now text) ⌝ }
+pub fn put_word(word: &[u8], text: &mut [u8], at: usize) -> usize
     ensures { λ r. ⌜ Put (length (now (word .entry))) (now (text .entry)) at (now (word .entry)) (now (text .exit)) r ⌝ }
 {
+    let mut next = at;
     let mut i = 0;
     while i < word.len() {
-        text[at + i] = word[i];
+        next = put_byte(word[i], text, next);
         i += 1;
     }
-    at + i
+    next
 }
 
-fn glyph(digit: u64) -> u8
-    requires { ⌜ digit < 16 ⌝ }
+pub fn glyph(digit: u64) -> u8
     ensures { λ r. ⌜ r ≡ Text.glyph digit ⌝ }
 {
     if digit < 10 {
         48 + digit as u8
-    } else {
+    } else if digit < 16 {
         87 + digit as u8
+    } else {
+        b'?'
     }
 }
 
 // The last k hexadecimal digits.
 fn put_hexadecimal(k: usize, n: u64, text: &mut [u8], at: usize) -> usize
-    requires { ⌜ at + k ≤ length (now text) ⌝ }
     ensures { λ r. ⌜ Put k (now (text .entry)) at (Text.hexadecimal k n) (now (text .exit)) r ⌝ }
 {
     if k == 0 {
@@ -53,7 +67,6 @@ fn put_hexadecimal(k: usize, n: u64, text: &mut [u8], at: usize) -> usize
 
 // The digits without zeros in front, none for 0.
 fn put_leading(n: u64, text: &mut [u8], at: usize) -> usize
-    requires { ⌜ at + length (Text.leading n n) ≤ length (now text) ⌝ }
     ensures { λ r. ⌜ Put (length (Text.leading n n)) (now (text .entry)) at (Text.leading n n) (now (text .exit)) r ⌝ }
 {
     if n == 0 {
@@ -64,8 +77,7 @@ fn put_leading(n: u64, text: &mut [u8], at: usize) -> usize
 }
 
 // A number below 2^64 has at most 20 digits.
-pub(crate) fn put_decimal(n: u64, text: &mut [u8], at: usize) -> usize
-    requires { ⌜ at + 20 ≤ length (now text) ⌝ }
+pub fn put_decimal(n: u64, text: &mut [u8], at: usize) -> usize
     ensures { λ r. ⌜ Put 20 (now (text .entry)) at (Text.decimal n) (now (text .exit)) r ⌝ }
 {
     if n == 0 {
@@ -75,19 +87,8 @@ pub(crate) fn put_decimal(n: u64, text: &mut [u8], at: usize) -> usize
     }
 }
 
-pub(crate) fn put_float(x: f64, text: &mut [u8], at: usize) -> usize
-    requires { ⌜ at + 16 ≤ length (now text) ⌝ }
+pub fn put_float(x: f64, text: &mut [u8], at: usize) -> usize
     ensures { λ r. ⌜ Put 16 (now (text .entry)) at (Text.float x) (now (text .exit)) r ⌝ }
 {
     put_hexadecimal(16, bits_of(x), text, at)
-}
-
-pub(crate) fn put_gap(gap: Gap, text: &mut [u8], at: usize) -> usize
-    requires { ⌜ at + 16 ≤ length (now text) ⌝ }
-    ensures { λ r. ⌜ Put 16 (now (text .entry)) at (Text.gap gap) (now (text .exit)) r ⌝ }
-{
-    match gap {
-        Gap::Absent => put_word(b"none", text, at),
-        Gap::Present(x) => put_float(x, text, at),
-    }
 }

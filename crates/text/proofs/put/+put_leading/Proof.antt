@@ -1,17 +1,17 @@
--- `printing::text::put_leading` meets its contract. The measure is the number. Assumes nothing.
+-- `text::put::put_leading` meets its contract. The measure is the number. Assumes nothing.
 use Prim.Native.Nat.{ℕ, _<_}
 use native.Mathlib.Omega.{arith}
 use borrow.Author.Needs.{needs}
-use Rattle.printing.proofs.DigitTexts.{leading-none, leading-room, leading-more}
+use Rattle.text.proofs.DigitTexts.{leading-none, leading-more}
 use borrow.Fn.Kinds.{In}
 use borrow.Fn.PlainCycle.{Measures, is, falls, and}
-use Rattle.printing.proofs.text.put_leading.Reads as reads
-use Rattle.printing.proofs.text.put_leading.Kinds as kinds
-use Rattle.printing.proofs.text.+put_leading.Lts-put_leading as lts
-use Rattle.printing.proofs.text.glyph.Reads as glyph-reads
-use Rattle.printing.proofs.text.put_byte.Reads as put-byte-reads
-use Rattle.printing.proofs.text.+put_leading.{statement}
-use Rattle.printing.proofs.text.+put_leading.Tie.{close}
+use Rattle.text.proofs.put.put_leading.Reads as reads
+use Rattle.text.proofs.put.put_leading.Kinds as kinds
+use Rattle.text.proofs.put.+put_leading.Lts-put_leading as lts
+use Rattle.text.proofs.put.glyph.Reads as glyph-reads
+use Rattle.text.proofs.put.put_byte.Reads as put-byte-reads
+use Rattle.text.proofs.put.+put_leading.{statement}
+use Rattle.text.proofs.put.+put_leading.Tie.{close}
 
 abbrev μ : Measures 1 kinds.ps ℕ
 μ κs a = a .0
@@ -27,13 +27,13 @@ returns : (t : ℕ) → lts.Need-returns (claims t) (given t) reads.Post
 returns t c = leading-none _ _ _ (c .if1 .taken)
 
 put-leading-requires : (t : ℕ) → lts.Need-put-leading-requires (claims t) (given t) reads.Post
-put-leading-requires t c κs = let first = c .before .before .before in (omega (arith, first .pre .0), omega (arith, first .pre .1, leading-room (first .args .n) (c .before .if1 .left)))
+put-leading-requires t c κs = search needs
 
 glyph-requires : (t : ℕ) → lts.Need-glyph-requires (claims t) (given t) reads.Post
 glyph-requires t c κs = search needs
 
 put-byte-requires : (t : ℕ) → lts.Need-put-byte-requires (claims t) (given t) reads.Post
-put-byte-requires t c κs = let first = c .before .before .before .before .before .before .before .before in omega (arith, first .pre .1, leading-room (first .args .n) (c .before .before .before .before .before .before .if1 .left))
+put-byte-requires t c κs = search needs
 
 same-length : (t : ℕ) → lts.Need-same-length (claims t) (given t) reads.Post
 same-length t c = search needs

@@ -1,10 +1,10 @@
--- `printing::text::put_float` meets its contract: the digits are those of its bits. Assumes nothing.
+-- `text::put::put_float` meets its contract: the digits are those of its bits. Assumes nothing.
 use mathlib.Core.Path.{ap}
-use Rattle.printing.specs.Text.{float, hexadecimal}
-use Rattle.printing.proofs.TextPuts.{put-same}
+use Rattle.text.specs.Text.{float, hexadecimal}
+use Rattle.text.proofs.TextPuts.{put-same}
 use borrow.Author.Needs.{needs}
-use Rattle.printing.proofs.text.put_float.Statement.{statement}
-use Rattle.printing.proofs.text.put_float.Tie as tie
+use Rattle.text.proofs.put.put_float.Statement.{statement}
+use Rattle.text.proofs.put.put_float.Tie as tie
 
 bits-of-requires : tie.Need-bits-of-requires
 bits-of-requires c κs = search needs

@@ -1,11 +1,11 @@
--- `printing::text::put_gap` meets its contract: case by case. Assumes nothing.
+-- `printing::lines::put_gap` meets its contract: case by case. Assumes nothing.
 use mathlib.Core.Path.{sym, ap}
 use native.Mathlib.Omega.{arith}
-use Rattle.printing.specs.Text.{gap, none}
-use Rattle.printing.proofs.TextPuts.{put-within, put-same}
+use Rattle.printing.specs.Fields.{gap, none}
+use Rattle.text.proofs.TextPuts.{put-within, put-same}
 use borrow.Author.Needs.{needs}
-use Rattle.printing.proofs.text.put_gap.Statement.{statement}
-use Rattle.printing.proofs.text.put_gap.Tie as tie
+use Rattle.printing.proofs.lines.put_gap.Statement.{statement}
+use Rattle.printing.proofs.lines.put_gap.Tie as tie
 
 enum-told : tie.Need-enum-told
 enum-told c = search needs

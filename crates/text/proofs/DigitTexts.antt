@@ -5,9 +5,9 @@ use Prim.Native.Nat.{ℕ, zero, suc, _+_, _-_, _*_, _/_, _%_, _^_, _≤_, _<_}
 use native.Mathlib.Nat.{pow-succ'}
 use native.Mathlib.Omega.{arith}
 use lib.ListN.{length, length-append}
-use Rattle.printing.specs.Text.{glyph, hexadecimal, leading, decimal}
-use Rattle.printing.specs.TextPut.{Put}
-use Rattle.printing.proofs.TextPuts.{put-none, put-both, put-within}
+use Rattle.text.specs.Text.{glyph, hexadecimal, leading, decimal}
+use Rattle.text.specs.TextPut.{Put}
+use Rattle.text.proofs.TextPuts.{put-none, put-both, put-within}
 
 -- ---- hexadecimal
 pub hexadecimal-none : (k n : ℕ) (s : List ℕ) (at : ℕ) → k ≡ 0 → Put k s at (hexadecimal k n) s at
@@ -46,7 +46,7 @@ unfolding leading
 leading-last zero h = absurd (h refl)
 leading-last (suc n) h = ap (λ (l : List ℕ). l ++ (glyph (suc n % 10) ∷ [])) (leading-steps (suc n / 10) n (suc n / 10) (omega arith) (omega arith))
 
-pub leading-room : (n : ℕ) → (n ≡ 0 → ⊥) → length (leading (n / 10) (n / 10)) + 1 ≡ length (leading n n)
+leading-room : (n : ℕ) → (n ≡ 0 → ⊥) → length (leading (n / 10) (n / 10)) + 1 ≡ length (leading n n)
 leading-room n h = sym (length-append (leading (n / 10) (n / 10)) (glyph (n % 10) ∷ [])) ∙ ap length (leading-last n h)
 
 pub leading-more : (n d : ℕ) {s : List ℕ} {at : ℕ} {e : List ℕ} {m : ℕ} {f : List ℕ} {r : ℕ} → (n ≡ 0 → ⊥) → Put (length (leading (n / 10) (n / 10))) s at (leading (n / 10) (n / 10)) e m → d ≡ glyph (n % 10) → Put 1 e m (d ∷ []) f r → Put (length (leading n n)) s at (leading n n) f r

@@ -1,16 +1,16 @@
--- `printing::text::put_decimal` meets its contract: 0 has one digit, and any other number is written without zeros in front. Assumes nothing.
+-- `text::put::put_decimal` meets its contract: 0 has one digit, and any other number is written without zeros in front. Assumes nothing.
 use native.Mathlib.Omega.{arith}
-use Rattle.printing.proofs.TextPuts.{put-within, put-same}
-use Rattle.printing.proofs.DigitTexts.{leading-wide, decimal-zero, decimal-leading}
+use Rattle.text.proofs.TextPuts.{put-within, put-same}
+use Rattle.text.proofs.DigitTexts.{leading-wide, decimal-zero, decimal-leading}
 use borrow.Author.Needs.{needs}
-use Rattle.printing.proofs.text.put_decimal.Statement.{statement}
-use Rattle.printing.proofs.text.put_decimal.Tie as tie
+use Rattle.text.proofs.put.put_decimal.Statement.{statement}
+use Rattle.text.proofs.put.put_decimal.Tie as tie
 
 put-byte-requires : tie.Need-put-byte-requires
 put-byte-requires c κs = search needs
 
 put-leading-requires : tie.Need-put-leading-requires
-put-leading-requires c κs = let first = c .before .before .before in omega (arith, leading-wide (first .args .n) (first .fits .n .fits))
+put-leading-requires c κs = search needs
 
 same-length : tie.Need-same-length
 same-length c = search needs

@@ -1,15 +1,13 @@
--- Numbers and fields as the bytes of text.
+-- Numbers as the bytes of text.
 use mathlib.Core.Bool.{cond}
 use mathlib.Core.List.{List, [], _∷_, _++_}
 use Prim.Native.Nat.{ℕ, zero, suc, _+_, _/_, _%_}
 use lib.Dec.{ltb}
 use lib.Ieee.{Float, binary64, toBits}
-use Rattle.drawing.specs.declared.gap.Gap.{Gap}
-use Rattle.drawing.specs.declared.gap.Gap.the-variants.{Absent, Present}
 
--- the byte of a digit below 16: `0` to `9`, `a` to `f`
+-- the byte of a digit, `0` to `9` and `a` to `f`; `?` for a number above 15, which is no digit
 unfoldable pub glyph : ℕ → ℕ
-glyph d = cond (ltb d 10) (48 + d) (87 + d)
+glyph d = cond (ltb d 10) (48 + d) (cond (ltb d 16) (87 + d) 63)
 
 -- the last k hexadecimal digits of a number
 unfoldable pub hexadecimal : ℕ → ℕ → List ℕ
@@ -30,16 +28,3 @@ decimal (suc n) = leading (suc n) (suc n)
 -- "Floats are 16 lower-case hexadecimal digits of their bits"
 unfoldable pub float : Float → List ℕ
 float x = hexadecimal 16 (toBits binary64 x)
-
--- "an absent gap is `none`"
-unfoldable pub none : List ℕ
-none = 110 ∷ 111 ∷ 110 ∷ 101 ∷ []
-
-unfoldable pub gap : Gap → List ℕ
-gap Absent = none
-gap (Present x) = float x
-
--- "one space parts two fields, a line feed closes each line": the fields behind the first one of a line
-unfoldable pub fields : List (List ℕ) → List ℕ
-fields [] = 10 ∷ []
-fields (f ∷ l) = 32 ∷ f ++ fields l

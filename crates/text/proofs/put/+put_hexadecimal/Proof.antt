@@ -1,17 +1,17 @@
--- `printing::text::put_hexadecimal` meets its contract. The measure is the number of digits. Assumes nothing.
+-- `text::put::put_hexadecimal` meets its contract. The measure is the number of digits. Assumes nothing.
 use Prim.Native.Nat.{ℕ, _<_}
 use native.Mathlib.Omega.{arith}
 use borrow.Author.Needs.{needs}
-use Rattle.printing.proofs.DigitTexts.{hexadecimal-none, hexadecimal-more}
+use Rattle.text.proofs.DigitTexts.{hexadecimal-none, hexadecimal-more}
 use borrow.Fn.Kinds.{In}
 use borrow.Fn.PlainCycle.{Measures, is, falls, and}
-use Rattle.printing.proofs.text.put_hexadecimal.Reads as reads
-use Rattle.printing.proofs.text.put_hexadecimal.Kinds as kinds
-use Rattle.printing.proofs.text.+put_hexadecimal.Lts-put_hexadecimal as lts
-use Rattle.printing.proofs.text.glyph.Reads as glyph-reads
-use Rattle.printing.proofs.text.put_byte.Reads as put-byte-reads
-use Rattle.printing.proofs.text.+put_hexadecimal.{statement}
-use Rattle.printing.proofs.text.+put_hexadecimal.Tie.{close}
+use Rattle.text.proofs.put.put_hexadecimal.Reads as reads
+use Rattle.text.proofs.put.put_hexadecimal.Kinds as kinds
+use Rattle.text.proofs.put.+put_hexadecimal.Lts-put_hexadecimal as lts
+use Rattle.text.proofs.put.glyph.Reads as glyph-reads
+use Rattle.text.proofs.put.put_byte.Reads as put-byte-reads
+use Rattle.text.proofs.put.+put_hexadecimal.{statement}
+use Rattle.text.proofs.put.+put_hexadecimal.Tie.{close}
 
 abbrev μ : Measures 1 kinds.ps ℕ
 μ κs a = a .0
@@ -30,13 +30,13 @@ sub-put-hexadecimal : (t : ℕ) → lts.Need-sub-put-hexadecimal (claims t) (giv
 sub-put-hexadecimal t c = search needs
 
 put-hexadecimal-requires : (t : ℕ) → lts.Need-put-hexadecimal-requires (claims t) (given t) reads.Post
-put-hexadecimal-requires t c κs = let first = c .before .before .before .pre in (omega (arith, first .0), omega (arith, first .1))
+put-hexadecimal-requires t c κs = search needs
 
 glyph-requires : (t : ℕ) → lts.Need-glyph-requires (claims t) (given t) reads.Post
 glyph-requires t c κs = search needs
 
 put-byte-requires : (t : ℕ) → lts.Need-put-byte-requires (claims t) (given t) reads.Post
-put-byte-requires t c κs = omega (arith, c .before .before .before .before .before .before .before .before .pre .1)
+put-byte-requires t c κs = search needs
 
 same-length : (t : ℕ) → lts.Need-same-length (claims t) (given t) reads.Post
 same-length t c = search needs
