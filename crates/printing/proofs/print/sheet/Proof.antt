@@ -21,7 +21,7 @@ module _ (c : lts.After-known-told2 (read-drawing-reads.Asked, read-drawing-read
   header = c .before .told2 .given .0 .0
 
   is-said : Said (read (c .before .before .before .before .before .before .before .before .before .before .before .before .before .before .before .before .before .args .bytes .now)) header
-  is-said = said _ _ (sym (c .before .told2 .given .1) ∙ c .before .before .before .read-drawing .ensures .0)
+  is-said = said _ _ (sym (c .before .told2 .given .1) ∙ c .before .before .before .read-drawing .ensures .0 .0)
 
 read-drawing-requires : tie.Need-read-drawing-requires
 read-drawing-requires c κs = search needs
@@ -113,7 +113,7 @@ put-lines-requires c κs = search needs
 returns : tie.Need-returns
 unfolding sheet
 returns c =
-    let refused = refused-sheet _ _ (sym (c .before .before .before .told .given .1) ∙ c .before .before .before .before .before .read-drawing .ensures .0) in
+    let refused = refused-sheet _ _ (sym (c .before .before .before .told .given .1) ∙ c .before .before .before .before .before .read-drawing .ensures .0 .0) in
     let put = put-front (put-same refused (c .file-refused .ensures)) (omega (arith, c .before .file-refused-arg .given .0 .1)) (omega arith) in
     (put .1, put .0)
 
