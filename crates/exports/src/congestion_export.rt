@@ -139,7 +139,7 @@ pub extern "C" fn readability_congestion(
 // The ratio takes nothing from the two figures that are left at zero.
 #[no_mangle]
 pub extern "C" fn readability_ratio(total: f64, congested: f64) -> f64
-    ensures { λ r. ⌜ r ≡ Ratio.ratio congested total ⌝ }
+    ensures { λ r. ⌜ r ≡ Ratio.ratio total congested ⌝ }
 {
     let lengths = ParallelCongestion {
         total_length: total,
