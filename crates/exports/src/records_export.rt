@@ -8,10 +8,10 @@ ghost use Rattle.separation.specs.Answer as Separation;
 ghost use Rattle.congestion.specs.Answer as Congestion;
 ghost use Rattle.clearance.specs.Answer as Clearance;
 ghost use Rattle.records.specs.Records.{parallelColumns, edgeNodeColumns};
-ghost use Rattle.exports.specs.Told.{separationWords, congestionWords, clearanceWords};
-use crate::clearance_export::tell_clearance;
-use crate::congestion_export::tell_congestion;
-use crate::separation_export::tell_separation;
+ghost use Rattle.exports.specs.Words.{separationWords, congestionWords, clearanceWords};
+use crate::clearance_export::write_clearance;
+use crate::congestion_export::write_congestion;
+use crate::separation_export::write_separation;
 use records::EdgeNodeSegment;
 use records::ParallelSegment;
 use records::measure_edge_node_clearance_bounded_by_records;
@@ -31,8 +31,8 @@ pub extern "C" fn readability_separation_by_records(
     ensures { λ _. ⌜ now (out .exit) ≡ separationWords (Separation.resultOf (Separation.separationAnswer (parallelColumns (now (records .entry))) allowance (length (now (scratch .entry)))) .1) ⌝ }
     ensures { λ _. ⌜ now (scratch .exit) ≡ scratchAfter (firstOf (separationConditions (parallelColumns (now (records .entry))) (length (now (scratch .entry))))) (now (scratch .entry)) ⌝ }
 {
-    let told = measure_parallel_separation_bounded_by_records(records, allowance, scratch);
-    tell_separation(told, out)
+    let answer = measure_parallel_separation_bounded_by_records(records, allowance, scratch);
+    write_separation(answer, out)
 }
 
 #[no_mangle]
@@ -47,13 +47,13 @@ pub extern "C" fn readability_density_profile_by_records(
     ensures { λ _. ⌜ now (out .exit) ≡ congestionWords (Congestion.resultOf (Congestion.densityAnswer (parallelColumns (now (records .entry))) cutoff allowance (length (now (scratch .entry)))) .1) ⌝ }
     ensures { λ _. ⌜ now (scratch .exit) ≡ scratchAfter (firstOf (congestionConditions (parallelColumns (now (records .entry))) cutoff (length (now (scratch .entry))))) (now (scratch .entry)) ⌝ }
 {
-    let told = measure_parallel_density_profile_bounded_by_records(
+    let answer = measure_parallel_density_profile_bounded_by_records(
         records,
         cutoff,
         allowance,
         scratch,
     );
-    tell_congestion(told, out)
+    write_congestion(answer, out)
 }
 
 #[no_mangle]
@@ -68,13 +68,13 @@ pub extern "C" fn readability_congestion_profile_by_records(
     ensures { λ _. ⌜ now (out .exit) ≡ congestionWords (Congestion.resultOf (Congestion.profileAnswer (parallelColumns (now (records .entry))) cutoff allowance (length (now (scratch .entry)))) .1) ⌝ }
     ensures { λ _. ⌜ now (scratch .exit) ≡ scratchAfter (firstOf (congestionConditions (parallelColumns (now (records .entry))) cutoff (length (now (scratch .entry))))) (now (scratch .entry)) ⌝ }
 {
-    let told = measure_parallel_congestion_profile_bounded_by_records(
+    let answer = measure_parallel_congestion_profile_bounded_by_records(
         records,
         cutoff,
         allowance,
         scratch,
     );
-    tell_congestion(told, out)
+    write_congestion(answer, out)
 }
 
 #[no_mangle]
@@ -88,8 +88,8 @@ pub extern "C" fn readability_congestion_by_records(
     ensures { λ _. ⌜ now (out .exit) ≡ congestionWords (Congestion.resultOf (Congestion.congestionAnswer (parallelColumns (now (records .entry))) cutoff (length (now (scratch .entry)))) .1) ⌝ }
     ensures { λ _. ⌜ now (scratch .exit) ≡ scratchAfter (firstOf (congestionConditions (parallelColumns (now (records .entry))) cutoff (length (now (scratch .entry))))) (now (scratch .entry)) ⌝ }
 {
-    let told = measure_parallel_congestion_by_records(records, cutoff, scratch);
-    tell_congestion(told, out)
+    let answer = measure_parallel_congestion_by_records(records, cutoff, scratch);
+    write_congestion(answer, out)
 }
 
 #[no_mangle]
@@ -111,7 +111,7 @@ pub extern "C" fn readability_clearance_by_records(
     ensures { λ _. ⌜ now (out .exit) ≡ clearanceWords (Clearance.resultOf (Clearance.clearanceAnswer (edgeNodeColumns (now (records .entry))) (nodeColumns (now (id .entry)) (now (x .entry)) (now (y .entry)) (now (width .entry)) (now (height .entry))) (exemptionColumns (now («exempt_net» .entry)) (now («exempt_node» .entry))) threshold allowance (length (now (scratch .entry)))) .1) ⌝ }
     ensures { λ _. ⌜ now (scratch .exit) ≡ scratchAfter (firstOf (clearanceConditions (edgeNodeColumns (now (records .entry))) (nodeColumns (now (id .entry)) (now (x .entry)) (now (y .entry)) (now (width .entry)) (now (height .entry))) (exemptionColumns (now («exempt_net» .entry)) (now («exempt_node» .entry))) threshold (length (now (scratch .entry))))) (now (scratch .entry)) ⌝ }
 {
-    let told = measure_edge_node_clearance_bounded_by_records(
+    let answer = measure_edge_node_clearance_bounded_by_records(
         records,
         id,
         x,
@@ -124,5 +124,5 @@ pub extern "C" fn readability_clearance_by_records(
         allowance,
         scratch,
     );
-    tell_clearance(told, out)
+    write_clearance(answer, out)
 }

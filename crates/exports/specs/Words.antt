@@ -1,4 +1,4 @@
--- How results are told in numbers.
+-- Results in words: how the exported calls write them.
 use mathlib.Core.Path.{_≡_}
 use mathlib.Core.List.{List, [], _∷_}
 use mathlib.Core.Option.{Option, none, some}
@@ -42,8 +42,8 @@ unfoldable pub pairWords : Option (ℕ × ℕ) → List ℕ
 pairWords none = 0 ∷ 0 ∷ 0 ∷ []
 pairWords (some p) = 1 ∷ p .0 ∷ p .1 ∷ []
 
--- what is told of the tight pair, a number and words, is one and the same answer, of which the call's promise holds: "any pair", so that the choice is left to the program
-pub record PairTold (s : SegmentColumns) (n : NodeColumns) (e : ExemptionColumns) (number : ℕ) (words : List ℕ) : Type 0 where
+-- what is returned of the tight pair, a number, and what is written, words, are of one and the same answer, of which the call's promise holds: "any pair", so that the choice is left to the program
+pub record PairWritten (s : SegmentColumns) (n : NodeColumns) (e : ExemptionColumns) (number : ℕ) (words : List ℕ) : Type 0 where
   pub answer : TightPair
   pub answered : Answered s n e answer
   pub number-is : number ≡ resultOf answer .0
