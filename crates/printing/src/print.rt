@@ -91,7 +91,7 @@ pub fn sheet(bytes: &[u8], text: &mut [u8; 256]) -> usize
     let mut height = [0.0; 120];
     let mut exempt_net = [0u32; 240];
     let mut exempt_node = [0u32; 240];
-    let told = read_drawing(
+    let reading = read_drawing(
         bytes,
         &mut net,
         &mut orientation,
@@ -106,7 +106,7 @@ pub fn sheet(bytes: &[u8], text: &mut [u8; 256]) -> usize
         &mut exempt_net,
         &mut exempt_node,
     );
-    match told {
+    match reading {
         Reading::Refused(why) => file_refused(why, text, 0),
         Reading::Read(header) => put_lines(
             &net[..header.segments],

@@ -1,6 +1,5 @@
 -- `text::put::put_hexadecimal` meets its contract. The measure is the number of digits. Assumes nothing.
 use Prim.Native.Nat.{ℕ, _<_}
-use native.Mathlib.Omega.{arith}
 use borrow.Author.Needs.{needs}
 use Rattle.text.proofs.DigitTexts.{hexadecimal-none, hexadecimal-more}
 use borrow.Fn.Kinds.{In}

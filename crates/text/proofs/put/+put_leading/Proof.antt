@@ -1,6 +1,5 @@
 -- `text::put::put_leading` meets its contract. The measure is the number. Assumes nothing.
 use Prim.Native.Nat.{ℕ, _<_}
-use native.Mathlib.Omega.{arith}
 use borrow.Author.Needs.{needs}
 use Rattle.text.proofs.DigitTexts.{leading-none, leading-more}
 use borrow.Fn.Kinds.{In}
