@@ -4,7 +4,7 @@ use mathlib.Core.List.{List, [], _∷_}
 use Prim.Native.Nat.{ℕ, _+_, _-_, _≤_, min}
 use lib.ListN.{length, set}
 
--- the greatest index, 2^64 - 1, which no buffer reaches
+-- the greatest index, 2^64 - 1; no buffer has a byte there
 abbrev pub lastIndex : ℕ
 lastIndex = 0xffff_ffff_ffff_ffff
 
@@ -17,7 +17,7 @@ unfoldable pub stored : List ℕ → ℕ → List ℕ → List ℕ
 stored s at [] = s
 stored s at (b ∷ t) = stored (set s at b) (behind at 1) t
 
--- Of a buffer s, a text and the buffer e that is left: the text is stored in s from index `at` on, as far as s reaches; `next` is the index behind the whole text, so that it is above the length of s where the text was cut; the text has at most so many bytes.
+-- Of a buffer s, a text and the buffer e that is left: the text is stored in s from index `at` on, as far as s reaches; `next` is the index behind the whole text, also where some of it was left out; the text has at most so many bytes.
 pub record Put (longest : ℕ) (s : List ℕ) (at : ℕ) (text e : List ℕ) (next : ℕ) : Type 0 where
   pub is-stored : e ≡ stored s at text
   pub ended : next ≡ behind at (length text)

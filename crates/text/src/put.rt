@@ -1,4 +1,5 @@
-// Bytes, words and numbers, put into a lent buffer from an index on. Each function answers the index behind its text. What does not fit into the buffer is left out and still counted, so that a text put into an empty buffer is measured, and texts follow each other without a look at the room: whether all of them fitted shows at the last index.
+// Bytes, words and numbers, put into a lent buffer from an index on. Each function answers the index behind its text.
+// What does not fit is left out and still counted, so that texts follow each other without a look at the room, and a text put into an empty buffer is measured.
 ghost use mathlib.Core.Path.{_≡_};
 ghost use mathlib.Core.List.{[], _∷_};
 ghost use lib.ListN.{length};
