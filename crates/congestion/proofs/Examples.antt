@@ -99,7 +99,7 @@ pub record Marked : Type 0 where
   -- the sweep of D, its visits counted event by event
   pub D-sweep : walkAll f6 (segments D) ≡ allPairs f6 (segments D)
   -- half of D's wire is congested
-  pub D-ratio : ratio f10 f20 ≡ float 0x3fe0_0000_0000_0000
+  pub D-ratio : ratio f20 f10 ≡ float 0x3fe0_0000_0000_0000
   -- marked case (j): "gap 4, cutoff 4, two overlapping segments: congested 0, 2 visits"
   pub gap-equals-cutoff : densityAnswer D f4 2 128 ≡ report f20 f0 f0 0 Absent 2
   -- marked case (k): "1/64 and 1,048,576 pass, 1/128 gives 6"

@@ -10,4 +10,4 @@ clamp x low high = cond (lt x low) low (cond (lt high x) high x)
 
 -- "`ratio` is 0 unless total is above 0; else congested over total, rounded once, then `clamp` to 0 and 1 (a NaN stays)"
 unfoldable pub ratio : Float → Float → Float
-ratio congested total = cond (lt plusZero total) (clamp (div binary64 congested total) plusZero (fin false 1 (pos 0))) plusZero
+ratio total congested = cond (lt plusZero total) (clamp (div binary64 congested total) plusZero (fin false 1 (pos 0))) plusZero

@@ -17,7 +17,7 @@ pub struct ParallelCongestion {
 impl ParallelCongestion {
     // The congested part of the total length, from 0 to 1; 0 unless the total is above 0.
     pub fn ratio(self) -> f64
-        ensures { λ r. ⌜ r ≡ Ratio.ratio (self .«congested_length») (self .«total_length») ⌝ }
+        ensures { λ r. ⌜ r ≡ Ratio.ratio (self .«total_length») (self .«congested_length») ⌝ }
     {
         let total = self.total_length;
         let congested = self.congested_length;

@@ -5,7 +5,7 @@ ghost use Rattle.drawing.specs.Refusals.{firstOf, scratchAfter};
 ghost use Rattle.drawing.specs.Entries.{segmentColumns, nodeColumns, exemptionColumns};
 ghost use Rattle.drawing.specs.Checks.{clearanceConditions};
 ghost use Rattle.clearance.specs.Answer.{clearanceAnswer, resultOf};
-ghost use Rattle.exports.specs.Told.{clearanceWords};
+ghost use Rattle.exports.specs.Words.{clearanceWords};
 use crate::gap::bits_word;
 use crate::gap::present_word;
 use clearance::ClearanceAnswer;
@@ -13,20 +13,20 @@ use clearance_call::measure_edge_node_clearance_bounded;
 use drawing::number;
 
 // 0 where the call was accepted, else the refusal's number.
-fn clearance_status(told: ClearanceAnswer) -> u32
-    ensures { λ r. ⌜ r ≡ resultOf told .0 ⌝ }
+fn clearance_status(answer: ClearanceAnswer) -> u32
+    ensures { λ r. ⌜ r ≡ resultOf answer .0 ⌝ }
 {
-    match told {
+    match answer {
         ClearanceAnswer::Report(_) => 0,
         ClearanceAnswer::Refused(why) => number(why) as u32,
     }
 }
 
 // The report: the gap's two words, violations, visits. Zeros at a refusal.
-fn clearance_words(told: ClearanceAnswer) -> [u64; 4]
-    ensures { λ r. ⌜ r ≡ clearanceWords (resultOf told .1) ⌝ }
+fn clearance_words(answer: ClearanceAnswer) -> [u64; 4]
+    ensures { λ r. ⌜ r ≡ clearanceWords (resultOf answer .1) ⌝ }
 {
-    let ClearanceAnswer::Report(report) = told else {
+    let ClearanceAnswer::Report(report) = answer else {
         return [0; 4];
     };
     let least = report.minimum_clearance;
@@ -39,12 +39,12 @@ fn clearance_words(told: ClearanceAnswer) -> [u64; 4]
 }
 
 // Writes the words of the report, and answers the status.
-pub(crate) fn tell_clearance(told: ClearanceAnswer, out: &mut [u64; 4]) -> u32
-    ensures { λ r. ⌜ r ≡ resultOf told .0 ⌝ }
-    ensures { λ _. ⌜ now (out .exit) ≡ clearanceWords (resultOf told .1) ⌝ }
+pub(crate) fn write_clearance(answer: ClearanceAnswer, out: &mut [u64; 4]) -> u32
+    ensures { λ r. ⌜ r ≡ resultOf answer .0 ⌝ }
+    ensures { λ _. ⌜ now (out .exit) ≡ clearanceWords (resultOf answer .1) ⌝ }
 {
-    *out = clearance_words(told);
-    clearance_status(told)
+    *out = clearance_words(answer);
+    clearance_status(answer)
 }
 
 #[no_mangle]
@@ -77,7 +77,7 @@ pub extern "C" fn readability_clearance(
         × (now (scratch .exit) ≡ scratchAfter (firstOf (clearanceConditions lentSegments lentNodes lentExemptions threshold words)) (now (scratch .entry)))
         ) ⌝ }
 {
-    let told = measure_edge_node_clearance_bounded(
+    let answer = measure_edge_node_clearance_bounded(
         net,
         orientation,
         fixed,
@@ -94,5 +94,5 @@ pub extern "C" fn readability_clearance(
         allowance,
         scratch,
     );
-    tell_clearance(told, out)
+    write_clearance(answer, out)
 }

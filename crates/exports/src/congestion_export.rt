@@ -6,7 +6,7 @@ ghost use Rattle.drawing.specs.Entries.{segmentColumns};
 ghost use Rattle.drawing.specs.Checks.{congestionConditions};
 ghost use Rattle.congestion.specs.Ratio as Ratio;
 ghost use Rattle.congestion.specs.Answer.{densityAnswer, profileAnswer, congestionAnswer, resultOf};
-ghost use Rattle.exports.specs.Told.{congestionWords};
+ghost use Rattle.exports.specs.Words.{congestionWords};
 use crate::gap::bits_word;
 use crate::gap::present_word;
 use congestion::CongestionAnswer;
@@ -18,20 +18,20 @@ use drawing::number;
 use floats::bits_of;
 
 // 0 where the call was accepted, else the refusal's number.
-fn congestion_status(told: CongestionAnswer) -> u32
-    ensures { λ r. ⌜ r ≡ resultOf told .0 ⌝ }
+fn congestion_status(answer: CongestionAnswer) -> u32
+    ensures { λ r. ⌜ r ≡ resultOf answer .0 ⌝ }
 {
-    match told {
+    match answer {
         CongestionAnswer::Report(_) => 0,
         CongestionAnswer::Refused(why) => number(why) as u32,
     }
 }
 
 // The report: the bits of the three lengths, the peak, the gap's two words, visits. Zeros at a refusal.
-fn congestion_words(told: CongestionAnswer) -> [u64; 7]
-    ensures { λ r. ⌜ r ≡ congestionWords (resultOf told .1) ⌝ }
+fn congestion_words(answer: CongestionAnswer) -> [u64; 7]
+    ensures { λ r. ⌜ r ≡ congestionWords (resultOf answer .1) ⌝ }
 {
-    let CongestionAnswer::Report(report) = told else {
+    let CongestionAnswer::Report(report) = answer else {
         return [0; 7];
     };
     let figures = report.congestion;
@@ -48,12 +48,12 @@ fn congestion_words(told: CongestionAnswer) -> [u64; 7]
 }
 
 // Writes the words of the report, and answers the status.
-pub(crate) fn tell_congestion(told: CongestionAnswer, out: &mut [u64; 7]) -> u32
-    ensures { λ r. ⌜ r ≡ resultOf told .0 ⌝ }
-    ensures { λ _. ⌜ now (out .exit) ≡ congestionWords (resultOf told .1) ⌝ }
+pub(crate) fn write_congestion(answer: CongestionAnswer, out: &mut [u64; 7]) -> u32
+    ensures { λ r. ⌜ r ≡ resultOf answer .0 ⌝ }
+    ensures { λ _. ⌜ now (out .exit) ≡ congestionWords (resultOf answer .1) ⌝ }
 {
-    *out = congestion_words(told);
-    congestion_status(told)
+    *out = congestion_words(answer);
+    congestion_status(answer)
 }
 
 // The density profile: all figures, within an allowance.
@@ -78,7 +78,7 @@ pub extern "C" fn readability_density_profile(
         × (now (scratch .exit) ≡ scratchAfter (firstOf (congestionConditions lent cutoff words)) (now (scratch .entry)))
         ) ⌝ }
 {
-    let told = measure_parallel_density_profile_bounded(
+    let answer = measure_parallel_density_profile_bounded(
         net,
         orientation,
         fixed,
@@ -88,7 +88,7 @@ pub extern "C" fn readability_density_profile(
         allowance,
         scratch,
     );
-    tell_congestion(told, out)
+    write_congestion(answer, out)
 }
 
 // The congestion profile: the same with pair overlap and peak zero.
@@ -113,7 +113,7 @@ pub extern "C" fn readability_congestion_profile(
         × (now (scratch .exit) ≡ scratchAfter (firstOf (congestionConditions lent cutoff words)) (now (scratch .entry)))
         ) ⌝ }
 {
-    let told = measure_parallel_congestion_profile_bounded(
+    let answer = measure_parallel_congestion_profile_bounded(
         net,
         orientation,
         fixed,
@@ -123,7 +123,7 @@ pub extern "C" fn readability_congestion_profile(
         allowance,
         scratch,
     );
-    tell_congestion(told, out)
+    write_congestion(answer, out)
 }
 
 // All figures, without an allowance.
@@ -147,14 +147,14 @@ pub extern "C" fn readability_congestion(
         × (now (scratch .exit) ≡ scratchAfter (firstOf (congestionConditions lent cutoff words)) (now (scratch .entry)))
         ) ⌝ }
 {
-    let told = measure_parallel_congestion(net, orientation, fixed, start, end, cutoff, scratch);
-    tell_congestion(told, out)
+    let answer = measure_parallel_congestion(net, orientation, fixed, start, end, cutoff, scratch);
+    write_congestion(answer, out)
 }
 
 // The ratio takes nothing from the two figures that are left at zero.
 #[no_mangle]
 pub extern "C" fn readability_ratio(total: f64, congested: f64) -> f64
-    ensures { λ r. ⌜ r ≡ Ratio.ratio congested total ⌝ }
+    ensures { λ r. ⌜ r ≡ Ratio.ratio total congested ⌝ }
 {
     let lengths = ParallelCongestion {
         total_length: total,

@@ -1,6 +1,6 @@
 // A least gap as two words: 1 and its bits where it is present, two zeros where it is absent.
 ghost use mathlib.Core.Path.{_≡_};
-ghost use Rattle.exports.specs.Told.{presentWord, bitsWord};
+ghost use Rattle.exports.specs.Words.{presentWord, bitsWord};
 use drawing::Gap;
 use floats::bits_of;
 

@@ -8,10 +8,10 @@ ghost use Rattle.separation.specs.Answer as Separation;
 ghost use Rattle.congestion.specs.Answer as Congestion;
 ghost use Rattle.clearance.specs.Answer as Clearance;
 ghost use Rattle.records.specs.Records.{parallelColumns, edgeNodeColumns};
-ghost use Rattle.exports.specs.Told.{separationWords, congestionWords, clearanceWords};
-use crate::clearance_export::tell_clearance;
-use crate::congestion_export::tell_congestion;
-use crate::separation_export::tell_separation;
+ghost use Rattle.exports.specs.Words.{separationWords, congestionWords, clearanceWords};
+use crate::clearance_export::write_clearance;
+use crate::congestion_export::write_congestion;
+use crate::separation_export::write_separation;
 use records::EdgeNodeSegment;
 use records::ParallelSegment;
 use records::measure_edge_node_clearance_bounded_by_records;
@@ -36,8 +36,8 @@ pub extern "C" fn readability_separation_by_records(
         × (now (scratch .exit) ≡ scratchAfter (firstOf (separationConditions lent words)) (now (scratch .entry)))
         ) ⌝ }
 {
-    let told = measure_parallel_separation_bounded_by_records(records, allowance, scratch);
-    tell_separation(told, out)
+    let answer = measure_parallel_separation_bounded_by_records(records, allowance, scratch);
+    write_separation(answer, out)
 }
 
 #[no_mangle]
@@ -57,13 +57,13 @@ pub extern "C" fn readability_density_profile_by_records(
         × (now (scratch .exit) ≡ scratchAfter (firstOf (congestionConditions lent cutoff words)) (now (scratch .entry)))
         ) ⌝ }
 {
-    let told = measure_parallel_density_profile_bounded_by_records(
+    let answer = measure_parallel_density_profile_bounded_by_records(
         records,
         cutoff,
         allowance,
         scratch,
     );
-    tell_congestion(told, out)
+    write_congestion(answer, out)
 }
 
 #[no_mangle]
@@ -83,13 +83,13 @@ pub extern "C" fn readability_congestion_profile_by_records(
         × (now (scratch .exit) ≡ scratchAfter (firstOf (congestionConditions lent cutoff words)) (now (scratch .entry)))
         ) ⌝ }
 {
-    let told = measure_parallel_congestion_profile_bounded_by_records(
+    let answer = measure_parallel_congestion_profile_bounded_by_records(
         records,
         cutoff,
         allowance,
         scratch,
     );
-    tell_congestion(told, out)
+    write_congestion(answer, out)
 }
 
 #[no_mangle]
@@ -108,8 +108,8 @@ pub extern "C" fn readability_congestion_by_records(
         × (now (scratch .exit) ≡ scratchAfter (firstOf (congestionConditions lent cutoff words)) (now (scratch .entry)))
         ) ⌝ }
 {
-    let told = measure_parallel_congestion_by_records(records, cutoff, scratch);
-    tell_congestion(told, out)
+    let answer = measure_parallel_congestion_by_records(records, cutoff, scratch);
+    write_congestion(answer, out)
 }
 
 #[no_mangle]
@@ -138,7 +138,7 @@ pub extern "C" fn readability_clearance_by_records(
         × (now (scratch .exit) ≡ scratchAfter (firstOf (clearanceConditions lentSegments lentNodes lentExemptions threshold words)) (now (scratch .entry)))
         ) ⌝ }
 {
-    let told = measure_edge_node_clearance_bounded_by_records(
+    let answer = measure_edge_node_clearance_bounded_by_records(
         records,
         id,
         x,
@@ -151,5 +151,5 @@ pub extern "C" fn readability_clearance_by_records(
         allowance,
         scratch,
     );
-    tell_clearance(told, out)
+    write_clearance(answer, out)
 }

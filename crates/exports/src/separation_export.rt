@@ -5,7 +5,7 @@ ghost use Rattle.drawing.specs.Refusals.{firstOf, scratchAfter};
 ghost use Rattle.drawing.specs.Entries.{segmentColumns};
 ghost use Rattle.drawing.specs.Checks.{separationConditions};
 ghost use Rattle.separation.specs.Answer.{separationAnswer, resultOf};
-ghost use Rattle.exports.specs.Told.{separationWords};
+ghost use Rattle.exports.specs.Words.{separationWords};
 use crate::gap::bits_word;
 use crate::gap::present_word;
 use drawing::number;
@@ -13,20 +13,20 @@ use separation::SeparationAnswer;
 use separation_call::measure_parallel_separation_bounded;
 
 // 0 where the call was accepted, else the refusal's number.
-fn separation_status(told: SeparationAnswer) -> u32
-    ensures { λ r. ⌜ r ≡ resultOf told .0 ⌝ }
+fn separation_status(answer: SeparationAnswer) -> u32
+    ensures { λ r. ⌜ r ≡ resultOf answer .0 ⌝ }
 {
-    match told {
+    match answer {
         SeparationAnswer::Report(_) => 0,
         SeparationAnswer::Refused(why) => number(why) as u32,
     }
 }
 
 // The report: the two words of each gap, visits. Zeros at a refusal.
-fn separation_words(told: SeparationAnswer) -> [u64; 5]
-    ensures { λ r. ⌜ r ≡ separationWords (resultOf told .1) ⌝ }
+fn separation_words(answer: SeparationAnswer) -> [u64; 5]
+    ensures { λ r. ⌜ r ≡ separationWords (resultOf answer .1) ⌝ }
 {
-    let SeparationAnswer::Report(report) = told else {
+    let SeparationAnswer::Report(report) = answer else {
         return [0; 5];
     };
     let least = report.minimum;
@@ -41,12 +41,12 @@ fn separation_words(told: SeparationAnswer) -> [u64; 5]
 }
 
 // Writes the words of the report, and answers the status.
-pub(crate) fn tell_separation(told: SeparationAnswer, out: &mut [u64; 5]) -> u32
-    ensures { λ r. ⌜ r ≡ resultOf told .0 ⌝ }
-    ensures { λ _. ⌜ now (out .exit) ≡ separationWords (resultOf told .1) ⌝ }
+pub(crate) fn write_separation(answer: SeparationAnswer, out: &mut [u64; 5]) -> u32
+    ensures { λ r. ⌜ r ≡ resultOf answer .0 ⌝ }
+    ensures { λ _. ⌜ now (out .exit) ≡ separationWords (resultOf answer .1) ⌝ }
 {
-    *out = separation_words(told);
-    separation_status(told)
+    *out = separation_words(answer);
+    separation_status(answer)
 }
 
 #[no_mangle]
@@ -69,7 +69,7 @@ pub extern "C" fn readability_separation(
         × (now (scratch .exit) ≡ scratchAfter (firstOf (separationConditions lent words)) (now (scratch .entry)))
         ) ⌝ }
 {
-    let told = measure_parallel_separation_bounded(
+    let answer = measure_parallel_separation_bounded(
         net,
         orientation,
         fixed,
@@ -78,5 +78,5 @@ pub extern "C" fn readability_separation(
         allowance,
         scratch,
     );
-    tell_separation(told, out)
+    write_separation(answer, out)
 }

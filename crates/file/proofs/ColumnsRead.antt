@@ -1,4 +1,4 @@
--- The columns of a file that is read: room for the values of each entry, and what a filled column is in the drawing's terms. Assumes nothing.
+-- The answer's number and values, and the columns of a file that is read: room for the values of each entry, and what a filled column is in the drawing's terms. Assumes nothing.
 use mathlib.Core.Path.{_≡_, refl, sym, ap, _∙_}
 use mathlib.Core.List.{List, _++_, map, map-map}
 use Prim.Native.Nat.{ℕ, suc, _+_, _*_, _≤_}
@@ -11,8 +11,14 @@ use Rattle.file.specs.declared.reading.Reading.{Reading}
 use Rattle.file.specs.declared.reading.Reading.the-variants as answers
 use Rattle.file.specs.Reading.{Read, got, refused, Drawing, read}
 use Rattle.file.specs.Places.{places, Room}
-use Rattle.file.specs.Columns.{headerOf, readingOf, columnAfter}
+use Rattle.file.specs.Columns.{headerOf, readingOf, resultOf, fileResult, columnAfter}
 use Rattle.file.proofs.FixedPlaces.{length-places, map-from}
+
+-- an answer has the number and values of its file
+pub reading-result : (x : Reading) (r : Read Drawing) → x ≡ readingOf r → resultOf x ≡ fileResult r
+unfolding readingOf resultOf fileResult
+reading-result x (got d rest) e = ap resultOf e
+reading-result x (refused w) e = ap resultOf e
 
 -- k bytes at offset o of each entry, where the entries are all there
 pub room-at : (k o w n at to : ℕ) (l : List ℕ) → o + k ≤ w → at + w * n ≤ length l → to ≡ at + o → Room k w n to l

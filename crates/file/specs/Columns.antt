@@ -1,6 +1,9 @@
--- What reading a drawing file answers, and what the lent columns hold then.
+-- What reading a drawing file answers, with the number and values of each case, and what the lent columns hold then.
 use mathlib.Core.List.{List, _++_, map}
+use mathlib.Core.Option.{Option, none, some}
+use Prim.Native.Nat.{ℕ}
 use lib.ListN.{length, drop}
+use Rattle.drawing.specs.Refusals.{numberOf}
 use Rattle.file.specs.declared.reading.Header.{Header}
 use Rattle.file.specs.declared.reading.Reading.{Reading}
 use Rattle.file.specs.declared.reading.Reading.the-variants as answers
@@ -20,6 +23,16 @@ headerOf d =
 unfoldable pub readingOf : Read Drawing → Reading
 readingOf (got d rest) = answers.Read (headerOf d)
 readingOf (refused r) = answers.Refused r
+
+-- each case of the answer by its number, 0 for a file that is read, and its values: "A refusal returns its number", and there is no header
+unfoldable pub resultOf : Reading → ℕ × Option Header
+resultOf (answers.Read h) = (0, some h)
+resultOf (answers.Refused w) = (numberOf w, none)
+
+-- the number and values that a file has
+unfoldable pub fileResult : Read Drawing → ℕ × Option Header
+fileResult (got d rest) = (0, some (headerOf d))
+fileResult (refused w) = (numberOf w, none)
 
 -- a lent column: f of each entry of its list, in front of what stood behind; a refused file "touches no lent memory"
 unfoldable pub columnAfter : {A B : Type 0} → (Drawing → List A) → (A → B) → Read Drawing → List B → List B

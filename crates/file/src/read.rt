@@ -1,7 +1,7 @@
 // A drawing file, read into lent columns.
 ghost use mathlib.Core.Path.{_≡_};
 ghost use Rattle.file.specs.Reading.{read};
-ghost use Rattle.file.specs.Columns.{readingOf, columnAfter};
+ghost use Rattle.file.specs.Columns.{readingOf, resultOf, fileResult, columnAfter};
 use crate::fill::fill_bytes;
 use crate::fill::fill_floats;
 use crate::fill::fill_numbers;
@@ -24,7 +24,7 @@ pub fn read_drawing(
     exempt_net: &mut [u32; 240],
     exempt_node: &mut [u32; 240],
 ) -> Reading
-    ensures { λ r. ⌜ r ≡ readingOf (read (now (bytes .entry))) ⌝ }
+    ensures { λ r. ⌜ (r ≡ readingOf (read (now (bytes .entry)))) × (resultOf r ≡ fileResult (read (now (bytes .entry)))) ⌝ }
     ensures { λ _. ⌜ now (net .exit) ≡ columnAfter (λ d. d .segments) (λ s. s .net) (read (now (bytes .entry))) (now (net .entry)) ⌝ }
     ensures { λ _. ⌜ now (orientation .exit) ≡ columnAfter (λ d. d .segments) (λ s. s .orientation) (read (now (bytes .entry))) (now (orientation .entry)) ⌝ }
     ensures { λ _. ⌜ now (fixed .exit) ≡ columnAfter (λ d. d .segments) (λ s. s .fixed) (read (now (bytes .entry))) (now (fixed .entry)) ⌝ }

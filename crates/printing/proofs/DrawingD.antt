@@ -11,7 +11,8 @@ use Rattle.separation.proofs.Examples as OfSeparation
 use Rattle.congestion.specs.Answer.{densityAnswer}
 use Rattle.congestion.proofs.Examples as OfCongestion
 use Rattle.file.specs.Reading.{got, Drawing, then, bigEndian, number, float as readFloat, version, orientation, segment, node, exemption, entries, counted, settings, parts, ended, read}
-use Rattle.printing.specs.Text.{glyph, hexadecimal, leading, decimal, float, gap, fields}
+use Rattle.text.specs.Text.{glyph, hexadecimal, leading, decimal, float}
+use Rattle.printing.specs.Fields.{gap, fields}
 use Rattle.printing.specs.Sheet.{clearanceWord, separationWord, congestionWord, clearanceLine, separationLine, congestionLine, scratchWords, measured, lines, printed, sheet}
 use Rattle.printing.proofs.Printing.{three}
 

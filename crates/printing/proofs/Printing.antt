@@ -20,8 +20,8 @@ use Rattle.separation.specs.Answer.{separationAnswer}
 use Rattle.congestion.specs.declared.report.CongestionAnswer.{CongestionAnswer}
 use Rattle.congestion.specs.Answer.{densityAnswer}
 use Rattle.printing.specs.Sheet.{fileWord, refusal, clearanceLine, separationLine, congestionLine, scratchWords, measured, lines, printed}
-use Rattle.printing.specs.TextPut.{Put}
-use Rattle.printing.proofs.TextPuts.{put-same}
+use Rattle.text.specs.TextPut.{Put}
+use Rattle.text.proofs.TextPuts.{put-same}
 
 -- the answers of the reader are told apart
 abbrev IsRead : Reading → Type 0

@@ -1,5 +1,3 @@
 -- The definitions: the text of a sheet.
-pub mod Text
+pub mod Fields
 pub mod Sheet
--- what only private contracts cite
-pub mod TextPut

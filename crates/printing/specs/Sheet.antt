@@ -14,7 +14,8 @@ use Rattle.congestion.specs.declared.report.CongestionAnswer.{CongestionAnswer}
 use Rattle.congestion.specs.declared.report.CongestionAnswer.the-variants as ofCongestion
 use Rattle.congestion.specs.Answer.{densityAnswer}
 use Rattle.file.specs.Reading.{Settings, Drawing, Read, got, refused, read}
-use Rattle.printing.specs.Text.{decimal, float, gap, fields}
+use Rattle.text.specs.Text.{decimal, float}
+use Rattle.printing.specs.Fields.{gap, fields}
 
 -- the words of a sheet, as bytes: clearance, separation, congestion, file, refused
 unfoldable pub clearanceWord : List ℕ

@@ -1,6 +1,5 @@
 // The sheet of a drawing file: the text of the three answers.
 mod lines;
 pub mod print;
-mod text;
 
 pub use print::sheet;

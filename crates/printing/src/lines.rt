@@ -1,34 +1,39 @@
 // The lines of a sheet, put into a lent buffer from an index on. Each function answers the index behind its text.
 ghost use mathlib.Core.List.{[], _∷_, _++_};
-ghost use Prim.Native.Nat.{_+_, _≤_};
-ghost use lib.ListN.{length};
 ghost use Rattle.drawing.specs.Refusals.{numberOf};
-ghost use Rattle.printing.specs.Text as Text;
-ghost use Rattle.printing.specs.TextPut.{Put};
+ghost use Rattle.text.specs.Text as Text;
+ghost use Rattle.text.specs.TextPut.{Put};
+ghost use Rattle.printing.specs.Fields as Fields;
 ghost use Rattle.printing.specs.Sheet as Sheet;
-use crate::text::put_byte;
-use crate::text::put_decimal;
-use crate::text::put_float;
-use crate::text::put_gap;
-use crate::text::put_word;
 use clearance::ClearanceAnswer;
 use congestion::CongestionAnswer;
 use drawing::Gap;
 use drawing::Refusal;
 use drawing::number;
 use separation::SeparationAnswer;
+use text::put_byte;
+use text::put_decimal;
+use text::put_float;
+use text::put_word;
+
+fn put_gap(gap: Gap, text: &mut [u8], at: usize) -> usize
+    ensures { λ r. ⌜ Put 16 (now (text .entry)) at (Fields.gap gap) (now (text .exit)) r ⌝ }
+{
+    match gap {
+        Gap::Absent => put_word(b"none", text, at),
+        Gap::Present(x) => put_float(x, text, at),
+    }
+}
 
 // Fields, each with the space in front of it.
 fn gap_field(gap: Gap, text: &mut [u8], at: usize) -> usize
-    requires { ⌜ at + 17 ≤ length (now text) ⌝ }
-    ensures { λ r. ⌜ Put 17 (now (text .entry)) at (32 ∷ Text.gap gap) (now (text .exit)) r ⌝ }
+    ensures { λ r. ⌜ Put 17 (now (text .entry)) at (32 ∷ Fields.gap gap) (now (text .exit)) r ⌝ }
 {
     let next = put_byte(b' ', text, at);
     put_gap(gap, text, next)
 }
 
 fn float_field(x: f64, text: &mut [u8], at: usize) -> usize
-    requires { ⌜ at + 17 ≤ length (now text) ⌝ }
     ensures { λ r. ⌜ Put 17 (now (text .entry)) at (32 ∷ Text.float x) (now (text .exit)) r ⌝ }
 {
     let next = put_byte(b' ', text, at);
@@ -36,7 +41,6 @@ fn float_field(x: f64, text: &mut [u8], at: usize) -> usize
 }
 
 fn count_field(count: usize, text: &mut [u8], at: usize) -> usize
-    requires { ⌜ at + 21 ≤ length (now text) ⌝ }
     ensures { λ r. ⌜ Put 21 (now (text .entry)) at (32 ∷ Text.decimal «count») (now (text .exit)) r ⌝ }
 {
     let next = put_byte(b' ', text, at);
@@ -45,8 +49,7 @@ fn count_field(count: usize, text: &mut [u8], at: usize) -> usize
 
 // The end of a line: a gap and the visits.
 fn gap_and_visits(gap: Gap, visits: usize, text: &mut [u8], at: usize) -> usize
-    requires { ⌜ at + 39 ≤ length (now text) ⌝ }
-    ensures { λ r. ⌜ Put 39 (now (text .entry)) at (Text.fields (Text.gap gap ∷ Text.decimal visits ∷ [])) (now (text .exit)) r ⌝ }
+    ensures { λ r. ⌜ Put 39 (now (text .entry)) at (Fields.fields (Fields.gap gap ∷ Text.decimal visits ∷ [])) (now (text .exit)) r ⌝ }
 {
     let next = gap_field(gap, text, at);
     let end = count_field(visits, text, next);
@@ -55,8 +58,7 @@ fn gap_and_visits(gap: Gap, visits: usize, text: &mut [u8], at: usize) -> usize
 
 // What stands behind the name in the line of a refused measure or file.
 fn refused_fields(why: Refusal, text: &mut [u8], at: usize) -> usize
-    requires { ⌜ at + 30 ≤ length (now text) ⌝ }
-    ensures { λ r. ⌜ Put 30 (now (text .entry)) at (Text.fields (Sheet.refusedWord ∷ Text.decimal (numberOf why) ∷ [])) (now (text .exit)) r ⌝ }
+    ensures { λ r. ⌜ Put 30 (now (text .entry)) at (Fields.fields (Sheet.refusedWord ∷ Text.decimal (numberOf why) ∷ [])) (now (text .exit)) r ⌝ }
 {
     let at = put_word(b" refused", text, at);
     let next = count_field(number(why) as usize, text, at);
@@ -64,7 +66,6 @@ fn refused_fields(why: Refusal, text: &mut [u8], at: usize) -> usize
 }
 
 pub(crate) fn file_refused(why: Refusal, text: &mut [u8], at: usize) -> usize
-    requires { ⌜ at + 34 ≤ length (now text) ⌝ }
     ensures { λ r. ⌜ Put 34 (now (text .entry)) at (Sheet.refusal Sheet.fileWord why) (now (text .exit)) r ⌝ }
 {
     let at = put_word(b"file", text, at);
@@ -72,7 +73,6 @@ pub(crate) fn file_refused(why: Refusal, text: &mut [u8], at: usize) -> usize
 }
 
 pub(crate) fn clearance_line(answer: ClearanceAnswer, text: &mut [u8], at: usize) -> usize
-    requires { ⌜ at + 69 ≤ length (now text) ⌝ }
     ensures { λ r. ⌜ Put 69 (now (text .entry)) at (Sheet.clearanceLine answer) (now (text .exit)) r ⌝ }
 {
     let at = put_word(b"clearance", text, at);
@@ -89,7 +89,6 @@ pub(crate) fn clearance_line(answer: ClearanceAnswer, text: &mut [u8], at: usize
 }
 
 pub(crate) fn separation_line(answer: SeparationAnswer, text: &mut [u8], at: usize) -> usize
-    requires { ⌜ at + 66 ≤ length (now text) ⌝ }
     ensures { λ r. ⌜ Put 66 (now (text .entry)) at (Sheet.separationLine answer) (now (text .exit)) r ⌝ }
 {
     let at = put_word(b"separation", text, at);
@@ -105,7 +104,6 @@ pub(crate) fn separation_line(answer: SeparationAnswer, text: &mut [u8], at: usi
 }
 
 pub(crate) fn congestion_line(answer: CongestionAnswer, text: &mut [u8], at: usize) -> usize
-    requires { ⌜ at + 121 ≤ length (now text) ⌝ }
     ensures { λ r. ⌜ Put 121 (now (text .entry)) at (Sheet.congestionLine answer) (now (text .exit)) r ⌝ }
 {
     let at = put_word(b"congestion", text, at);
@@ -130,7 +128,6 @@ pub(crate) fn three_lines(
     congestion: CongestionAnswer,
     text: &mut [u8],
 ) -> usize
-    requires { ⌜ 256 ≤ length (now text) ⌝ }
     ensures { λ r. ⌜ Put 256 (now (text .entry)) 0 (Sheet.clearanceLine clearance ++ (Sheet.separationLine separation ++ Sheet.congestionLine congestion)) (now (text .exit)) r ⌝ }
 {
     let at = clearance_line(clearance, text, 0);

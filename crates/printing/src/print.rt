@@ -1,12 +1,11 @@
 // The sheet of a drawing file: from the file's bytes to the bytes of the text.
 ghost use mathlib.Core.Path.{_≡_};
 ghost use mathlib.Core.List.{_++_};
-ghost use Prim.Native.Nat.{_≤_};
 ghost use lib.ListN.{length, drop};
 ghost use Rattle.drawing.specs.Entries.{segmentColumns, nodeColumns, exemptionColumns};
 ghost use Rattle.file.specs.Columns.{settingsOf};
+ghost use Rattle.text.specs.TextPut.{Put};
 ghost use Rattle.printing.specs.Sheet.{measured, sheet};
-ghost use Rattle.printing.specs.TextPut.{Put};
 use crate::lines::file_refused;
 use crate::lines::three_lines;
 use clearance_call::measure_edge_node_clearance_bounded;
@@ -33,7 +32,6 @@ fn put_lines(
     header: Header,
     text: &mut [u8],
 ) -> usize
-    requires { ⌜ 256 ≤ length (now text) ⌝ }
     ensures { λ r. ⌜ Put 256 (now (text .entry)) 0 (measured (segmentColumns (now (net .entry)) (now (orientation .entry)) (now (fixed .entry)) (now (start .entry)) (now (end .entry))) (nodeColumns (now (id .entry)) (now (x .entry)) (now (y .entry)) (now (width .entry)) (now (height .entry))) (exemptionColumns (now («exempt_net» .entry)) (now («exempt_node» .entry))) (settingsOf header)) (now (text .exit)) r ⌝ }
 {
     let mut scratch = [0u64; 7744];
@@ -93,7 +91,7 @@ pub fn sheet(bytes: &[u8], text: &mut [u8; 256]) -> usize
     let mut height = [0.0; 120];
     let mut exempt_net = [0u32; 240];
     let mut exempt_node = [0u32; 240];
-    let told = read_drawing(
+    let reading = read_drawing(
         bytes,
         &mut net,
         &mut orientation,
@@ -108,7 +106,7 @@ pub fn sheet(bytes: &[u8], text: &mut [u8; 256]) -> usize
         &mut exempt_net,
         &mut exempt_node,
     );
-    match told {
+    match reading {
         Reading::Refused(why) => file_refused(why, text, 0),
         Reading::Read(header) => put_lines(
             &net[..header.segments],

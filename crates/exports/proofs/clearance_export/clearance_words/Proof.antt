@@ -1,13 +1,13 @@
 -- `exports::clearance_export::clearance_words` meets its contract: case by case. Assumes nothing.
 use mathlib.Core.Path.{refl, sym, ap}
 use Rattle.clearance.specs.Answer.{resultOf}
-use Rattle.exports.specs.Told.{presentWord, bitsWord, clearanceWords}
+use Rattle.exports.specs.Words.{presentWord, bitsWord, clearanceWords}
 use borrow.Author.Needs.{needs}
 use Rattle.exports.proofs.clearance_export.clearance_words.Statement.{statement}
 use Rattle.exports.proofs.clearance_export.clearance_words.Tie as tie
 
-enum-known-told : tie.Need-enum-known-told
-enum-known-told c = search needs
+enum-known-answer : tie.Need-enum-known-answer
+enum-known-answer c = search needs
 
 enum-told : tie.Need-enum-told
 enum-told c = search needs
@@ -24,9 +24,9 @@ bits-word-requires c κs = search needs
 
 returns-2 : tie.Need-returns-2
 unfolding clearanceWords resultOf
-returns-2 c = rw (c .before .before .before .told .given .1, c .bits-word .ensures, c .before .present-word .ensures) refl
+returns-2 c = rw (c .before .before .before .answer .given .1, c .bits-word .ensures, c .before .present-word .ensures) refl
 
 pub clearance-words-spec : {M : Type 1} → statement M
 clearance-words-spec =
     tie.close
-    (tie.spec enum-known-told enum-told returns present-word-requires bits-word-requires returns-2)
+    (tie.spec enum-known-answer enum-told returns present-word-requires bits-word-requires returns-2)

@@ -1,7 +1,7 @@
--- `exports::clearance_export::readability_clearance` meets its contract: the call's own, with its answer told in numbers. Assumes nothing.
+-- `exports::clearance_export::readability_clearance` meets its contract: the call's own, with its answer in words. Assumes nothing.
 use mathlib.Core.Path.{ap, _∙_}
 use Rattle.clearance.specs.Answer.{resultOf}
-use Rattle.exports.specs.Told.{clearanceWords}
+use Rattle.exports.specs.Words.{clearanceWords}
 use borrow.Author.Needs.{needs}
 use Rattle.exports.proofs.clearance_export.readability_clearance.Statement.{statement}
 use Rattle.exports.proofs.clearance_export.readability_clearance.Tie as tie
@@ -10,8 +10,8 @@ measure-edge-node-clearance-bounded-requires :
     tie.Need-measure-edge-node-clearance-bounded-requires
 measure-edge-node-clearance-bounded-requires c κs = search needs
 
-tell-clearance-requires : tie.Need-tell-clearance-requires
-tell-clearance-requires c κs = search needs
+write-clearance-requires : tie.Need-write-clearance-requires
+write-clearance-requires c κs = search needs
 
 same-length : tie.Need-same-length
 same-length c = search needs
@@ -19,8 +19,8 @@ same-length c = search needs
 returns : tie.Need-returns
 returns c =
     let measured = c .before .before .before .before .measure-edge-node-clearance-bounded in (
-      c .tell-clearance .ensures .0 ∙ ap (λ a. resultOf a .0) (measured .ensures .0),
-      c .tell-clearance .ensures .1 ∙ ap (λ a. clearanceWords (resultOf a .1)) (measured .ensures .0),
+      c .write-clearance .ensures .0 ∙ ap (λ a. resultOf a .0) (measured .ensures .0),
+      c .write-clearance .ensures .1 ∙ ap (λ a. clearanceWords (resultOf a .1)) (measured .ensures .0),
       measured .ensures .1,
     )
 
@@ -29,6 +29,6 @@ readability-clearance-spec =
     tie.close
     (tie.spec
     measure-edge-node-clearance-bounded-requires
-    tell-clearance-requires
+    write-clearance-requires
     same-length
     returns)

@@ -2,13 +2,13 @@
 use mathlib.Core.Path.{refl, sym, ap}
 use lib.Ieee.{toBits}
 use Rattle.congestion.specs.Answer.{resultOf}
-use Rattle.exports.specs.Told.{presentWord, bitsWord, congestionWords}
+use Rattle.exports.specs.Words.{presentWord, bitsWord, congestionWords}
 use borrow.Author.Needs.{needs}
 use Rattle.exports.proofs.congestion_export.congestion_words.Statement.{statement}
 use Rattle.exports.proofs.congestion_export.congestion_words.Tie as tie
 
-enum-known-told : tie.Need-enum-known-told
-enum-known-told c = search needs
+enum-known-answer : tie.Need-enum-known-answer
+enum-known-answer c = search needs
 
 enum-told : tie.Need-enum-told
 enum-told c = search needs
@@ -34,13 +34,13 @@ bits-word-requires c κs = search needs
 
 returns-2 : tie.Need-returns-2
 unfolding congestionWords resultOf
-returns-2 c = rw (c .before .before .before .before .before .before .before .told .given .1, c .bits-word .ensures, c .before .present-word .ensures, c .before .before .bits-of3 .ensures, c .before .before .before .bits-of2 .ensures, c .before .before .before .before .bits-of .ensures) refl
+returns-2 c = rw (c .before .before .before .before .before .before .before .answer .given .1, c .bits-word .ensures, c .before .present-word .ensures, c .before .before .bits-of3 .ensures, c .before .before .before .bits-of2 .ensures, c .before .before .before .before .bits-of .ensures) refl
 
 pub congestion-words-spec : {M : Type 1} → statement M
 congestion-words-spec =
     tie.close
     (tie.spec
-    enum-known-told
+    enum-known-answer
     enum-told
     returns
     bits-of-requires

@@ -1,7 +1,7 @@
--- `exports::congestion_export::readability_congestion` meets its contract: the call's own, with its answer told in numbers. Assumes nothing.
+-- `exports::congestion_export::readability_congestion` meets its contract: the call's own, with its answer in words. Assumes nothing.
 use mathlib.Core.Path.{ap, _∙_}
 use Rattle.congestion.specs.Answer.{resultOf}
-use Rattle.exports.specs.Told.{congestionWords}
+use Rattle.exports.specs.Words.{congestionWords}
 use borrow.Author.Needs.{needs}
 use Rattle.exports.proofs.congestion_export.readability_congestion.Statement.{statement}
 use Rattle.exports.proofs.congestion_export.readability_congestion.Tie as tie
@@ -9,8 +9,8 @@ use Rattle.exports.proofs.congestion_export.readability_congestion.Tie 
 measure-parallel-congestion-requires : tie.Need-measure-parallel-congestion-requires
 measure-parallel-congestion-requires c κs = search needs
 
-tell-congestion-requires : tie.Need-tell-congestion-requires
-tell-congestion-requires c κs = search needs
+write-congestion-requires : tie.Need-write-congestion-requires
+write-congestion-requires c κs = search needs
 
 same-length : tie.Need-same-length
 same-length c = search needs
@@ -18,8 +18,8 @@ same-length c = search needs
 returns : tie.Need-returns
 returns c =
     let measured = c .before .before .before .before .measure-parallel-congestion in (
-      c .tell-congestion .ensures .0 ∙ ap (λ a. resultOf a .0) (measured .ensures .0),
-      c .tell-congestion .ensures .1 ∙ ap (λ a. congestionWords (resultOf a .1)) (measured .ensures .0),
+      c .write-congestion .ensures .0 ∙ ap (λ a. resultOf a .0) (measured .ensures .0),
+      c .write-congestion .ensures .1 ∙ ap (λ a. congestionWords (resultOf a .1)) (measured .ensures .0),
       measured .ensures .1,
     )
 
@@ -28,6 +28,6 @@ readability-congestion-spec =
     tie.close
     (tie.spec
     measure-parallel-congestion-requires
-    tell-congestion-requires
+    write-congestion-requires
     same-length
     returns)

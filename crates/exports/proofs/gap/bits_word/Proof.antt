@@ -1,6 +1,6 @@
 -- `exports::gap::bits_word` meets its contract: case by case. Assumes nothing.
 use mathlib.Core.Path.{sym, ap, _∙_}
-use Rattle.exports.specs.Told.{bitsWord}
+use Rattle.exports.specs.Words.{bitsWord}
 use borrow.Author.Needs.{needs}
 use Rattle.exports.proofs.gap.bits_word.Statement.{statement}
 use Rattle.exports.proofs.gap.bits_word.Tie as tie

@@ -1,6 +1,6 @@
 -- `exports::gap::present_word` meets its contract: case by case. Assumes nothing.
 use mathlib.Core.Path.{sym, ap}
-use Rattle.exports.specs.Told.{presentWord}
+use Rattle.exports.specs.Words.{presentWord}
 use borrow.Author.Needs.{needs}
 use Rattle.exports.proofs.gap.present_word.Statement.{statement}
 use Rattle.exports.proofs.gap.present_word.Tie as tie

@@ -1,13 +1,13 @@
 -- `exports::separation_export::separation_words` meets its contract: case by case. Assumes nothing.
 use mathlib.Core.Path.{refl, sym, ap}
 use Rattle.separation.specs.Answer.{resultOf}
-use Rattle.exports.specs.Told.{presentWord, bitsWord, separationWords}
+use Rattle.exports.specs.Words.{presentWord, bitsWord, separationWords}
 use borrow.Author.Needs.{needs}
 use Rattle.exports.proofs.separation_export.separation_words.Statement.{statement}
 use Rattle.exports.proofs.separation_export.separation_words.Tie as tie
 
-enum-known-told : tie.Need-enum-known-told
-enum-known-told c = search needs
+enum-known-answer : tie.Need-enum-known-answer
+enum-known-answer c = search needs
 
 enum-told : tie.Need-enum-told
 enum-told c = search needs
@@ -30,13 +30,13 @@ bits-word-requires-2 c κs = search needs
 
 returns-2 : tie.Need-returns-2
 unfolding separationWords resultOf
-returns-2 c = rw (c .before .before .before .before .before .told .given .1, c .bits-word2 .ensures, c .before .present-word2 .ensures, c .before .before .bits-word .ensures, c .before .before .before .present-word .ensures) refl
+returns-2 c = rw (c .before .before .before .before .before .answer .given .1, c .bits-word2 .ensures, c .before .present-word2 .ensures, c .before .before .bits-word .ensures, c .before .before .before .present-word .ensures) refl
 
 pub separation-words-spec : {M : Type 1} → statement M
 separation-words-spec =
     tie.close
     (tie.spec
-    enum-known-told
+    enum-known-answer
     enum-told
     returns
     present-word-requires

@@ -11,8 +11,8 @@ enum-told c = search needs
 enum-told-2 : tie.Need-enum-told-2
 enum-told-2 c = search needs
 
-enum-known-told : tie.Need-enum-known-told
-enum-known-told c = search needs
+enum-known-answer : tie.Need-enum-known-answer
+enum-known-answer c = search needs
 
 number-requires : tie.Need-number-requires
 number-requires c κs = search needs
@@ -30,7 +30,7 @@ returns-2 c = sym (ap (λ a. resultOf a .0) (c .enum-told2 .given .1))
 
 returns-3 : tie.Need-returns-3
 unfolding resultOf
-returns-3 c = c .number .ensures ∙ sym (ap (λ a. resultOf a .0) (c .before .before .told .given .1))
+returns-3 c = c .number .ensures ∙ sym (ap (λ a. resultOf a .0) (c .before .before .answer .given .1))
 
 pub tight-pair-status-spec : {M : Type 1} → statement M
 tight-pair-status-spec =
@@ -38,7 +38,7 @@ tight-pair-status-spec =
     (tie.spec
     enum-told
     enum-told-2
-    enum-known-told
+    enum-known-answer
     number-requires
     cast-result
     returns

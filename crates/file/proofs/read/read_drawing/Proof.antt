@@ -8,7 +8,7 @@ use Rattle.file.specs.declared.reading.Header.{Header}
 use Rattle.file.proofs.FixedParts.{numberAt, floatAt, segmentOf, nodeOf, exemptionOf}
 use Rattle.file.proofs.ReadingParts.{nodesPlace, exemptionsPlace}
 use Rattle.file.proofs.ReadingLaid.{Laid, laid}
-use Rattle.file.proofs.ColumnsRead.{room-at, column-read, column-kept}
+use Rattle.file.proofs.ColumnsRead.{reading-result, room-at, column-read, column-kept}
 use borrow.Author.Needs.{needs}
 use Rattle.file.proofs.read.read_drawing.Statement.{statement}
 use Rattle.file.proofs.read.read_drawing.Tie as tie
@@ -53,7 +53,7 @@ returns c =
     let l = c .before .before .before .before .args .bytes .now in
     let e = c .before .before .scan .ensures in
     let r = c .enum-told .given .1 in (
-      e,
+      (e, reading-result _ _ e),
       (
         column-kept (λ d. d .segments) (λ s. s .net) l _ _ _ e r,
         (
@@ -194,8 +194,9 @@ returns-2 c =
     let h = header t in
     let is = lies t .is in
     let nodesAt = 9 + 29 * h .segments in
-    let exemptionsAt = nodesAt + 36 * h .nodes + 4 in (
-      sym (t .before .found .given .1) ∙ t .before .before .before .scan .ensures,
+    let exemptionsAt = nodesAt + 36 * h .nodes + 4 in
+    let e = sym (t .before .found .given .1) ∙ t .before .before .before .scan .ensures in (
+      (e, reading-result _ _ e),
       (
         column-read (λ d. d .segments) (λ s. s .net) segmentOf number 0 29 (h .segments) 5 5 l _ [] _ _ is refl (λ r. refl) (omega arith) (c .before .before .before .before .before .before .before .before .before .before .before .before .before .before .before .before .before .before .before .before .before .before .fill-numbers .ensures),
         (

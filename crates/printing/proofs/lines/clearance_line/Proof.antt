@@ -1,9 +1,9 @@
 -- `printing::lines::clearance_line` meets its contract: the name, and the fields of each case behind it. Assumes nothing.
 use mathlib.Core.Path.{sym, ap}
 use native.Mathlib.Omega.{arith}
-use Rattle.printing.specs.Text.{fields}
+use Rattle.printing.specs.Fields.{fields}
 use Rattle.printing.specs.Sheet.{clearanceWord, refusal, clearanceLine}
-use Rattle.printing.proofs.TextPuts.{put-both, put-same, put-within}
+use Rattle.text.proofs.TextPuts.{put-both, put-same, put-within}
 use borrow.Author.Needs.{needs}
 use Rattle.printing.proofs.lines.clearance_line.Statement.{statement}
 use Rattle.printing.proofs.lines.clearance_line.Tie as tie

@@ -1,6 +1,6 @@
 -- `printing::lines::file_refused` meets its contract: the name, and the fields behind it. Assumes nothing.
 use Rattle.printing.specs.Sheet.{refusal, fileWord}
-use Rattle.printing.proofs.TextPuts.{put-both}
+use Rattle.text.proofs.TextPuts.{put-both}
 use borrow.Author.Needs.{needs}
 use Rattle.printing.proofs.lines.file_refused.Statement.{statement}
 use Rattle.printing.proofs.lines.file_refused.Tie as tie

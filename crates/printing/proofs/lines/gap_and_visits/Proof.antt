@@ -1,6 +1,6 @@
 -- `printing::lines::gap_and_visits` meets its contract: the fields one behind the other. Assumes nothing.
-use Rattle.printing.specs.Text.{fields}
-use Rattle.printing.proofs.TextPuts.{put-both}
+use Rattle.printing.specs.Fields.{fields}
+use Rattle.text.proofs.TextPuts.{put-both}
 use borrow.Author.Needs.{needs}
 use Rattle.printing.proofs.lines.gap_and_visits.Statement.{statement}
 use Rattle.printing.proofs.lines.gap_and_visits.Tie as tie

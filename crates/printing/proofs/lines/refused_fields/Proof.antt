@@ -1,9 +1,10 @@
 -- `printing::lines::refused_fields` meets its contract: the fields one behind the other. Assumes nothing.
 use mathlib.Core.Path.{ap}
 use mathlib.Core.List.{_∷_}
-use Rattle.printing.specs.Text.{decimal, fields}
+use Rattle.text.specs.Text.{decimal}
+use Rattle.printing.specs.Fields.{fields}
 use Rattle.printing.specs.Sheet.{refusedWord}
-use Rattle.printing.proofs.TextPuts.{put-both, put-same}
+use Rattle.text.proofs.TextPuts.{put-both, put-same}
 use borrow.Author.Needs.{needs}
 use Rattle.printing.proofs.lines.refused_fields.Statement.{statement}
 use Rattle.printing.proofs.lines.refused_fields.Tie as tie

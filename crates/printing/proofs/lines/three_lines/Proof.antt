@@ -1,6 +1,6 @@
 -- `printing::lines::three_lines` meets its contract: the lines one behind the other. Assumes nothing.
 use borrow.Author.Needs.{needs}
-use Rattle.printing.proofs.TextPuts.{put-both}
+use Rattle.text.proofs.TextPuts.{put-both}
 use Rattle.printing.proofs.lines.three_lines.Statement.{statement}
 use Rattle.printing.proofs.lines.three_lines.Tie as tie
 

@@ -30,7 +30,7 @@ measure-parallel-density-profile-bounded-requires :
 measure-parallel-density-profile-bounded-requires c κs = search needs
 
 three-lines-requires : tie.Need-three-lines-requires
-three-lines-requires c κs = c .before .before .before .before .before .before .before .before .before .before .before .before .before .before .before .before .before .before .before .before .before .before .before .pre
+three-lines-requires c κs = search needs
 
 same-length : tie.Need-same-length
 same-length c = search needs

@@ -5,7 +5,7 @@ use borrow.Author.Needs.{needs}
 use Rattle.file.specs.declared.reading.Header.{Header}
 use Rattle.file.specs.Reading.{read}
 use Rattle.printing.specs.Sheet.{sheet}
-use Rattle.printing.proofs.TextPuts.{put-same, put-front}
+use Rattle.text.proofs.TextPuts.{put-same, put-front}
 use Rattle.printing.proofs.Printing.{refused-sheet, Said, said, prefix-count, segment-room, node-room, exemption-room, segments-lent, nodes-lent, exemptions-lent, lines-lent}
 use Rattle.printing.proofs.print.sheet.Statement.{statement}
 use Rattle.printing.proofs.print.sheet.Tie as tie
@@ -18,22 +18,22 @@ use Rattle.file.proofs.read.read_drawing.Reads as read-drawing-reads
 -- what is known once the file has been read
 module _ (c : lts.After-known-told2 (read-drawing-reads.Asked, read-drawing-reads.Learnt, file-refused-reads.Asked, file-refused-reads.Learnt, put-lines-reads.Asked, put-lines-reads.Learnt) reads.Pre reads.Post) where
   abbrev header : Header
-  header = c .before .told2 .given .0 .0
+  header = c .before .reading2 .given .0 .0
 
   is-said : Said (read (c .before .before .before .before .before .before .before .before .before .before .before .before .before .before .before .before .before .args .bytes .now)) header
-  is-said = said _ _ (sym (c .before .told2 .given .1) ∙ c .before .before .before .read-drawing .ensures .0)
+  is-said = said _ _ (sym (c .before .reading2 .given .1) ∙ c .before .before .before .read-drawing .ensures .0 .0)
 
 read-drawing-requires : tie.Need-read-drawing-requires
 read-drawing-requires c κs = search needs
 
-enum-known-told : tie.Need-enum-known-told
-enum-known-told c = search needs
+enum-known-reading : tie.Need-enum-known-reading
+enum-known-reading c = search needs
 
 file-refused-requires : tie.Need-file-refused-requires
 file-refused-requires c κs = search needs
 
-enum-known-told-2 : tie.Need-enum-known-told-2
-enum-known-told-2 c = search needs
+enum-known-reading-2 : tie.Need-enum-known-reading-2
+enum-known-reading-2 c = search needs
 
 array-share-prefix-net : tie.Need-array-share-prefix-net
 array-share-prefix-net c = segment-room (is-said (c)) (λ e. e .net) _ _ (c .before .before .before .read-drawing .ensures .1 .0)
@@ -113,8 +113,8 @@ put-lines-requires c κs = search needs
 returns : tie.Need-returns
 unfolding sheet
 returns c =
-    let refused = refused-sheet _ _ (sym (c .before .before .before .told .given .1) ∙ c .before .before .before .before .before .read-drawing .ensures .0) in
-    let put = put-front (put-same refused (c .file-refused .ensures)) (omega (arith, c .before .file-refused-arg .given .0 .1)) in
+    let refused = refused-sheet _ _ (sym (c .before .before .before .reading .given .1) ∙ c .before .before .before .before .before .read-drawing .ensures .0 .0) in
+    let put = put-front (put-same refused (c .file-refused .ensures)) (omega (arith, c .before .file-refused-arg .given .0 .1)) (omega arith) in
     (put .1, put .0)
 
 returns-2 : tie.Need-returns-2
@@ -123,7 +123,7 @@ returns-2 c =
     let q = is-said (c .before .before .before .before .before .before .before .before .before .before .before .before .before .before) in
     let r = c .before .before .before .before .before .before .before .before .before .before .before .before .before .before .before .before .before in
     let lines = lines-lent q (segments-lent q _ _ _ _ _ _ _ _ _ _ (r .read-drawing .ensures .1 .0) (r .read-drawing .ensures .1 .1 .0) (r .read-drawing .ensures .1 .1 .1 .0) (r .read-drawing .ensures .1 .1 .1 .1 .0) (r .read-drawing .ensures .1 .1 .1 .1 .1 .0)) (nodes-lent q _ _ _ _ _ _ _ _ _ _ (r .read-drawing .ensures .1 .1 .1 .1 .1 .1 .0) (r .read-drawing .ensures .1 .1 .1 .1 .1 .1 .1 .0) (r .read-drawing .ensures .1 .1 .1 .1 .1 .1 .1 .1 .0) (r .read-drawing .ensures .1 .1 .1 .1 .1 .1 .1 .1 .1 .0) (r .read-drawing .ensures .1 .1 .1 .1 .1 .1 .1 .1 .1 .1 .0)) (exemptions-lent q _ _ _ _ (r .read-drawing .ensures .1 .1 .1 .1 .1 .1 .1 .1 .1 .1 .1 .0) (r .read-drawing .ensures .1 .1 .1 .1 .1 .1 .1 .1 .1 .1 .1 .1)) in
-    let put = put-front (put-same lines (c .put-lines .ensures)) (omega (arith, c .before .put-lines-arg .given .0 .1)) in
+    let put = put-front (put-same lines (c .put-lines .ensures)) (omega (arith, c .before .put-lines-arg .given .0 .1)) (omega arith) in
     (put .1, put .0)
 
 pub sheet-spec : {M : Type 1} → statement M
@@ -131,9 +131,9 @@ sheet-spec =
     tie.close
     (tie.spec
     read-drawing-requires
-    enum-known-told
+    enum-known-reading
     file-refused-requires
-    enum-known-told-2
+    enum-known-reading-2
     array-share-prefix-net
     slice-aggregate-put-lines
     array-share-prefix-orientation

@@ -234,7 +234,7 @@ abbrev b3 : Syntax.Body
 b3 = Syntax.assign (Syntax.place 16 []) (Syntax.addrOf (Syntax.place 12 ((Syntax.deref y0) ∷ [])))
 
 abbrev b4 : Syntax.Body
-b4 = Syntax.call "exports::clearance_export::tell_clearance" ((Syntax.copy (Syntax.place 13 [])) ∷ (Syntax.copy (Syntax.place 16 [])) ∷ []) (Syntax.place 0 [])
+b4 = Syntax.call "exports::clearance_export::write_clearance" ((Syntax.copy (Syntax.place 13 [])) ∷ (Syntax.copy (Syntax.place 16 [])) ∷ []) (Syntax.place 0 [])
 
 abbrev b5 : Syntax.Body
 b5 = Syntax.return
@@ -429,7 +429,7 @@ module _ (claims· : Claims) where
   module _ (Pre· : (κs : Lifetimes.Lfts 10) → Kinds.Dens κs ps → Type 0) (Post· : (κs : Lifetimes.Lfts 10) → (a : Kinds.Dens κs ps) → Kinds.Plain 10 ps r κs) where
     module _ (M : Type 1) where
       abbrev pub Closed : Type 2
-      Closed = (𝓤 : URA.URA M) (H : Wp.Heap 𝓤) (A : Atoms.Atoms 𝓤) (W : Kit.Given 𝓤 H A) (𝓣 : Wp.Tables 𝓤 H) (known0 : Plain.Known 𝓤 H A W 𝓣 9 ps·0 r·0 (claims· .0) (claims· .1) "records::edge_node::measure_edge_node_clearance_bounded_by_records") (known1 : Plain.Known 𝓤 H A W 𝓣 1 ps·1 r·1 (claims· .2) (claims· .3) "exports::clearance_export::tell_clearance") → Statement.Triple 𝓤 (Wp.WpFn 𝓤 H (𝓣 .C) (𝓣 .Λ) (Function.fnOf 10 ps r xs m hs body)) (Function.plainOf 𝓤 H A 10 ps r Pre· Post·)
+      Closed = (𝓤 : URA.URA M) (H : Wp.Heap 𝓤) (A : Atoms.Atoms 𝓤) (W : Kit.Given 𝓤 H A) (𝓣 : Wp.Tables 𝓤 H) (known0 : Plain.Known 𝓤 H A W 𝓣 9 ps·0 r·0 (claims· .0) (claims· .1) "records::edge_node::measure_edge_node_clearance_bounded_by_records") (known1 : Plain.Known 𝓤 H A W 𝓣 1 ps·1 r·1 (claims· .2) (claims· .3) "exports::clearance_export::write_clearance") → Statement.Triple 𝓤 (Wp.WpFn 𝓤 H (𝓣 .C) (𝓣 .Λ) (Function.fnOf 10 ps r xs m hs body)) (Function.plainOf 𝓤 H A 10 ps r Pre· Post·)
 
     module _ where
       abbrev at0 : Typed.TF T26 O0
@@ -515,7 +515,7 @@ module _ (claims· : Claims) where
 
       module _ {M : Type 1} (𝓤 : URA.URA M) (H : Wp.Heap 𝓤) (A : Atoms.Atoms 𝓤) (W : Kit.Given 𝓤 H A) (𝓣 : Wp.Tables 𝓤 H) where
         abbrev Knowns : Type 1
-        Knowns = Plain.Known 𝓤 H A W 𝓣 9 ps·0 r·0 (claims· .0) (claims· .1) "records::edge_node::measure_edge_node_clearance_bounded_by_records" × Plain.Known 𝓤 H A W 𝓣 1 ps·1 r·1 (claims· .2) (claims· .3) "exports::clearance_export::tell_clearance"
+        Knowns = Plain.Known 𝓤 H A W 𝓣 9 ps·0 r·0 (claims· .0) (claims· .1) "records::edge_node::measure_edge_node_clearance_bounded_by_records" × Plain.Known 𝓤 H A W 𝓣 1 ps·1 r·1 (claims· .2) (claims· .3) "exports::clearance_export::write_clearance"
 
       module _ (κs : Lifetimes.Lfts 10) (qs : Lifetimes.Shares 10) where
         abbrev g3 : List.List Row.Entry
@@ -646,7 +646,7 @@ module _ (claims· : Claims) where
           d6 = Typed.g-pre 𝓤 H A W 𝓣 E G20 G21 b5 Δ0 (Typed.pass T20 T21 s19) at5 (Scalar.g-room 𝓤 H A W E G20 13 y18 (Local.room-whole 𝓤 H A W (Declared.row ClearanceAnswer.the-type) y18 Path'.refl)) d5
 
           d7 : Typed.Typed 𝓤 H A 𝓣 E G19 b6 Δ0 at7
-          d7 = Typed.s-seq 𝓤 H A W 𝓣 E G19 G20 b4 b5 Δ0 (Typed.both s18) at6 (Plain.t-call-plain 𝓤 H A W 𝓣 1 ps·1 r·1 (claims· .2) (claims· .3) "exports::clearance_export::tell_clearance" (known .1) E (λ pos β. β) G19 (record { pos = 13; st = []; d = 0; at = λ x. x }, (record { pos = 16; ty = Syntax.tyRef Syntax.erased Syntax.mut y0; ref = λ x. x }, tt)) 0 (11 ∷ []) (Call.sub-id 𝓤 H A W (G19 .slots)) ((Yields.yields-copy 𝓤 H A W (λ ρ. Unit) (Declared.row ClearanceAnswer.the-type) Path'.refl (Copies.cEnum ClearanceAnswer.the-type Laws.the-laws Laws.the-copy .copy 𝓤 H A W) (Rows.whole (Declared.row ClearanceAnswer.the-type)) (λ x. x) (λ x. x) (λ ρ told. Local.mem-whole 𝓤 H A W (Declared.row ClearanceAnswer.the-type) ρ) λ ρ told. Local.whole-mem 𝓤 H A W (Declared.row ClearanceAnswer.the-type) ρ, Path'.refl), (Reads.as-is 𝓤 H A (Rows.mref (Array.Array (Referent.rtF (Referent.fInt Syntax.w64)) 4) y1 11), Reads.reads-mref 𝓤 H A W (Array.Array (Referent.rtF (Referent.fInt Syntax.w64)) 4) y1 11, Path'.refl, tt)) (Reads.room-gone 𝓤 H A (Syntax.tyInt Syntax.w32)) (tt, tt) Path'.refl) d6
+          d7 = Typed.s-seq 𝓤 H A W 𝓣 E G19 G20 b4 b5 Δ0 (Typed.both s18) at6 (Plain.t-call-plain 𝓤 H A W 𝓣 1 ps·1 r·1 (claims· .2) (claims· .3) "exports::clearance_export::write_clearance" (known .1) E (λ pos β. β) G19 (record { pos = 13; st = []; d = 0; at = λ x. x }, (record { pos = 16; ty = Syntax.tyRef Syntax.erased Syntax.mut y0; ref = λ x. x }, tt)) 0 (11 ∷ []) (Call.sub-id 𝓤 H A W (G19 .slots)) ((Yields.yields-copy 𝓤 H A W (λ ρ. Unit) (Declared.row ClearanceAnswer.the-type) Path'.refl (Copies.cEnum ClearanceAnswer.the-type Laws.the-laws Laws.the-copy .copy 𝓤 H A W) (Rows.whole (Declared.row ClearanceAnswer.the-type)) (λ x. x) (λ x. x) (λ ρ told. Local.mem-whole 𝓤 H A W (Declared.row ClearanceAnswer.the-type) ρ) λ ρ told. Local.whole-mem 𝓤 H A W (Declared.row ClearanceAnswer.the-type) ρ, Path'.refl), (Reads.as-is 𝓤 H A (Rows.mref (Array.Array (Referent.rtF (Referent.fInt Syntax.w64)) 4) y1 11), Reads.reads-mref 𝓤 H A W (Array.Array (Referent.rtF (Referent.fInt Syntax.w64)) 4) y1 11, Path'.refl, tt)) (Reads.room-gone 𝓤 H A (Syntax.tyInt Syntax.w32)) (tt, tt) Path'.refl) d6
 
           d8 : Typed.Typed 𝓤 H A 𝓣 E G18 b7 Δ0 at8
           d8 = Typed.s-seq 𝓤 H A W 𝓣 E G18 G19 b3 b6 Δ0 (Typed.give s17) at7 (Reborrow.t-mref-relend 𝓤 H A W E 𝓣 G18 12 16 9 11 (Array.Array (Referent.rtF (Referent.fInt Syntax.w64)) 4) y0 y2 y1 (Row.lease (κs .1 .1 .1 .1 .1 .1 .1 .1 .1 .0) (qs .1 .1 .1 .1 .1 .1 .1 .1 .1 .0)) (λ x. x) (Reads.as-is 𝓤 H A (Rows.mref (Array.Array (Referent.rtF (Referent.fInt Syntax.w64)) 4) y2 9)) (Reads.room-gone 𝓤 H A y1) Path'.refl tt Path'.refl Path'.refl λ b o. tt) d7
@@ -885,54 +885,54 @@ module _ (claims· : Claims) where
       m14 = λ before given. s17 .next (m13 (before .before) (before .slice-known2 .given)) given
 
       module _ (before· : After-slice-known2) where
-        pub record After-tell-clearance-arg·own : Type 0 where
+        pub record After-write-clearance-arg·own : Type 0 where
           pub given : s17 .gives (m13 (before· .before) (before· .slice-known2 .given))
 
-      pub record After-tell-clearance-arg : Type 0 where
+      pub record After-write-clearance-arg : Type 0 where
         pub before : After-slice-known2
-        pub tell-clearance-arg : After-tell-clearance-arg·own before
+        pub write-clearance-arg : After-write-clearance-arg·own before
 
-      abbrev pub Need-tell-clearance-requires : Type 0
-      Need-tell-clearance-requires = (c : After-tell-clearance-arg) → s18 .asks (m14 (c .before) (c .tell-clearance-arg .given))
+      abbrev pub Need-write-clearance-requires : Type 0
+      Need-write-clearance-requires = (c : After-write-clearance-arg) → s18 .asks (m14 (c .before) (c .write-clearance-arg .given))
 
-      abbrev pub m15 : (before : After-tell-clearance-arg) → (given : s18 .gives (m14 (before .before) (before .tell-clearance-arg .given))) → Typed.Mo T20
-      m15 = λ before given. s18 .next (m14 (before .before) (before .tell-clearance-arg .given)) given
+      abbrev pub m15 : (before : After-write-clearance-arg) → (given : s18 .gives (m14 (before .before) (before .write-clearance-arg .given))) → Typed.Mo T20
+      m15 = λ before given. s18 .next (m14 (before .before) (before .write-clearance-arg .given)) given
 
-      module _ (before· : After-tell-clearance-arg) where
-        abbrev pub After-tell-clearance·own : Type 0
-        After-tell-clearance·own = Called.Called ps·1 r·1 (claims· .3) T19 (record { pos = 13; st = []; d = 0; at = λ x. x }, (record { pos = 16; ty = Syntax.tyRef Syntax.erased Syntax.mut y0; ref = λ x. x }, tt)) (m14 (before· .before) (before· .tell-clearance-arg .given))
+      module _ (before· : After-write-clearance-arg) where
+        abbrev pub After-write-clearance·own : Type 0
+        After-write-clearance·own = Called.Called ps·1 r·1 (claims· .3) T19 (record { pos = 13; st = []; d = 0; at = λ x. x }, (record { pos = 16; ty = Syntax.tyRef Syntax.erased Syntax.mut y0; ref = λ x. x }, tt)) (m14 (before· .before) (before· .write-clearance-arg .given))
 
-      pub record After-tell-clearance : Type 0 where
-        pub before : After-tell-clearance-arg
-        pub tell-clearance : After-tell-clearance·own before
+      pub record After-write-clearance : Type 0 where
+        pub before : After-write-clearance-arg
+        pub write-clearance : After-write-clearance·own before
 
-      abbrev pub After-tell-clearance·gave : (c : After-tell-clearance) → s18 .gives (m14 (c .before .before) (c .before .tell-clearance-arg .given))
-      After-tell-clearance·gave = λ c. Called.given ps·1 r·1 (claims· .3) T19 (record { pos = 13; st = []; d = 0; at = λ x. x }, (record { pos = 16; ty = Syntax.tyRef Syntax.erased Syntax.mut y0; ref = λ x. x }, tt)) (m14 (c .before .before) (c .before .tell-clearance-arg .given)) (c .tell-clearance)
+      abbrev pub After-write-clearance·gave : (c : After-write-clearance) → s18 .gives (m14 (c .before .before) (c .before .write-clearance-arg .given))
+      After-write-clearance·gave = λ c. Called.given ps·1 r·1 (claims· .3) T19 (record { pos = 13; st = []; d = 0; at = λ x. x }, (record { pos = 16; ty = Syntax.tyRef Syntax.erased Syntax.mut y0; ref = λ x. x }, tt)) (m14 (c .before .before) (c .before .write-clearance-arg .given)) (c .write-clearance)
 
-      abbrev pub m16 : (before : After-tell-clearance-arg) → (given : s18 .gives (m14 (before .before) (before .tell-clearance-arg .given))) → Typed.Mo T21
+      abbrev pub m16 : (before : After-write-clearance-arg) → (given : s18 .gives (m14 (before .before) (before .write-clearance-arg .given))) → Typed.Mo T21
       m16 = λ before given. s19 (m15 before given)
 
-      abbrev pub m17 : (before : After-tell-clearance-arg) → (given : s18 .gives (m14 (before .before) (before .tell-clearance-arg .given))) → Typed.Mo T23
+      abbrev pub m17 : (before : After-write-clearance-arg) → (given : s18 .gives (m14 (before .before) (before .write-clearance-arg .given))) → Typed.Mo T23
       m17 = λ before given. s21 .next (m16 before given)
 
-      abbrev pub m18 : (before : After-tell-clearance-arg) → (given : s18 .gives (m14 (before .before) (before .tell-clearance-arg .given))) → Typed.Mo T25
+      abbrev pub m18 : (before : After-write-clearance-arg) → (given : s18 .gives (m14 (before .before) (before .write-clearance-arg .given))) → Typed.Mo T25
       m18 = λ before given. s23 (m17 before given)
 
-      abbrev pub m19 : (before : After-tell-clearance-arg) → (given : s18 .gives (m14 (before .before) (before .tell-clearance-arg .given))) → Typed.Mo T26
+      abbrev pub m19 : (before : After-write-clearance-arg) → (given : s18 .gives (m14 (before .before) (before .write-clearance-arg .given))) → Typed.Mo T26
       m19 = λ before given. s24 (m18 before given)
 
       abbrev pub Need-same-length : Type 0
-      Need-same-length = (c : After-tell-clearance) → MutSlice.SameLen (Row.get 11 (T26 .locals) (m19 (c .before) (After-tell-clearance·gave c))) (dens (c .before .before .before .before .before .before .before .before .before .before .before .before .before .before .κs) (c .before .before .before .before .before .before .before .before .before .before .before .before .before .before .args) .1 .1 .1 .1 .1 .1 .1 .1 .1 .1 .0)
+      Need-same-length = (c : After-write-clearance) → MutSlice.SameLen (Row.get 11 (T26 .locals) (m19 (c .before) (After-write-clearance·gave c))) (dens (c .before .before .before .before .before .before .before .before .before .before .before .before .before .before .κs) (c .before .before .before .before .before .before .before .before .before .before .before .before .before .before .args) .1 .1 .1 .1 .1 .1 .1 .1 .1 .1 .0)
 
       abbrev pub Need-returns : Type 0
-      Need-returns = (c : After-tell-clearance) → Post· (c .before .before .before .before .before .before .before .before .before .before .before .before .before .before .κs) (dens (c .before .before .before .before .before .before .before .before .before .before .before .before .before .before .κs) (c .before .before .before .before .before .before .before .before .before .before .before .before .before .before .args)) (Function.resV r (c .before .before .before .before .before .before .before .before .before .before .before .before .before .before .κs) (m19 (c .before) (After-tell-clearance·gave c) .0)) (Clauses.atExit (Kinds.endedOf 10 ps r) (c .before .before .before .before .before .before .before .before .before .before .before .before .before .before .κs) (dens (c .before .before .before .before .before .before .before .before .before .before .before .before .before .before .κs) (c .before .before .before .before .before .before .before .before .before .before .before .before .before .before .args)) (Enter.lastsP (c .before .before .before .before .before .before .before .before .before .before .before .before .before .before .κs) 1 ps xs (dens (c .before .before .before .before .before .before .before .before .before .before .before .before .before .before .κs) (c .before .before .before .before .before .before .before .before .before .before .before .before .before .before .args)) (m19 (c .before) (After-tell-clearance·gave c) .1)))
+      Need-returns = (c : After-write-clearance) → Post· (c .before .before .before .before .before .before .before .before .before .before .before .before .before .before .κs) (dens (c .before .before .before .before .before .before .before .before .before .before .before .before .before .before .κs) (c .before .before .before .before .before .before .before .before .before .before .before .before .before .before .args)) (Function.resV r (c .before .before .before .before .before .before .before .before .before .before .before .before .before .before .κs) (m19 (c .before) (After-write-clearance·gave c) .0)) (Clauses.atExit (Kinds.endedOf 10 ps r) (c .before .before .before .before .before .before .before .before .before .before .before .before .before .before .κs) (dens (c .before .before .before .before .before .before .before .before .before .before .before .before .before .before .κs) (c .before .before .before .before .before .before .before .before .before .before .before .before .before .before .args)) (Enter.lastsP (c .before .before .before .before .before .before .before .before .before .before .before .before .before .before .κs) 1 ps xs (dens (c .before .before .before .before .before .before .before .before .before .before .before .before .before .before .κs) (c .before .before .before .before .before .before .before .before .before .before .before .before .before .before .args)) (m19 (c .before) (After-write-clearance·gave c) .1)))
 
-      module _ (measure-edge-node-clearance-bounded-by-records-requires : Need-measure-edge-node-clearance-bounded-by-records-requires) (tell-clearance-requires : Need-tell-clearance-requires) (same-length : Need-same-length) (returns : Need-returns) where
-        lay2 : (c : After-tell-clearance) → at6 (W0 (c .before .before .before .before .before .before .before .before .before .before .before .before .before .before .κs) (c .before .before .before .before .before .before .before .before .before .before .before .before .before .before .args)) (m15 (c .before) (After-tell-clearance·gave c))
-        lay2 = λ c. (Path'.refl, ((Path'.refl, (Path'.refl, (Path'.refl, (Path'.refl, (Path'.refl, (Path'.refl, (Path'.refl, (Path'.refl, (tt, (tt, (MutSlice.fix-len (Row.get 11 (T26 .locals) (m19 (c .before) (After-tell-clearance·gave c)) .ptr) (Row.get 11 (T26 .locals) (m19 (c .before) (After-tell-clearance·gave c)) .name) (Row.get 11 (T26 .locals) (m19 (c .before) (After-tell-clearance·gave c)) .now) (dens (c .before .before .before .before .before .before .before .before .before .before .before .before .before .before .κs) (c .before .before .before .before .before .before .before .before .before .before .before .before .before .before .args) .1 .1 .1 .1 .1 .1 .1 .1 .1 .1 .0 .now) (same-length record { before = c .before; tell-clearance = c .tell-clearance }), (Path'.refl, tt)))))))))))), returns record { before = c .before; tell-clearance = c .tell-clearance }))
+      module _ (measure-edge-node-clearance-bounded-by-records-requires : Need-measure-edge-node-clearance-bounded-by-records-requires) (write-clearance-requires : Need-write-clearance-requires) (same-length : Need-same-length) (returns : Need-returns) where
+        lay2 : (c : After-write-clearance) → at6 (W0 (c .before .before .before .before .before .before .before .before .before .before .before .before .before .before .κs) (c .before .before .before .before .before .before .before .before .before .before .before .before .before .before .args)) (m15 (c .before) (After-write-clearance·gave c))
+        lay2 = λ c. (Path'.refl, ((Path'.refl, (Path'.refl, (Path'.refl, (Path'.refl, (Path'.refl, (Path'.refl, (Path'.refl, (Path'.refl, (tt, (tt, (MutSlice.fix-len (Row.get 11 (T26 .locals) (m19 (c .before) (After-write-clearance·gave c)) .ptr) (Row.get 11 (T26 .locals) (m19 (c .before) (After-write-clearance·gave c)) .name) (Row.get 11 (T26 .locals) (m19 (c .before) (After-write-clearance·gave c)) .now) (dens (c .before .before .before .before .before .before .before .before .before .before .before .before .before .before .κs) (c .before .before .before .before .before .before .before .before .before .before .before .before .before .before .args) .1 .1 .1 .1 .1 .1 .1 .1 .1 .1 .0 .now) (same-length record { before = c .before; write-clearance = c .write-clearance }), (Path'.refl, tt)))))))))))), returns record { before = c .before; write-clearance = c .write-clearance }))
 
         lay1 : (c : After-measure-edge-node-clearance-bounded-by-records) → at13 (W0 (c .before .before .before .before .before .before .before .before .before .before .κs) (c .before .before .before .before .before .before .before .before .before .before .args)) (m11 (c .before) (After-measure-edge-node-clearance-bounded-by-records·gave c))
-        lay1 = λ c. (Path'.refl, λ g. λ g'. λ g''. (tell-clearance-requires record { before = record { before = record { before = record { before = c .before; measure-edge-node-clearance-bounded-by-records = c .measure-edge-node-clearance-bounded-by-records }; scratch = record { given = g } }; slice-known2 = record { given = g' } }; tell-clearance-arg = record { given = g'' } }, λ g'3. lay2 record { before = record { before = record { before = record { before = record { before = c .before; measure-edge-node-clearance-bounded-by-records = c .measure-edge-node-clearance-bounded-by-records }; scratch = record { given = g } }; slice-known2 = record { given = g' } }; tell-clearance-arg = record { given = g'' } }; tell-clearance = Called.called ps·1 r·1 (claims· .3) T19 (record { pos = 13; st = []; d = 0; at = λ x. x }, (record { pos = 16; ty = Syntax.tyRef Syntax.erased Syntax.mut y0; ref = λ x. x }, tt)) (m14 record { before = record { before = record { before = c .before; measure-edge-node-clearance-bounded-by-records = c .measure-edge-node-clearance-bounded-by-records }; scratch = record { given = g } }; slice-known2 = record { given = g' } } g'') g'3 }))
+        lay1 = λ c. (Path'.refl, λ g. λ g'. λ g''. (write-clearance-requires record { before = record { before = record { before = record { before = c .before; measure-edge-node-clearance-bounded-by-records = c .measure-edge-node-clearance-bounded-by-records }; scratch = record { given = g } }; slice-known2 = record { given = g' } }; write-clearance-arg = record { given = g'' } }, λ g'3. lay2 record { before = record { before = record { before = record { before = record { before = c .before; measure-edge-node-clearance-bounded-by-records = c .measure-edge-node-clearance-bounded-by-records }; scratch = record { given = g } }; slice-known2 = record { given = g' } }; write-clearance-arg = record { given = g'' } }; write-clearance = Called.called ps·1 r·1 (claims· .3) T19 (record { pos = 13; st = []; d = 0; at = λ x. x }, (record { pos = 16; ty = Syntax.tyRef Syntax.erased Syntax.mut y0; ref = λ x. x }, tt)) (m14 record { before = record { before = record { before = c .before; measure-edge-node-clearance-bounded-by-records = c .measure-edge-node-clearance-bounded-by-records }; scratch = record { given = g } }; slice-known2 = record { given = g' } } g'') g'3 }))
 
         pub laid : (c : Start) → at25 (W0 (c .κs) (c .args)) (m0 (c .κs) (c .args))
         laid = λ c. λ g. λ g'. λ g''. λ g'3. λ g'4. λ g'5. λ g'6. λ g'7. λ g'8. (Path'.refl, (measure-edge-node-clearance-bounded-by-records-requires record { before = record { before = record { before = record { before = record { before = record { before = record { before = record { before = record { before = c; shared-slice-known = record { given = g } }; shared-slice-known2 = record { given = g' } }; shared-slice-known3 = record { given = g'' } }; shared-slice-known4 = record { given = g'3 } }; shared-slice-known5 = record { given = g'4 } }; shared-slice-known6 = record { given = g'5 } }; shared-slice-known7 = record { given = g'6 } }; slice-known = record { given = g'7 } }; measure-edge-node-clearance-bounded-by-records-arg = record { given = g'8 } }, λ g'9. lay1 record { before = record { before = record { before = record { before = record { before = record { before = record { before = record { before = record { before = record { before = c; shared-slice-known = record { given = g } }; shared-slice-known2 = record { given = g' } }; shared-slice-known3 = record { given = g'' } }; shared-slice-known4 = record { given = g'3 } }; shared-slice-known5 = record { given = g'4 } }; shared-slice-known6 = record { given = g'5 } }; shared-slice-known7 = record { given = g'6 } }; slice-known = record { given = g'7 } }; measure-edge-node-clearance-bounded-by-records-arg = record { given = g'8 } }; measure-edge-node-clearance-bounded-by-records = Called.called ps·0 r·0 (claims· .1) T12 (record { pos = 1; ty = Syntax.tyRef (Syntax.named 0) Syntax.imm y3; ref = λ x. x }, (record { pos = 2; ty = Syntax.tyRef (Syntax.named 1) Syntax.imm (Syntax.tyInt Syntax.w32); ref = λ x. x }, (record { pos = 3; ty = Syntax.tyRef (Syntax.named 2) Syntax.imm (Syntax.tyFloat Ieee.binary64); ref = λ x. x }, (record { pos = 4; ty = Syntax.tyRef (Syntax.named 3) Syntax.imm (Syntax.tyFloat Ieee.binary64); ref = λ x. x }, (record { pos = 5; ty = Syntax.tyRef (Syntax.named 4) Syntax.imm (Syntax.tyFloat Ieee.binary64); ref = λ x. x }, (record { pos = 6; ty = Syntax.tyRef (Syntax.named 5) Syntax.imm (Syntax.tyFloat Ieee.binary64); ref = λ x. x }, (record { pos = 7; ty = Syntax.tyRef (Syntax.named 6) Syntax.imm (Syntax.tyInt Syntax.w32); ref = λ x. x }, (record { pos = 8; ty = Syntax.tyRef (Syntax.named 7) Syntax.imm (Syntax.tyInt Syntax.w32); ref = λ x. x }, (Float.fAt 9 λ x. x, (Num.vAt 10 λ x. x, (record { pos = 15; ty = Syntax.tyRef Syntax.erased Syntax.mut (Syntax.tyInt Syntax.w64); ref = λ x. x }, tt))))))))))) (m10 record { before = record { before = record { before = record { before = record { before = record { before = record { before = record { before = c; shared-slice-known = record { given = g } }; shared-slice-known2 = record { given = g' } }; shared-slice-known3 = record { given = g'' } }; shared-slice-known4 = record { given = g'3 } }; shared-slice-known5 = record { given = g'4 } }; shared-slice-known6 = record { given = g'5 } }; shared-slice-known7 = record { given = g'6 } }; slice-known = record { given = g'7 } } g'8) g'9 }))
@@ -941,6 +941,6 @@ module _ (claims· : Claims) where
           pub asked : (a : Kinds.Dens κs ps) → (good : Kinds.GoodsP κs ps a) → (pre : Pre· κs a) → (bs : List.List Nat.ℕ) → Φ (Any.wantQ 10 ps r xs m κs qs a (Post· κs a)) (Function.init 10 ps r xs m κs qs a)
           asked = λ a good pre bs. laid record { κs = κs; args = record { records = a .0; id = a .1 .0; x = a .1 .1 .0; y = a .1 .1 .1 .0; width = a .1 .1 .1 .1 .0; height = a .1 .1 .1 .1 .1 .0; exempt-net = a .1 .1 .1 .1 .1 .1 .0; exempt-node = a .1 .1 .1 .1 .1 .1 .1 .0; threshold = a .1 .1 .1 .1 .1 .1 .1 .1 .0; allowance = a .1 .1 .1 .1 .1 .1 .1 .1 .1 .0; scratch = a .1 .1 .1 .1 .1 .1 .1 .1 .1 .1 .0; out = a .1 .1 .1 .1 .1 .1 .1 .1 .1 .1 .1 .0 }; good = good; fits = record { allowance = record { fits = good .1 .1 .1 .1 .1 .1 .1 .1 .1 .0 .1 } }; pre = pre }
 
-        module _ {M : Type 1} (𝓤 : URA.URA M) (H : Wp.Heap 𝓤) (A : Atoms.Atoms 𝓤) (W : Kit.Given 𝓤 H A) (𝓣 : Wp.Tables 𝓤 H) (known0 : Plain.Known 𝓤 H A W 𝓣 9 ps·0 r·0 (claims· .0) (claims· .1) "records::edge_node::measure_edge_node_clearance_bounded_by_records") (known1 : Plain.Known 𝓤 H A W 𝓣 1 ps·1 r·1 (claims· .2) (claims· .3) "exports::clearance_export::tell_clearance") where
+        module _ {M : Type 1} (𝓤 : URA.URA M) (H : Wp.Heap 𝓤) (A : Atoms.Atoms 𝓤) (W : Kit.Given 𝓤 H A) (𝓣 : Wp.Tables 𝓤 H) (known0 : Plain.Known 𝓤 H A W 𝓣 9 ps·0 r·0 (claims· .0) (claims· .1) "records::edge_node::measure_edge_node_clearance_bounded_by_records") (known1 : Plain.Known 𝓤 H A W 𝓣 1 ps·1 r·1 (claims· .2) (claims· .3) "exports::clearance_export::write_clearance") where
           pub spec : Statement.Triple 𝓤 (Wp.WpFn 𝓤 H (𝓣 .C) (𝓣 .Λ) (Function.fnOf 10 ps r xs m hs body)) (Function.plainOf 𝓤 H A 10 ps r Pre· Post·)
           spec = Plain.t-fn-plain 𝓤 H A W 𝓣 10 ps r xs m hs body (λ κs qs bs. Φ) (λ κs qs bs bd. typed κs qs 𝓤 H A W 𝓣 (known0, known1) bs bd) Pre· Post· asked

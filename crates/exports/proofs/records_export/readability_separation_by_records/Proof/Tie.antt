@@ -5,9 +5,9 @@ use Rattle.exports.proofs.Claims.readability_separation_by_records.Kind
 use Rattle.exports.proofs.records_export.readability_separation_by_records.Proof.Lts
 use Rattle.exports.proofs.Claims.readability_separation_by_records.Reads
 use Rattle.exports.proofs.records_export.readability_separation_by_records.Statement
-use Rattle.exports.proofs.separation_export.tell_separation.Met
-use Rattle.exports.proofs.separation_export.tell_separation.Reads as Reads'
-use Rattle.exports.proofs.separation_export.tell_separation.Symbol
+use Rattle.exports.proofs.separation_export.write_separation.Met
+use Rattle.exports.proofs.separation_export.write_separation.Reads as Reads'
+use Rattle.exports.proofs.separation_export.write_separation.Symbol
 use Rattle.records.proofs.measure_parallel_separation_bounded_by_records.Met as Met'
 use Rattle.records.proofs.Claims.measure_parallel_separation_bounded_by_records.Reads as Reads''
 use Rattle.records.proofs.measure_parallel_separation_bounded_by_records.Symbol as Symbol'
@@ -33,17 +33,17 @@ After-scratch = Lts.After-scratch (Reads''.Asked, Reads''.Learnt, Reads'.Asked, 
 abbrev pub After-slice-known2 : Type 0
 After-slice-known2 = Lts.After-slice-known2 (Reads''.Asked, Reads''.Learnt, Reads'.Asked, Reads'.Learnt) Reads.Pre Reads.Post
 
-abbrev pub After-tell-separation-arg : Type 0
-After-tell-separation-arg = Lts.After-tell-separation-arg (Reads''.Asked, Reads''.Learnt, Reads'.Asked, Reads'.Learnt) Reads.Pre Reads.Post
+abbrev pub After-write-separation-arg : Type 0
+After-write-separation-arg = Lts.After-write-separation-arg (Reads''.Asked, Reads''.Learnt, Reads'.Asked, Reads'.Learnt) Reads.Pre Reads.Post
 
-abbrev pub After-tell-separation : Type 0
-After-tell-separation = Lts.After-tell-separation (Reads''.Asked, Reads''.Learnt, Reads'.Asked, Reads'.Learnt) Reads.Pre Reads.Post
+abbrev pub After-write-separation : Type 0
+After-write-separation = Lts.After-write-separation (Reads''.Asked, Reads''.Learnt, Reads'.Asked, Reads'.Learnt) Reads.Pre Reads.Post
 
 abbrev pub Need-measure-parallel-separation-bounded-by-records-requires : Type 0
 Need-measure-parallel-separation-bounded-by-records-requires = Lts.Need-measure-parallel-separation-bounded-by-records-requires (Reads''.Asked, Reads''.Learnt, Reads'.Asked, Reads'.Learnt) Reads.Pre Reads.Post
 
-abbrev pub Need-tell-separation-requires : Type 0
-Need-tell-separation-requires = Lts.Need-tell-separation-requires (Reads''.Asked, Reads''.Learnt, Reads'.Asked, Reads'.Learnt) Reads.Pre Reads.Post
+abbrev pub Need-write-separation-requires : Type 0
+Need-write-separation-requires = Lts.Need-write-separation-requires (Reads''.Asked, Reads''.Learnt, Reads'.Asked, Reads'.Learnt) Reads.Pre Reads.Post
 
 abbrev pub Need-same-length : Type 0
 Need-same-length = Lts.Need-same-length (Reads''.Asked, Reads''.Learnt, Reads'.Asked, Reads'.Learnt) Reads.Pre Reads.Post
@@ -52,9 +52,9 @@ abbrev pub Need-returns : Type 0
 Need-returns = Lts.Need-returns (Reads''.Asked, Reads''.Learnt, Reads'.Asked, Reads'.Learnt) Reads.Pre Reads.Post
 
 module _ {M : Type 1} where
-  pub spec : (answer : Need-measure-parallel-separation-bounded-by-records-requires) → (answer : Need-tell-separation-requires) → (answer : Need-same-length) → (answer : Need-returns) → Lts.Closed (Reads''.Asked, Reads''.Learnt, Reads'.Asked, Reads'.Learnt) Reads.Pre Reads.Post M
+  pub spec : (answer : Need-measure-parallel-separation-bounded-by-records-requires) → (answer : Need-write-separation-requires) → (answer : Need-same-length) → (answer : Need-returns) → Lts.Closed (Reads''.Asked, Reads''.Learnt, Reads'.Asked, Reads'.Learnt) Reads.Pre Reads.Post M
   spec = λ answer answer' answer'' answer'3. Lts.spec (Reads''.Asked, Reads''.Learnt, Reads'.Asked, Reads'.Learnt) Reads.Pre Reads.Post answer answer' answer'' answer'3
 
   pub close : Lts.Closed (Reads''.Asked, Reads''.Learnt, Reads'.Asked, Reads'.Learnt) Reads.Pre Reads.Post M → Statement.statement M
   unfolding Code.routine Running.tablesOf
-  close = λ closed 𝓤 H 𝓜 𝓖 𝓡. Written.close 3 Kinds.ps Kinds.r Reads.Ghost Reads.requires Reads.ensures Reads.pre-read Reads.Pinned Reads.Owned Reads.post-read record { M = M; 𝓤 = 𝓤; H = H; 𝓜 = 𝓜; 𝓖 = 𝓖; 𝓡 = 𝓡 } Code.env Key.name Code.function (Code.unfolded 𝓤 H 𝓜 𝓡) (λ κs a g. tt) (λ κs. Reads.owns κs record { M = M; 𝓤 = 𝓤; H = H; 𝓜 = 𝓜; 𝓖 = 𝓖; 𝓡 = 𝓡 }) (Reads.passes record { M = M; 𝓤 = 𝓤; H = H; 𝓜 = 𝓜; 𝓖 = 𝓖; 𝓡 = 𝓡 }) λ g. closed 𝓤 H (𝓖 .A) (Running.givenOf 𝓤 H 𝓜 𝓖) (Run.Over 𝓤 H 𝓜 𝓖 𝓡 Code.env) (Reads''.known record { M = M; 𝓤 = 𝓤; H = H; 𝓜 = 𝓜; 𝓖 = 𝓖; 𝓡 = 𝓡 } Code.env Symbol'.name Symbol'.routine Code.calls-records·measure-parallel-separation-bounded-by-records (Met'.met 𝓤 H 𝓜 𝓖 𝓡)) (Reads'.known record { M = M; 𝓤 = 𝓤; H = H; 𝓜 = 𝓜; 𝓖 = 𝓖; 𝓡 = 𝓡 } Code.env Symbol.name Symbol.routine Code.calls-exports·separation-export·tell-separation (Met.met 𝓤 H 𝓜 𝓖 𝓡))
+  close = λ closed 𝓤 H 𝓜 𝓖 𝓡. Written.close 3 Kinds.ps Kinds.r Reads.Ghost Reads.requires Reads.ensures Reads.pre-read Reads.Pinned Reads.Owned Reads.post-read record { M = M; 𝓤 = 𝓤; H = H; 𝓜 = 𝓜; 𝓖 = 𝓖; 𝓡 = 𝓡 } Code.env Key.name Code.function (Code.unfolded 𝓤 H 𝓜 𝓡) (λ κs a g. tt) (λ κs. Reads.owns κs record { M = M; 𝓤 = 𝓤; H = H; 𝓜 = 𝓜; 𝓖 = 𝓖; 𝓡 = 𝓡 }) (Reads.passes record { M = M; 𝓤 = 𝓤; H = H; 𝓜 = 𝓜; 𝓖 = 𝓖; 𝓡 = 𝓡 }) λ g. closed 𝓤 H (𝓖 .A) (Running.givenOf 𝓤 H 𝓜 𝓖) (Run.Over 𝓤 H 𝓜 𝓖 𝓡 Code.env) (Reads''.known record { M = M; 𝓤 = 𝓤; H = H; 𝓜 = 𝓜; 𝓖 = 𝓖; 𝓡 = 𝓡 } Code.env Symbol'.name Symbol'.routine Code.calls-records·measure-parallel-separation-bounded-by-records (Met'.met 𝓤 H 𝓜 𝓖 𝓡)) (Reads'.known record { M = M; 𝓤 = 𝓤; H = H; 𝓜 = 𝓜; 𝓖 = 𝓖; 𝓡 = 𝓡 } Code.env Symbol.name Symbol.routine Code.calls-exports·separation-export·write-separation (Met.met 𝓤 H 𝓜 𝓖 𝓡))
