@@ -1,2 +1,4 @@
--- The entry that a line holds, and what an orientation byte is.
+-- The definitions, a file for each notion.
+pub mod Orientation
+-- what only contracts of inner functions cite
 pub mod Lines

@@ -1,14 +1,9 @@
--- A list of records on its way to the columns: what the inner functions speak of. The contracts of the entries cite the orientation byte alone.
-use mathlib.Core.Bool.{Bool, true, false, cond}
+-- A list of records on its way to the columns: what the inner functions speak of.
+use mathlib.Core.Bool.{cond}
 use Prim.Native.Nat.{ℕ}
 use lib.Dec.{leb}
 use Rattle.drawing.specs.Entries.{Segment}
 use Rattle.lines.specs.declared.line.Line.{Line}
-
--- "orientation byte 1 horizontal or 0 vertical"
-unfoldable pub orientationByte : Bool → ℕ
-orientationByte true = 1
-orientationByte false = 0
 
 -- the entry that a line holds
 unfoldable pub entryOf : Line → Segment

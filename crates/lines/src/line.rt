@@ -4,7 +4,8 @@ ghost use mathlib.Core.List.{map};
 ghost use Prim.Native.Nat.{_≤_};
 ghost use lib.ListN.{length, take};
 ghost use Rattle.drawing.specs.Entries.{segmentColumns, columnsOf};
-ghost use Rattle.lines.specs.Lines.{orientationByte, entryOf, enough};
+ghost use Rattle.lines.specs.Orientation.{orientationByte};
+ghost use Rattle.lines.specs.Lines.{entryOf, enough};
 
 // A segment as the columns have it.
 pub struct Line {

@@ -1,7 +1,7 @@
 -- The columns that a lent list of records stands for. "`&[ParallelSegment]` and the like: the core takes columns of equal length (net, orientation byte 1 horizontal or 0 vertical, fixed, start, end). Afterwards, one thin entry for each measure takes the lent list of segment records as the Rust does."
 use mathlib.Core.List.{List, map}
 use Rattle.drawing.specs.Entries.{Segment, SegmentColumns, columnsOf}
-use Rattle.lines.specs.Lines.{orientationByte}
+use Rattle.lines.specs.Orientation.{orientationByte}
 use Rattle.records.specs.declared.parallel.ParallelSegment.{ParallelSegment}
 use Rattle.records.specs.declared.edge_node.EdgeNodeSegment.{EdgeNodeSegment}
 

@@ -1,4 +1,4 @@
--- The segments of one orientation as rows in order, and their events in order: separation's walk is defined over them, and the code of both sweeps goes over them. Congestion's walk is defined over wires in 64ths. How many segments are swept stands here too.
+-- The segments of one orientation as rows in order, and their events in order: separation's walk is defined over them, and the code of both sweeps goes over them. Congestion's walk is defined over wires in 64ths. What an orientation with less than two segments counts for stands here too.
 use mathlib.Core.Bool.{Bool, cond}
 use mathlib.Core.List.{List, [], _∷_}
 use Prim.Native.Nat.{ℕ, suc, _+_}
@@ -44,6 +44,7 @@ unfoldable pub oriented : ℕ → List Segment → List Row
 oriented o l = sortBy rowsInOrder (chosen (λ s. eqb (s .orientation) o) rowOf (segmentsInOrder l))
 
 -- ---- how many are swept
+
 -- how many of these orientation bytes are o
 abbrev pub ofOrientation : ℕ → List ℕ → ℕ
 ofOrientation o l = count (λ b. eqb b o) l

@@ -1,6 +1,6 @@
 -- `lines::line::orientation_byte` meets its contract: case by case. Assumes nothing.
 use mathlib.Core.Path.{sym, ap}
-use Rattle.lines.specs.Lines.{orientationByte}
+use Rattle.lines.specs.Orientation.{orientationByte}
 use Rattle.lines.proofs.line.orientation_byte.Statement.{statement}
 use Rattle.lines.proofs.line.orientation_byte.Tie as tie
 

@@ -1,0 +1,8 @@
+-- The byte of an orientation.
+use mathlib.Core.Bool.{Bool, true, false}
+use Prim.Native.Nat.{ℕ}
+
+-- "orientation byte 1 horizontal or 0 vertical"
+unfoldable pub orientationByte : Bool → ℕ
+orientationByte true = 1
+orientationByte false = 0
