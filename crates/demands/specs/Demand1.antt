@@ -4,8 +4,10 @@ use mathlib.Core.Path.{_≡_}
 use mathlib.Core.Bool.{true, false}
 use mathlib.Core.Logic.{_⊎_}
 use mathlib.Core.List.{List}
-use Prim.Native.Nat.{ℕ, _<_}
+use Prim.Native.Nat.{ℕ}
 use lib.ListN.{length, replicate}
+use Rattle.drawing.specs.declared.refusal.Refusal.{Refusal}
+use Rattle.drawing.specs.Refusals.{numberOf}
 use Rattle.demands.specs.Applies.{First, NoneApplies}
 use Rattle.demands.specs.Measures.{Measure, Run, resultOfRun, visitCount, earlier, allPairsReport, Call, measured}
 
@@ -18,17 +20,16 @@ pub record Returns (m : Measure) (r : Run m) (result : m .Result) (scratch : Lis
 abbrev pub cleared : List ℕ → List ℕ
 cleared scratch = replicate (length scratch) 0
 
--- a number of the list before 7 that applies first
+-- a refusal that is checked before 7 and applies first
 pub record Unfit (m : Measure) (r : Run m) : Type 0 where
-  pub number : ℕ
-  pub first : First (earlier m r) number
-  pub before-7 : number < 7
+  pub refusal : Refusal
+  pub first : First (earlier m r) refusal
 
 pub record Refusing (m : Measure) : Type 0 where
   -- every run meets a first refusal before 7, or none
   pub unfit-or-fit : (r : Run m) → Unfit m r ⊎ NoneApplies (earlier m r)
-  -- an unfit input: the first refusal that applies, with a report of zeros and absent gaps, and the scratch as it was
-  pub unfit : (r : Run m) (k : ℕ) → First (earlier m r) k → Returns m r (m .refused k) (r .before)
+  -- an unfit input: the number of the first refusal that applies, with a report of zeros and absent gaps, and the scratch as it was
+  pub unfit : (r : Run m) (why : Refusal) → First (earlier m r) why → Returns m r (m .refused (numberOf why)) (r .before)
   -- the allowance runs out: "7. `WorkLimitExceeded`: the visit count exceeds the allowance"
   pub spent : (r : Run m) → NoneApplies (earlier m r) → m .reaches (r .allowance) (visitCount m r) ≡ false → Returns m r (m .refused 7) (cleared (r .before))
   -- it does not: the report, and the scratch is cleared too
