@@ -17,11 +17,11 @@ use Rattle.drawing.specs.declared.refusal.Refusal.{Refusal}
 use Rattle.drawing.specs.declared.refusal.Check.the-variants.{Passed, Refused as Stopped}
 use Rattle.drawing.specs.Entries.{SegmentColumns, segments}
 use Rattle.drawing.specs.Refusals.{numberOf, firstOf}
-use Rattle.drawing.specs.Checks.{congestionConditions}
 use Rattle.congestion.specs.declared.report.ParallelCongestion.{ParallelCongestion}
 use Rattle.congestion.specs.declared.report.CongestionReport.{CongestionReport}
 use Rattle.congestion.specs.declared.report.CongestionAnswer.{CongestionAnswer}
 use Rattle.congestion.specs.declared.report.CongestionAnswer.the-variants.{Report, Refused}
+use Rattle.congestion.specs.Conditions.{congestionConditions}
 use Rattle.congestion.specs.Profile.{lengths, leastNonzero, allPairs}
 use Rattle.congestion.specs.Answer.{reportOf, densityAnswer, withoutDensity, profileAnswer, congestionAnswer, zeros, resultOf}
 use Rattle.congestion.proofs.Fitness.{fit-list}

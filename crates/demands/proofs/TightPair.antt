@@ -10,10 +10,10 @@ use Rattle.drawing.specs.declared.refusal.Check.the-variants.{Passed, Refused a
 use Rattle.drawing.specs.Entries.{SegmentColumns, NodeColumns, ExemptionColumns, segments, nodes, exemptions}
 use Rattle.drawing.specs.Gaps.{leastGap}
 use Rattle.drawing.specs.Refusals.{numberOf, firstOf, checked}
-use Rattle.drawing.specs.Checks.{tightPairConditions}
 use Rattle.tight_pair.specs.declared.TightPair.{TightPair}
 use Rattle.tight_pair.specs.declared.TightPair.the-variants as tightPair
 use Rattle.clearance.specs.Figures.{distances, figures}
+use Rattle.tight_pair.specs.Conditions.{tightPairConditions}
 use Rattle.tight_pair.specs.TightPair.{found, answer, Answered, resultOf}
 use Rattle.demands.specs.Applies.{First, NoneApplies}
 use Rattle.demands.specs.TightPair.{Pair, TightPairs}

@@ -9,8 +9,8 @@ use Rattle.drawing.specs.declared.gap.Gap.the-variants.{Absent, Present}
 use Rattle.drawing.specs.declared.refusal.Refusal.{Refusal}
 use Rattle.drawing.specs.Entries.{SegmentColumns, NodeColumns, ExemptionColumns, segments, nodes, exemptions}
 use Rattle.drawing.specs.Refusals.{numberOf}
-use Rattle.drawing.specs.Checks.{tightPairConditions}
 use Rattle.tight_pair.specs.declared.TightPair.{TightPair}
+use Rattle.tight_pair.specs.Conditions.{tightPairConditions}
 use Rattle.tight_pair.specs.TightPair.{Tight, Answered, resultOf}
 use Rattle.demands.specs.Applies.{First, NoneApplies}
 use Rattle.demands.specs.Measures.{clearance}
