@@ -33,6 +33,7 @@ unfitSegment s = unfitLine (s .orientation) (s .fixed) (s .start) (s .end)
 unfoldable pub unfitExtent : Float → Float → Bool
 unfitExtent corner extent = not (finite corner) || not (finite extent) || not (lt plusZero extent) || not (finite (add binary64 corner extent))
 
+-- and along both
 unfoldable pub unfitBox : Float → Float → Float → Float → Bool
 unfitBox x y width height = unfitExtent x width || unfitExtent y height
 

@@ -23,6 +23,6 @@ pub record NodesAgree (c : NodeColumns) : Type 0 where
 pub record ExemptionsAgree (c : ExemptionColumns) : Type 0 where
   pub node : length (c .node) ≡ length (c .net)
 
--- refusal 5 of entries, for columns of any lengths: those of one list are compared before an entry is read
+-- refusal 5 of entries alone, for columns of any lengths: refusal 2 of their columns comes first
 unfoldable pub comparedEntryConditions : SegmentColumns → NodeColumns → List (Bool × Refusal)
 comparedEntryConditions s n = (segmentsDiffer s, ColumnsDiffer) ∷ (nodesDiffer n, ColumnsDiffer) ∷ entryConditions s n

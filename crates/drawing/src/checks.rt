@@ -1,4 +1,4 @@
-// The checks of a call's input, refusals 2 to 6, in document 01's order. Nothing lent is written, and all entries are seen before any work starts.
+// The checks of a call's input that the measures share, refusals 2 to 5, in document 01's order. Nothing lent is written, and all entries are seen before any work starts.
 ghost use mathlib.Core.Path.{_≡_};
 ghost use Rattle.laws.specs.Lists.{some-of};
 ghost use Rattle.drawing.specs.Refusals.{firstOf};
