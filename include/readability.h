@@ -27,7 +27,7 @@
  * a status.
  *
  * STATUS. A call returns 0 where it is accepted, or else the number of the
- * first refusal that applies, in the order of the numbers:
+ * first refusal that applies. The numbers are listed in checking order:
  *
  *   0  accepted
  *   2  the columns of one list differ in length

@@ -12,11 +12,12 @@ use Rattle.drawing.specs.declared.refusal.Refusal.the-variants.{WorkLimitExceed
 use Rattle.drawing.specs.Entries.{SegmentColumns, NodeColumns, ExemptionColumns, segments, nodes, exemptions}
 use Rattle.drawing.specs.Refusals.{numberOf, firstOf}
 use Rattle.drawing.specs.Conditions.{unfitSegment, unfitNode}
-use Rattle.drawing.specs.Checks.{listConditions, entryConditions, clearanceConditions}
+use Rattle.drawing.specs.Checks.{listConditions, entryConditions}
 use Rattle.drawing.proofs.FirstRefusal.{passed-head}
 use Rattle.drawing.specs.Held.{SegmentHeld, NodeHeld}
 use Rattle.drawing.proofs.Fit.{FitSegment, FitNode, FitThreshold}
 use Rattle.clearance.specs.declared.report.ClearanceAnswer.the-variants.{Refused}
+use Rattle.clearance.specs.Conditions.{clearanceConditions}
 use Rattle.clearance.specs.Figures.{Figures}
 use Rattle.clearance.specs.Answer.{reportOf, accepted, allPairs, clearanceAnswer, zeros, resultOf}
 

@@ -1,12 +1,14 @@
-// The clearance measure as it is defined, and the small functions that need no scratch: what is pruned, which half goes first, what a visit charges and counts, what is answered.
+// The clearance measure as it is defined, and the small functions that need no scratch: the checks of a call, what is pruned, which half goes first, what a visit charges and counts, what is answered.
 // specs/ has what a reader must believe: the figures over all pairs, the tree, the walk over it with no limit, and the answer. proofs/ has the laws of these definitions. The functions that build the tree and walk it are in the crate clearance_call.
 pub mod answer;
+pub mod checks;
 pub mod halves;
 pub mod pruning;
 pub mod report;
 pub mod visit;
 
 pub use answer::answer_of;
+pub use checks::check_clearance;
 pub use halves::Halves;
 pub use halves::Subtree;
 pub use halves::nearer_first;

@@ -28,7 +28,7 @@ use Rattle.drawing.specs.Refusals.{firstOf}
 use Rattle.drawing.specs.Entries.{Segment, Node, Exemption, SegmentColumns, NodeColumns, ExemptionColumns, segments, nodes, exemptions, segmentAt, nodeAt}
 use Rattle.drawing.specs.Lengths.{SegmentsAgree, NodesAgree, ExemptionsAgree}
 use Rattle.drawing.specs.Conditions.{shortScratch}
-use Rattle.drawing.specs.Checks.{listConditions, clearanceConditions}
+use Rattle.drawing.specs.Checks.{listConditions}
 use Rattle.drawing.specs.Orders.{segmentsInOrder, nodesInOrder}
 use Rattle.drawing.proofs.EntryLaws.{length-segments, length-nodes, segments-at, nodes-at}
 use Rattle.drawing.proofs.FirstRefusal.{passed-head, few, segments-agree, nodes-agree}
@@ -38,6 +38,7 @@ use Rattle.clearance.specs.declared.visit.Walked.{Walked}
 use Rattle.clearance.specs.declared.visit.Walked.the-variants.{Went}
 use Rattle.clearance.specs.declared.report.ClearanceAnswer.{ClearanceAnswer}
 use Rattle.clearance.specs.declared.report.ClearanceAnswer.the-variants.{Refused}
+use Rattle.clearance.specs.Conditions.{clearanceConditions}
 use Rattle.clearance.specs.Figures.{Figures}
 use Rattle.clearance.specs.Tree.{indexed, Tree, bare, build, treeOf}
 use Rattle.clearance.specs.Walk.{walk, noFigures, walkAll}

@@ -7,9 +7,9 @@ use lib.ListN.{length}
 use Rattle.drawing.specs.declared.refusal.Check.the-variants.{Passed}
 use Rattle.drawing.specs.Entries.{SegmentColumns, NodeColumns, ExemptionColumns}
 use Rattle.drawing.specs.Refusals.{firstOf, scratchAfter}
-use Rattle.drawing.specs.Checks.{clearanceConditions}
 use Rattle.drawing.specs.Held.{Binary64, SegmentsHeld, NodesHeld}
 use Rattle.clearance.specs.declared.report.ClearanceAnswer.{ClearanceAnswer}
+use Rattle.clearance.specs.Conditions.{clearanceConditions}
 use Rattle.clearance.specs.Answer.{clearanceAnswer}
 
 module _ (nodes : NodeColumns) (exemptions : ExemptionColumns) (threshold : Float) (allowance : ℕ) (before : List ℕ) where

@@ -9,7 +9,6 @@ use lib.ListN.{length, length-map}
 use Rattle.laws.specs.Charged.{Charged, reaches, settle}
 use Rattle.drawing.specs.Entries.{Segment, SegmentColumns, segments}
 use Rattle.drawing.specs.Refusals.{numberOf, firstOf, checked}
-use Rattle.drawing.specs.Checks.{congestionConditions}
 use Rattle.drawing.specs.declared.gap.Gap.{Gap}
 use Rattle.drawing.specs.declared.refusal.Refusal.{Refusal}
 use Rattle.drawing.specs.declared.refusal.Refusal.the-variants.{WorkLimitExceeded}
@@ -18,6 +17,7 @@ use Rattle.drawing.specs.declared.refusal.Check.the-variants as Checked
 use Rattle.congestion.specs.declared.report.ParallelCongestion.{ParallelCongestion}
 use Rattle.congestion.specs.declared.report.CongestionAnswer.{CongestionAnswer}
 use Rattle.congestion.specs.declared.report.CongestionAnswer.the-variants.{Report, Refused}
+use Rattle.congestion.specs.Conditions.{congestionConditions}
 use Rattle.congestion.specs.Wires.{wireOf, cutoffOf}
 use Rattle.congestion.specs.Profile.{allPairs}
 use Rattle.congestion.specs.Answer.{reportOf, settled, densityAnswer, withoutDensity, profileAnswer, congestionAnswer, zeros, resultOf}

@@ -17,13 +17,14 @@ use Rattle.drawing.specs.Entries.{SegmentColumns, segmentColumns, segmentsOf, s
 use Rattle.drawing.specs.Orders.{segmentRow, segmentsInOrder}
 use Rattle.drawing.specs.Refusals.{numberOf, firstOf}
 use Rattle.drawing.specs.Conditions.{differ, tooMany, shortScratch, unfitLine, unfitSegment, unfitCutoff, offGridLine, offGridSegment, offGridCutoff}
-use Rattle.drawing.specs.Checks.{segmentsDiffer, separationConditions, congestionConditions}
+use Rattle.drawing.specs.Checks.{segmentsDiffer, segmentConditions}
 use Rattle.drawing.specs.Gaps.{gapFrom, leastGap}
 use Rattle.drawing.specs.declared.gap.Gap.{Gap}
 use Rattle.drawing.specs.declared.gap.Gap.the-variants.{Absent, Present}
 use Rattle.drawing.specs.declared.refusal.Refusal.the-variants.{OffGrid, WorkLimitExceeded}
 use Rattle.congestion.specs.declared.report.CongestionAnswer.{CongestionAnswer}
 use Rattle.congestion.specs.declared.report.CongestionAnswer.the-variants.{Report, Refused}
+use Rattle.congestion.specs.Conditions.{congestionConditions}
 use Rattle.congestion.specs.Wires.{Wire, cutoffOf}
 use Rattle.congestion.specs.Cells.{cellsFrom}
 use Rattle.congestion.specs.Figures.{total, stretches, congested, closeOtherPairs, pairOverlap, peak, closePairs, visits}
@@ -122,5 +123,5 @@ pub record Marked : Type 0 where
   pub one-net : found 384 (flat 1 0 0 320 ∷ flat 1 64 0 320 ∷ []) ≡ gathered 640 0 0 0 none 4
 
 pub marked : Marked
-unfolding ofBits toBits round sub div lt some-of chosen fold pairs rowLe insertBy sortBy lesser least runs settle key keyOf gapOf absOf onGrid steps unit ofUnits segmentsOf segmentRow segmentsInOrder numberOf firstOf differ tooMany shortScratch unfitLine unfitSegment unfitCutoff offGridLine offGridSegment offGridCutoff segmentsDiffer separationConditions congestionConditions gapFrom leastGap cutoffOf cellsFrom total stretches congested closeOtherPairs pairOverlap peak closePairs visits lengths leastNonzero allPairs inOrder oriented along sweepWires walkAll settled densityAnswer profileAnswer congestionAnswer resultOf clamp ratio
+unfolding ofBits toBits round sub div lt some-of chosen fold pairs rowLe insertBy sortBy lesser least runs settle key keyOf gapOf absOf onGrid steps unit ofUnits segmentsOf segmentRow segmentsInOrder numberOf firstOf differ tooMany shortScratch unfitLine unfitSegment unfitCutoff offGridLine offGridSegment offGridCutoff segmentsDiffer segmentConditions congestionConditions gapFrom leastGap cutoffOf cellsFrom total stretches congested closeOtherPairs pairOverlap peak closePairs visits lengths leastNonzero allPairs inOrder oriented along sweepWires walkAll settled densityAnswer profileAnswer congestionAnswer resultOf clamp ratio
 marked = record { D-at-4 = refl; D-at-3 = refl; D-sheet = refl; D-spent = refl; D-profile = refl; D-congestion = refl; D-sweep = refl; D-ratio = refl; gap-equals-cutoff = refl; on-the-grid = refl; off-the-grid = refl; minus-zero = refl; cutoff-zero = refl; cutoff-minus-zero = refl; cutoff-below-zero = refl; empty-list = refl; fork-figures = refl; fork-sweep = refl; stack-figures = refl; stack-sweep = refl; one-net = refl }

@@ -17,14 +17,15 @@ use Rattle.floats.proofs.Units.{lt-units}
 use Rattle.drawing.specs.Entries.{Segment, SegmentColumns, segments}
 use Rattle.drawing.specs.Refusals.{firstOf}
 use Rattle.drawing.specs.Conditions.{unfitSegment, unfitCutoff, offGridLine, offGridSegment, offGridCutoff}
-use Rattle.drawing.specs.Checks.{separationConditions, congestionConditions}
+use Rattle.drawing.specs.Checks.{segmentConditions}
 use Rattle.drawing.specs.Lengths.{SegmentsAgree}
 use Rattle.drawing.specs.declared.refusal.Refusal.the-variants.{InvalidInput, OffGrid}
 use Rattle.drawing.specs.declared.refusal.Check.{Check}
 use Rattle.drawing.specs.declared.refusal.Check.the-variants.{Passed, Refused}
 use Rattle.drawing.proofs.EntryLaws.{length-segments}
 use Rattle.drawing.proofs.Fit.{line-of}
-use Rattle.drawing.proofs.FirstRefusal.{then, first-append, passed-head, few, separation-agree}
+use Rattle.drawing.proofs.FirstRefusal.{then, first-append, passed-head, SegmentsPass, segments-pass}
+use Rattle.congestion.specs.Conditions.{congestionConditions}
 use Rattle.congestion.specs.Wires.{Wire, wireOf}
 use Rattle.congestion.proofs.Beginning.{Sound}
 
@@ -83,30 +84,25 @@ both-passed (Refused r) b e = (e, absurd (subst is-refused e tt))
     is-refused (Refused r) = Unit {0}
 
 module _ (s : SegmentColumns) (cutoff : Float) (words : ℕ) (passed : firstOf (congestionConditions s cutoff words) ≡ Passed) where
-  -- the conditions of separation come first
-  pub first-four : firstOf (separationConditions s words) ≡ Passed
+  -- the conditions of segments and scratch come first
+  pub segments-passed : SegmentsPass s words
   unfolding congestionConditions
-  first-four = both-passed (firstOf (separationConditions s words)) _ (sym (first-append (separationConditions s words) _) ∙ passed) .0
+  segments-passed = segments-pass s words (both-passed (firstOf (segmentConditions s words)) _ (sym (first-append (segmentConditions s words) _) ∙ passed) .0)
 
   -- then the cutoff, and the grid
   last-three : firstOf ((unfitCutoff cutoff, InvalidInput) ∷ (some-of offGridSegment (segments s), OffGrid) ∷ (offGridCutoff cutoff, OffGrid) ∷ []) ≡ Passed
   unfolding congestionConditions
-  last-three = both-passed (firstOf (separationConditions s words)) _ (sym (first-append (separationConditions s words) _) ∙ passed) .1
+  last-three = both-passed (firstOf (segmentConditions s words)) _ (sym (first-append (segmentConditions s words) _) ∙ passed) .1
 
   pub agree : SegmentsAgree s
-  agree = separation-agree s words first-four
+  agree = segments-passed .agree
 
   pub fit-list : FitList (segments s)
-  unfolding separationConditions
   fit-list =
-      let a = passed-head _ _ _ first-four in
-      let b = passed-head _ _ _ (a .1) in
-      let d = passed-head _ _ _ (b .1) in
-      let e = passed-head _ _ _ (d .1) in
       let g = passed-head _ _ _ (passed-head _ _ _ last-three .1) in
       record {
-        few = le-trans (le-of-eq (length-segments s agree)) (few (length (s .net)) (b .0));
-        each = λ x m. fit-segment x (all-mem (λ z. unfitSegment z ≡ false) (segments s) (none-all unfitSegment (segments s) (e .0)) x m) (all-mem (λ z. offGridSegment z ≡ false) (segments s) (none-all offGridSegment (segments s) (g .0)) x m);
+        few = le-trans (le-of-eq (length-segments s agree)) (segments-passed .few-segments);
+        each = λ x m. fit-segment x (all-mem (λ z. unfitSegment z ≡ false) (segments s) (none-all unfitSegment (segments s) (segments-passed .fit)) x m) (all-mem (λ z. offGridSegment z ≡ false) (segments s) (none-all offGridSegment (segments s) (g .0)) x m);
       }
 
   pub fit-cutoff : T (onGrid cutoff)

@@ -1,4 +1,5 @@
 -- The laws of the definitions. Those that `demands` and `printing` cite:
+pub mod Checked
 pub mod Fitness
 pub mod SweepTheorem
 pub mod Answers

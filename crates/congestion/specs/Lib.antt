@@ -6,6 +6,7 @@ pub mod Profile
 pub mod Sweep
 pub mod Rounded
 pub mod RoundedSweep
+pub mod Conditions
 pub mod Answer
 pub mod Ratio
 -- what only laws and inner contracts cite

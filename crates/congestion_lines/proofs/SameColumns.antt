@@ -7,9 +7,9 @@ use lib.ListN.{length}
 use Rattle.drawing.specs.declared.refusal.Check.the-variants.{Passed}
 use Rattle.drawing.specs.Entries.{SegmentColumns}
 use Rattle.drawing.specs.Refusals.{firstOf, scratchAfter}
-use Rattle.drawing.specs.Checks.{congestionConditions}
 use Rattle.drawing.specs.Held.{Binary64, SegmentsHeld}
 use Rattle.congestion.specs.declared.report.CongestionAnswer.{CongestionAnswer}
+use Rattle.congestion.specs.Conditions.{congestionConditions}
 use Rattle.congestion.specs.Answer.{densityAnswer, profileAnswer, congestionAnswer}
 
 -- `answer` is what the call answers of columns, told how many words the scratch has

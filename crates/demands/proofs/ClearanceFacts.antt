@@ -11,7 +11,6 @@ use Rattle.drawing.specs.declared.refusal.Refusal.{Refusal}
 use Rattle.drawing.specs.declared.refusal.Check.the-variants.{Refused}
 use Rattle.drawing.specs.Entries.{segments, nodes, exemptions}
 use Rattle.drawing.specs.Refusals.{numberOf, firstOf}
-use Rattle.drawing.specs.Checks.{listConditions, entryConditions, clearanceConditions}
 use Rattle.clearance.specs.Figures.{Figures, figures}
 use Rattle.clearance.specs.declared.report.EdgeNodeClearance.{EdgeNodeClearance}
 use Rattle.clearance.specs.Answer.{allPairs, clearanceAnswer, resultOf}
@@ -21,12 +20,7 @@ use Rattle.clearance.proofs.AnyOrder.{all-pairs-any-order}
 use Rattle.clearance.proofs.Answers.{FitCall, fit-call, result-settles}
 use Rattle.demands.specs.Measures.{Reported, Lists, clearance}
 use Rattle.demands.proofs.Numbers.{least-reported}
-use Rattle.demands.proofs.FirstMet.{Rising}
 use Rattle.demands.proofs.Facts.{Passes, Same, Facts}
-
-rises : (d : Lists) (t : Float) (words : ℕ) → Rising 0 (clearance .conditions d t words)
-unfolding clearanceConditions listConditions entryConditions numberOf
-rises d t words = (omega arith, omega arith, (omega arith, omega arith, (omega arith, omega arith, (omega arith, omega arith, (omega arith, omega arith, (omega arith, omega arith, (omega arith, omega arith, (omega arith, omega arith, (omega arith, omega arith, (omega arith, omega arith, tt))))))))))
 
 fit : (d : Lists) (t : Float) (words : ℕ) → clearance .Held d t → Passes clearance d t words → FitCall (d .segments) (d .nodes) t
 fit d t words h p = fit-call (d .segments) (d .nodes) (d .exemptions) t words (record { segments-held = h .0; nodes-held = h .1; threshold-held = h .2 }) p
@@ -59,4 +53,4 @@ unfolding figures
 numbers d t words h p = let f = fit d t words h p in least-reported _ (distances-good (exemptions (d .exemptions)) (segments (d .segments)) (nodes (d .nodes)) (f .segments-fit) (f .nodes-fit))
 
 pub clearance-facts : Facts clearance
-clearance-facts = record { rising = rises; refuses = refuses; settles = settles; apart = apart; same = same; walks = walks; numbers = numbers }
+clearance-facts = record { refuses = refuses; settles = settles; apart = apart; same = same; walks = walks; numbers = numbers }

@@ -17,11 +17,11 @@ use Rattle.drawing.specs.declared.refusal.Refusal.{Refusal}
 use Rattle.drawing.specs.declared.refusal.Check.the-variants.{Passed, Refused as Stopped}
 use Rattle.drawing.specs.Entries.{SegmentColumns, segments}
 use Rattle.drawing.specs.Refusals.{numberOf, firstOf}
-use Rattle.drawing.specs.Checks.{separationConditions, congestionConditions}
 use Rattle.congestion.specs.declared.report.ParallelCongestion.{ParallelCongestion}
 use Rattle.congestion.specs.declared.report.CongestionReport.{CongestionReport}
 use Rattle.congestion.specs.declared.report.CongestionAnswer.{CongestionAnswer}
 use Rattle.congestion.specs.declared.report.CongestionAnswer.the-variants.{Report, Refused}
+use Rattle.congestion.specs.Conditions.{congestionConditions}
 use Rattle.congestion.specs.Profile.{lengths, leastNonzero, allPairs}
 use Rattle.congestion.specs.Answer.{reportOf, densityAnswer, withoutDensity, profileAnswer, congestionAnswer, zeros, resultOf}
 use Rattle.congestion.proofs.Fitness.{fit-list}
@@ -29,16 +29,11 @@ use Rattle.congestion.proofs.SweepTheorem.{all-pairs-order, sweep-is-all-pairs}
 use Rattle.congestion.proofs.Answers.{Settles, result-settles, density-settles, profile-settles, congestion-earlier, congestion-reached}
 use Rattle.demands.specs.Measures.{visitsReach, Reported, ofCongestion, density, profile, congestion}
 use Rattle.demands.proofs.Numbers.{good-reported, least-reported, units-good}
-use Rattle.demands.proofs.FirstMet.{Rising}
 use Rattle.demands.proofs.Facts.{Facts}
 
 -- figures and the least gap, at a cost
 abbrev Charges : Type 0
 Charges = Charged (ParallelCongestion × Gap)
-
-rises : (s : SegmentColumns) (cutoff : Float) (words : ℕ) → Rising 0 (congestionConditions s cutoff words)
-unfolding congestionConditions separationConditions numberOf
-rises s cutoff words = (omega arith, omega arith, (omega arith, omega arith, (omega arith, omega arith, (omega arith, omega arith, (omega arith, omega arith, (omega arith, omega arith, (omega arith, omega arith, tt)))))))
 
 refused-result : (r : Refusal) → resultOf (Refused r) ≡ (numberOf r, zeros)
 unfolding resultOf
@@ -77,7 +72,6 @@ module _ (part : Charges → Charges) (A : Type 0) (reach : A → ℕ → Bool) 
     (settles : (s : SegmentColumns) (cutoff : Float) (a : A) (words : ℕ) → firstOf (congestionConditions s cutoff words) ≡ Passed → resultOf (answers s cutoff a words) ≡ cond (reach a (allPairs cutoff (segments s) .cost)) (0, reportOf (part (allPairs cutoff (segments s)) .value) (allPairs cutoff (segments s) .cost)) (7, zeros)) where
   facts : Facts (ofCongestion part A reach answers)
   facts = record {
-    rising = rises;
     refuses = λ s cutoff a words r e. ap resultOf (refuses s cutoff a words r e) ∙ refused-result r;
     settles = settles;
     apart = λ f n e. let z : _≡_ {A = ℕ} 0 7 = ap (λ (r : ℕ × CongestionReport). r .0) e in omega arith;

@@ -15,9 +15,9 @@ use Rattle.laws.proofs.Folds.{plus, fold-same, fold-map}
 use Rattle.floats.specs.Values.{plusZero}
 use Rattle.floats.specs.Grid.{onGrid, ofUnits}
 use Rattle.drawing.specs.Entries.{Segment, SegmentColumns, segments, nodes, exemptions}
-use Rattle.drawing.specs.Checks.{congestionConditions}
 use Rattle.clearance.proofs.Visits.{visits-at-most}
 use Rattle.separation.proofs.Costs.{visit-bound}
+use Rattle.congestion.specs.Conditions.{congestionConditions}
 use Rattle.congestion.specs.Wires.{Wire, wireOf, cutoffOf}
 use Rattle.rows.specs.Rows.{atLeastTwo}
 use Rattle.congestion.specs.Figures.{close, closePairs, inOrientation, visits}

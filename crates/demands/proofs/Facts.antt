@@ -7,7 +7,6 @@ use Rattle.drawing.specs.declared.refusal.Refusal.{Refusal}
 use Rattle.drawing.specs.declared.refusal.Check.the-variants.{Passed, Refused}
 use Rattle.drawing.specs.Refusals.{numberOf, firstOf}
 use Rattle.demands.specs.Measures.{Measure, Reported}
-use Rattle.demands.proofs.FirstMet.{Rising}
 
 abbrev pub Passes : (m : Measure) → m .Drawing → m .Settings → ℕ → Type 0
 Passes m d s words = firstOf (m .conditions d s words) ≡ Passed
@@ -18,8 +17,6 @@ pub record Same (m : Measure) (d e : m .Drawing) (s : m .Settings) : Type 0 wher
   pub count : m .count d s ≡ m .count e s
 
 pub record Facts (m : Measure) : Type 0 where
-  -- the conditions stand in the order of their numbers
-  pub rising : (d : m .Drawing) (s : m .Settings) (words : ℕ) → Rising 0 (m .conditions d s words)
   -- the answer of a call whose checks refuse it
   pub refuses : (d : m .Drawing) (s : m .Settings) (a : m .Allowance) (words : ℕ) (r : Refusal) → firstOf (m .conditions d s words) ≡ Refused r → m .result (m .answer d s a words) ≡ m .refused (numberOf r)
   -- and of one whose checks pass

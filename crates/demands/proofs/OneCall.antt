@@ -2,12 +2,12 @@
 use mathlib.Core.Path.{_≡_, refl, sym, ap, _∙_}
 use mathlib.Core.Logic.{_⊎_, inl, inr, _↔_}
 use mathlib.Core.Bool.{Bool, true, false, cond}
-use Prim.Native.Nat.{ℕ}
 use lib.ListN.{length}
 use Rattle.laws.specs.Charged.{Charged}
 use Rattle.laws.proofs.Tests.{cond-true, cond-false}
+use Rattle.drawing.specs.declared.refusal.Refusal.{Refusal}
 use Rattle.drawing.specs.declared.refusal.Check.{Check}
-use Rattle.drawing.specs.Refusals.{scratchAfter}
+use Rattle.drawing.specs.Refusals.{numberOf, scratchAfter}
 use Rattle.demands.specs.Applies.{First, NoneApplies}
 use Rattle.demands.specs.Measures.{Measure, Run, resultOfRun, visitCount, earlier, allPairsReport}
 use Rattle.demands.specs.Demand1.{Returns, cleared, Unfit, Refusing}
@@ -38,21 +38,21 @@ module _ (m : Measure) (facts : Facts m) where
 
   -- ---- demand 1
   some-unfit : (r : Run m) → Some (earlier m r) ⊎ NoneApplies (earlier m r) → Unfit m r ⊎ NoneApplies (earlier m r)
-  some-unfit r (inl s) = inl (record { number = s .number; first = s .first; before-7 = s .below })
+  some-unfit r (inl s) = inl (record { refusal = s .refusal; first = s .first })
   some-unfit r (inr h) = inr h
 
-  refused : (r : Run m) (k : ℕ) → First (earlier m r) k → Returns m r (m .refused k) (r .before)
+  refused : (r : Run m) (why : Refusal) → First (earlier m r) why → Returns m r (m .refused (numberOf why)) (r .before)
   unfolding scratchAfter
-  refused r k f =
-      let a = first-refused 0 (earlier m r) (facts .rising (r .drawing) (r .settings) (length (r .before))) k f in
+  refused r why f =
+      let is = first-refused (earlier m r) why f in
       record {
-        returned = ap (m .result) (r .says .answers) ∙ facts .refuses (r .drawing) (r .settings) (r .allowance) (length (r .before)) (a .refusal) (a .first) ∙ ap (m .refused) (a .number);
-        left = r .says .leaves ∙ ap (λ (c : Check). scratchAfter c (r .before)) (a .first);
+        returned = ap (m .result) (r .says .answers) ∙ facts .refuses (r .drawing) (r .settings) (r .allowance) (length (r .before)) why is;
+        left = r .says .leaves ∙ ap (λ (c : Check). scratchAfter c (r .before)) is;
       }
 
   pub refusing : Refusing m
   refusing = record {
-    unfit-or-fit = λ r. some-unfit r (some-or-none 0 (earlier m r) (facts .rising (r .drawing) (r .settings) (length (r .before))));
+    unfit-or-fit = λ r. some-unfit r (some-or-none (earlier m r));
     unfit = refused;
     spent = λ r h f. record { returned = short r h f; left = clears r h };
     accepted = λ r h t. record { returned = reached r h t; left = clears r h };

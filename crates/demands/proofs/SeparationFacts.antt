@@ -11,7 +11,6 @@ use Rattle.drawing.specs.declared.refusal.Refusal.{Refusal}
 use Rattle.drawing.specs.declared.refusal.Check.the-variants.{Refused}
 use Rattle.drawing.specs.Entries.{SegmentColumns, segments}
 use Rattle.drawing.specs.Refusals.{numberOf, firstOf}
-use Rattle.drawing.specs.Checks.{separationConditions}
 use Rattle.drawing.specs.Gaps.{leastGap}
 use Rattle.separation.specs.declared.report.ParallelSeparation.{ParallelSeparation}
 use Rattle.separation.specs.Figures.{Figures, figures, leastOf, gaps}
@@ -22,12 +21,7 @@ use Rattle.separation.proofs.AnyOrder.{all-pairs-any, walk-all-pairs}
 use Rattle.separation.proofs.Answers.{passed-fit, result-settles}
 use Rattle.demands.specs.Measures.{Reported, present, separation}
 use Rattle.demands.proofs.Numbers.{least-reported}
-use Rattle.demands.proofs.FirstMet.{Rising}
 use Rattle.demands.proofs.Facts.{Passes, Same, Facts}
-
-pub separation-rises : (s : SegmentColumns) (words : ℕ) → Rising 0 (separationConditions s words)
-unfolding separationConditions numberOf
-separation-rises s words = (omega arith, omega arith, (omega arith, omega arith, (omega arith, omega arith, (omega arith, omega arith, tt))))
 
 refuses : (s : SegmentColumns) (none : Unit {0}) (a words : ℕ) (r : Refusal) → firstOf (separation .conditions s none words) ≡ Refused r → separation .result (separation .answer s none a words) ≡ separation .refused (numberOf r)
 unfolding separationAnswer resultOf
@@ -58,4 +52,4 @@ numbers s none words h p =
     all-append Reported (present (leastGap (gaps (segments s)))) _ (least-reported _ good) (least-reported _ (kept-good _ good))
 
 pub separation-facts : Facts separation
-separation-facts = record { rising = λ s none words. separation-rises s words; refuses = refuses; settles = settles; apart = apart; same = same; walks = walks; numbers = numbers }
+separation-facts = record { refuses = refuses; settles = settles; apart = apart; same = same; walks = walks; numbers = numbers }

@@ -1,5 +1,5 @@
 -- The programs that are shut out, from the marked cases and the facts of each measure. Assumes nothing.
-use mathlib.Core.Path.{_≡_, refl, sym, ap, subst, _∙_}
+use mathlib.Core.Path.{_≡_, refl, sym, ap, _∙_}
 use mathlib.Core.Bool.{Bool, true, false, cond}
 use mathlib.Core.List.{List}
 use Prim.Native.Nat.{ℕ, _+_, _*_, _≤_}
@@ -17,9 +17,12 @@ use Rattle.drawing.specs.declared.refusal.Check.the-variants.{Passed, Refused}
 use Rattle.drawing.specs.Entries.{SegmentColumns}
 use Rattle.drawing.specs.Refusals.{numberOf, firstOf, scratchAfter}
 use Rattle.drawing.specs.Conditions.{shortScratch}
-use Rattle.drawing.specs.Checks.{separationConditions, congestionConditions, clearanceConditions}
+use Rattle.drawing.specs.Checks.{segmentConditions}
+use Rattle.clearance.specs.Conditions.{clearanceConditions}
+use Rattle.separation.specs.Conditions.{separationConditions}
 use Rattle.congestion.specs.declared.report.ParallelCongestion.{ParallelCongestion}
 use Rattle.congestion.specs.declared.report.CongestionAnswer.{CongestionAnswer}
+use Rattle.congestion.specs.Conditions.{congestionConditions}
 use Rattle.congestion.specs.Answer.{densityAnswer, profileAnswer, congestionAnswer, withoutDensity}
 use Rattle.demands.specs.Measures.{Measure, Run, resultOfRun, earlier, visitsReach, Lists, clearance, separation, ofCongestion, density, profile, congestion}
 use Rattle.demands.specs.Marked.{told}
@@ -171,13 +174,17 @@ roomy : (v w segments nodes : ℕ) → 32 * (segments + nodes) + 64 ≤ v → v 
 unfolding shortScratch
 roomy v w segments nodes h k = ltb-same v (32 * (segments + nodes) + 64) w (32 * (segments + nodes) + 64) (λ p. omega arith) (λ p. omega arith)
 
+segments-roomy : (s : SegmentColumns) (v : ℕ) → 32 * (length (s .net) + 0) + 64 ≤ v → (w : ℕ) → v ≤ w → segmentConditions s v ≡ segmentConditions s w
+unfolding segmentConditions
+segments-roomy s v h w k = rw (roomy v w (length (s .net)) 0 h k)
+
 separation-roomy : (s : SegmentColumns) (v : ℕ) → 32 * (length (s .net) + 0) + 64 ≤ v → (w : ℕ) → v ≤ w → separationConditions s v ≡ separationConditions s w
 unfolding separationConditions
-separation-roomy s v h w k = rw (roomy v w (length (s .net)) 0 h k)
+separation-roomy s v h w k = segments-roomy s v h w k
 
 congestion-roomy : (s : SegmentColumns) (cutoff : Float) (v : ℕ) → 32 * (length (s .net) + 0) + 64 ≤ v → (w : ℕ) → v ≤ w → congestionConditions s cutoff v ≡ congestionConditions s cutoff w
 unfolding congestionConditions
-congestion-roomy s cutoff v h w k = rw (separation-roomy s v h w k)
+congestion-roomy s cutoff v h w k = rw (segments-roomy s v h w k)
 
 clearance-roomy : (d : Lists) (threshold : Float) (v : ℕ) → 32 * (length (d .segments .net) + length (d .nodes .id)) + 64 ≤ v → (w : ℕ) → v ≤ w → clearance .conditions d threshold v ≡ clearance .conditions d threshold w
 unfolding clearanceConditions

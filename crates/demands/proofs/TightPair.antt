@@ -1,28 +1,23 @@
 -- The tight pair. Assumes nothing.
 use mathlib.Core.Path.{_≡_, refl, ap, _∙_}
 use mathlib.Core.Option.{none}
-use Prim.Native.Nat.{ℕ}
-use native.Mathlib.Omega.{arith}
 use lib.Ieee.{Float}
 use Rattle.drawing.specs.declared.gap.Gap.{Gap}
 use Rattle.drawing.specs.declared.gap.Gap.the-variants.{Absent, Present}
+use Rattle.drawing.specs.declared.refusal.Refusal.{Refusal}
 use Rattle.drawing.specs.declared.refusal.Check.{Check}
 use Rattle.drawing.specs.declared.refusal.Check.the-variants.{Passed, Refused as Stopped}
 use Rattle.drawing.specs.Entries.{SegmentColumns, NodeColumns, ExemptionColumns, segments, nodes, exemptions}
 use Rattle.drawing.specs.Gaps.{leastGap}
 use Rattle.drawing.specs.Refusals.{numberOf, firstOf, checked}
-use Rattle.drawing.specs.Checks.{listConditions, entryConditions, tightPairConditions}
 use Rattle.tight_pair.specs.declared.TightPair.{TightPair}
 use Rattle.tight_pair.specs.declared.TightPair.the-variants as tightPair
 use Rattle.clearance.specs.Figures.{distances, figures}
+use Rattle.tight_pair.specs.Conditions.{tightPairConditions}
 use Rattle.tight_pair.specs.TightPair.{found, answer, Answered, resultOf}
 use Rattle.demands.specs.Applies.{First, NoneApplies}
 use Rattle.demands.specs.TightPair.{Pair, TightPairs}
-use Rattle.demands.proofs.FirstMet.{Rising, first-refused, none-passed}
-
-rises : (s : SegmentColumns) (n : NodeColumns) (e : ExemptionColumns) → Rising 0 (tightPairConditions s n e)
-unfolding tightPairConditions listConditions entryConditions numberOf
-rises s n e = (omega arith, omega arith, (omega arith, omega arith, (omega arith, omega arith, (omega arith, omega arith, (omega arith, omega arith, (omega arith, omega arith, (omega arith, omega arith, (omega arith, omega arith, tt))))))))
+use Rattle.demands.proofs.FirstMet.{first-refused, none-passed}
 
 module _ (s : SegmentColumns) (n : NodeColumns) (e : ExemptionColumns) (r : TightPair) (a : Answered s n e r) where
   -- from what the checks say, and from the least clearance
@@ -30,11 +25,9 @@ module _ (s : SegmentColumns) (n : NodeColumns) (e : ExemptionColumns) (r : Tigh
   unfolding answer
   answered c p g q = a .is ∙ (λ i. checked tightPair.Refused (p i) (found (q i) (a .choice)))
 
-  unfit : (k : ℕ) → First (tightPairConditions s n e) k → resultOf r ≡ (k, none)
+  unfit : (why : Refusal) → First (tightPairConditions s n e) why → resultOf r ≡ (numberOf why, none)
   unfolding resultOf
-  unfit k f =
-      let w = first-refused 0 (tightPairConditions s n e) (rises s n e) k f in
-      ap resultOf (answered (Stopped (w .refusal)) (w .first) _ refl) ∙ ap (λ (j : ℕ). (j, none)) (w .number)
+  unfit why f = ap resultOf (answered (Stopped why) (first-refused (tightPairConditions s n e) why f) _ refl)
 
   no-pair : NoneApplies (tightPairConditions s n e) → (threshold : Float) → figures (exemptions e) (λ net. threshold) (segments s) (nodes n) .least ≡ Absent → resultOf r ≡ (0, none)
   unfolding found resultOf figures

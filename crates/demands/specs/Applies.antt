@@ -1,22 +1,17 @@
--- Which refusal applies, said by document 01's numbers: where its condition as stated holds, and not wherever a call returns its number.
+-- Which refusal applies: one whose condition as stated holds, and not one whose number a call returns.
 use mathlib.Core.Path.{_≡_}
-use mathlib.Core.Bool.{Bool, true, false, _&&_}
-use mathlib.Core.List.{List}
-use Prim.Native.Nat.{ℕ, _<_}
-use lib.Dec.{eqb}
-use Rattle.laws.specs.Lists.{some-of}
+use mathlib.Core.Bool.{Bool, true, false}
+use mathlib.Core.List.{List, _∷_, _++_}
+use Rattle.laws.specs.Lists.{All}
 use Rattle.drawing.specs.declared.refusal.Refusal.{Refusal}
-use Rattle.drawing.specs.Refusals.{numberOf}
 
--- of conditions, each with its refusal, one with the number k holds
-abbrev pub applies : List (Bool × Refusal) → ℕ → Bool
-applies l k = some-of (λ c. c .0 && eqb (numberOf (c .1)) k) l
-
--- "the first refusal that applies in document 01's list": k applies and no lower number does
-pub record First (l : List (Bool × Refusal)) (k : ℕ) : Type 0 where
-  pub it : applies l k ≡ true
-  pub none-before : (j : ℕ) → j < k → applies l j ≡ false
-
--- no refusal applies
+-- of conditions, each with its refusal, none holds
 abbrev pub NoneApplies : List (Bool × Refusal) → Type 0
-NoneApplies l = (k : ℕ) → applies l k ≡ false
+NoneApplies l = All (λ c. c .0 ≡ false) l
+
+-- "the first refusal that applies in document 01's list", the conditions standing in checking order: its condition holds, and none in front of it does
+pub record First (l : List (Bool × Refusal)) (refusal : Refusal) : Type 0 where
+  pub before : List (Bool × Refusal)
+  pub after : List (Bool × Refusal)
+  pub it : l ≡ before ++ ((true, refusal) ∷ after)
+  pub none-before : NoneApplies before

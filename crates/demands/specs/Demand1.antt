@@ -1,11 +1,14 @@
 -- Demand 1: "Where an input is unfit, the call returns the first refusal that applies in document 01's list and touches no lent memory; where the allowance runs out it returns that refusal and a cleared scratch; every call ends, for all inputs, with no condition laid on its caller."
 -- `proofs/Demand1.antt` proves `Demand1`; that every call ends, and asks nothing of its caller, is said of the functions themselves, in `readability`, specs/Calls. Lists and settings are lent or given to be read only: the scratch is the one part of lent memory that a call may write. The tight pair's refusals are in `TightPair`; it is lent nothing that it may write.
 use mathlib.Core.Path.{_≡_}
-use mathlib.Core.Bool.{true, false}
+use mathlib.Core.Bool.{Bool, true, false}
 use mathlib.Core.Logic.{_⊎_}
 use mathlib.Core.List.{List}
-use Prim.Native.Nat.{ℕ, _<_}
+use Prim.Native.Nat.{ℕ}
 use lib.ListN.{length, replicate}
+use Rattle.drawing.specs.declared.refusal.Refusal.{Refusal}
+use Rattle.drawing.specs.declared.refusal.Check.{Check}
+use Rattle.drawing.specs.Refusals.{numberOf, numberOfCheck, firstOf}
 use Rattle.demands.specs.Applies.{First, NoneApplies}
 use Rattle.demands.specs.Measures.{Measure, Run, resultOfRun, visitCount, earlier, allPairsReport, Call, measured}
 
@@ -18,21 +21,27 @@ pub record Returns (m : Measure) (r : Run m) (result : m .Result) (scratch : Lis
 abbrev pub cleared : List ℕ → List ℕ
 cleared scratch = replicate (length scratch) 0
 
--- a number of the list before 7 that applies first
+-- a refusal that is checked before 7 and applies first
 pub record Unfit (m : Measure) (r : Run m) : Type 0 where
-  pub number : ℕ
-  pub first : First (earlier m r) number
-  pub before-7 : number < 7
+  pub refusal : Refusal
+  pub first : First (earlier m r) refusal
 
 pub record Refusing (m : Measure) : Type 0 where
   -- every run meets a first refusal before 7, or none
   pub unfit-or-fit : (r : Run m) → Unfit m r ⊎ NoneApplies (earlier m r)
-  -- an unfit input: the first refusal that applies, with a report of zeros and absent gaps, and the scratch as it was
-  pub unfit : (r : Run m) (k : ℕ) → First (earlier m r) k → Returns m r (m .refused k) (r .before)
+  -- an unfit input: the number of the first refusal that applies, with a report of zeros and absent gaps, and the scratch as it was
+  pub unfit : (r : Run m) (why : Refusal) → First (earlier m r) why → Returns m r (m .refused (numberOf why)) (r .before)
   -- the allowance runs out: "7. `WorkLimitExceeded`: the visit count exceeds the allowance"
   pub spent : (r : Run m) → NoneApplies (earlier m r) → m .reaches (r .allowance) (visitCount m r) ≡ false → Returns m r (m .refused 7) (cleared (r .before))
   -- it does not: the report, and the scratch is cleared too
   pub accepted : (r : Run m) → NoneApplies (earlier m r) → m .reaches (r .allowance) (visitCount m r) ≡ true → Returns m r (allPairsReport m r) (cleared (r .before))
 
+-- what a check of these conditions answers, by its number: that of the first refusal that applies, or 0
+pub record Checking (l : List (Bool × Refusal)) (answer : Check) : Type 0 where
+  pub unfit : (why : Refusal) → First l why → numberOfCheck answer ≡ numberOf why
+  pub fit : NoneApplies l → numberOfCheck answer ≡ 0
+
 pub record Demand1 : Type 0 where
   pub of-each : (call : Call) → Refusing (measured call)
+  -- the public checks: the contract of each is that it answers `firstOf` of its conditions
+  pub of-checks : (l : List (Bool × Refusal)) (answer : Check) → answer ≡ firstOf l → Checking l answer

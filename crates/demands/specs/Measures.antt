@@ -16,20 +16,22 @@ use Rattle.drawing.specs.declared.gap.Gap.the-variants.{Absent, Present}
 use Rattle.drawing.specs.Entries.{SegmentColumns, NodeColumns, ExemptionColumns, segments, nodes, exemptions}
 use Rattle.drawing.specs.Held.{Binary64, SegmentsHeld, NodesHeld}
 use Rattle.drawing.specs.Refusals.{firstOf, scratchAfter}
-use Rattle.drawing.specs.Checks.{clearanceConditions, separationConditions, congestionConditions}
 use Rattle.clearance.specs.declared.report.EdgeNodeClearance.{EdgeNodeClearance}
 use Rattle.clearance.specs.declared.report.ClearanceAnswer.{ClearanceAnswer}
+use Rattle.clearance.specs.Conditions.{clearanceConditions}
 use Rattle.clearance.specs.Figures as ofClearance
 use Rattle.clearance.specs.Walk as clearanceWalk
 use Rattle.clearance.specs.Answer as clearanceCall
 use Rattle.separation.specs.declared.report.ParallelSeparation.{ParallelSeparation}
 use Rattle.separation.specs.declared.report.SeparationAnswer.{SeparationAnswer}
+use Rattle.separation.specs.Conditions.{separationConditions}
 use Rattle.separation.specs.Figures as ofSeparation
 use Rattle.separation.specs.Walk as separationWalk
 use Rattle.separation.specs.Answer as separationCall
 use Rattle.congestion.specs.declared.report.ParallelCongestion.{ParallelCongestion}
 use Rattle.congestion.specs.declared.report.CongestionReport.{CongestionReport}
 use Rattle.congestion.specs.declared.report.CongestionAnswer.{CongestionAnswer}
+use Rattle.congestion.specs.Conditions.{congestionConditions}
 use Rattle.congestion.specs.Profile.{allPairs}
 use Rattle.congestion.specs.Sweep as congestionWalk
 use Rattle.congestion.specs.Answer.{densityAnswer, profileAnswer, congestionAnswer, withoutDensity, reportOf, zeros, resultOf}

@@ -6,9 +6,11 @@ use Prim.Native.Nat.{ℕ}
 use lib.Ieee.{Float}
 use Rattle.drawing.specs.declared.gap.Gap.{Gap}
 use Rattle.drawing.specs.declared.gap.Gap.the-variants.{Absent, Present}
+use Rattle.drawing.specs.declared.refusal.Refusal.{Refusal}
 use Rattle.drawing.specs.Entries.{SegmentColumns, NodeColumns, ExemptionColumns, segments, nodes, exemptions}
-use Rattle.drawing.specs.Checks.{tightPairConditions}
+use Rattle.drawing.specs.Refusals.{numberOf}
 use Rattle.tight_pair.specs.declared.TightPair.{TightPair}
+use Rattle.tight_pair.specs.Conditions.{tightPairConditions}
 use Rattle.tight_pair.specs.TightPair.{Tight, Answered, resultOf}
 use Rattle.demands.specs.Applies.{First, NoneApplies}
 use Rattle.demands.specs.Measures.{clearance}
@@ -27,7 +29,7 @@ module _ (s : SegmentColumns) (n : NodeColumns) (e : ExemptionColumns) (r : Tigh
 
   pub record Holds : Type 0 where
     -- "for the tight pair, an absent pair"
-    pub unfit : (k : ℕ) → First (tightPairConditions s n e) k → resultOf r ≡ (k, none)
+    pub unfit : (why : Refusal) → First (tightPairConditions s n e) why → resultOf r ≡ (numberOf why, none)
     -- "or absent if there is none"
     pub no-pair : NoneApplies (tightPairConditions s n e) → (threshold : Float) → leastClearance threshold ≡ Absent → resultOf r ≡ (0, none)
     -- "any pair .. that is not exempt and whose distance is the least clearance"

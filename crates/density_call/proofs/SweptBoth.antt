@@ -3,13 +3,12 @@ use mathlib.Core.Path.{_≡_, sym, ap, _∙_, subst}
 use mathlib.Core.Logic.{inl, inr}
 use mathlib.Core.List.{map}
 use mathlib.Core.Bool.{true, false}
-use Prim.Native.Nat.{ℕ, _+_, _*_, _≤_}
+use Prim.Native.Nat.{ℕ, _≤_}
 use native.Mathlib.Nat.{le-trans, le-of-eq}
 use native.Mathlib.Omega.{arith}
 use borrow.Author.Tests.{ltb-true, ltb-false, eqb-true, eqb-false, le-ltb}
 use lib.Dec.{T}
 use lib.Ieee.{Float, lt, eq, le}
-use lib.ListN.{length}
 use Rattle.laws.specs.Lists.{All}
 use Rattle.laws.specs.Allowance.{within}
 use Rattle.laws.proofs.Tests.{or-elim, neither-left, neither-right}
@@ -21,19 +20,17 @@ use Rattle.floats.proofs.Units.{lt-units, eq-units}
 use Rattle.drawing.specs.declared.gap.Gap.the-variants.{Absent}
 use Rattle.drawing.specs.declared.refusal.Check.the-variants.{Passed}
 use Rattle.drawing.specs.Entries.{SegmentColumns, segments}
-use Rattle.drawing.specs.Conditions.{shortScratch}
-use Rattle.drawing.specs.Checks.{separationConditions, congestionConditions}
 use Rattle.drawing.specs.Refusals.{firstOf}
 use Rattle.drawing.proofs.EntryLaws.{length-segments}
-use Rattle.drawing.proofs.FirstRefusal.{passed-head}
 use Rattle.drawing.specs.Held.{SegmentHeld}
 use Rattle.rows.proofs.Oriented.{mem-oriented}
 use Rattle.congestion.specs.declared.found.Swept.the-variants.{Went}
+use Rattle.congestion.specs.Conditions.{congestionConditions}
 use Rattle.congestion.specs.Wires.{wireOf, cutoffOf}
 use Rattle.congestion.specs.Figures.{total}
 use Rattle.congestion.specs.Profile.{lengths, allPairs}
 use Rattle.density_call.specs.Measuring.{Proper, Cutoff, AtColumns, foundOf}
-use Rattle.congestion.proofs.Fitness.{zero-stands, first-four, agree, fit-list, fit-cutoff}
+use Rattle.congestion.proofs.Fitness.{zero-stands, segments-passed, agree, fit-list, fit-cutoff}
 use Rattle.congestion.proofs.RoundedSums.{zero-units}
 use Rattle.congestion.proofs.SweepTheorem.{no-cutoff}
 use Rattle.density_call.proofs.RowTabled.{row-proper}
@@ -69,14 +66,6 @@ module _ (s : SegmentColumns) (cutoff : Float) (words : ℕ) (passed : firstOf (
   pub cutoff-above : le cutoff plusZero ≡ false → Cutoff cutoff
   cutoff-above = above cutoff (fit-cutoff s cutoff words passed)
 
-  room : 32 * length (s .net) + 64 ≤ words
-  unfolding separationConditions shortScratch
-  room =
-      let a = passed-head _ _ _ (first-four s cutoff words passed) in
-      let b = passed-head _ _ _ (a .1) in
-      let d = passed-head _ _ _ (b .1) in
-      omega (arith, ltb-false words (32 * (length (s .net) + 0) + 64) (d .0))
-
   pub at-columns : All SegmentHeld (segments s) → (o : ℕ) → AtColumns words o s
   at-columns held o =
       let same = agree s cutoff words passed in
@@ -84,7 +73,7 @@ module _ (s : SegmentColumns) (cutoff : Float) (words : ℕ) (passed : firstOf (
       record {
         agree = same;
         few = le-trans (le-of-eq (sym (length-segments s same))) (fit .few);
-        room = room;
+        room = segments-passed s cutoff words passed .room;
         proper = λ r m.
             let g = mem-oriented o (segments s) r m in
             subst Proper (sym (g .is)) (row-proper (g .segment) (all-mem SegmentHeld (segments s) held (g .segment) (g .there)) (fit .each (g .segment) (g .there)));

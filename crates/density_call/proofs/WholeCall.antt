@@ -11,12 +11,12 @@ use Rattle.drawing.specs.declared.refusal.Refusal.the-variants.{WorkLimitExceed
 use Rattle.drawing.specs.declared.refusal.Check.{Check}
 use Rattle.drawing.specs.declared.refusal.Check.the-variants as Checked
 use Rattle.drawing.specs.Entries.{SegmentColumns, segments}
-use Rattle.drawing.specs.Checks.{congestionConditions}
 use Rattle.drawing.specs.Refusals.{firstOf, checked}
 use Rattle.congestion.specs.declared.report.ParallelCongestion.{ParallelCongestion}
 use Rattle.congestion.specs.declared.report.CongestionAnswer.{CongestionAnswer}
 use Rattle.congestion.specs.declared.report.CongestionAnswer.the-variants.{Report, Refused}
 use Rattle.congestion.specs.declared.found.Swept.{Swept}
+use Rattle.congestion.specs.Conditions.{congestionConditions}
 use Rattle.congestion.specs.Profile.{allPairs}
 use Rattle.congestion.specs.Rounded.{roundedTotal}
 use Rattle.congestion.specs.Answer.{reportOf, settled, densityAnswer}

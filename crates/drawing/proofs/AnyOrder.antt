@@ -1,17 +1,16 @@
--- The conditions of the refusals do not depend on the order of the lists. Assumes nothing.
+-- The conditions that the calls share do not depend on the order of the lists. Assumes nothing.
 use mathlib.Core.Path.{_≡_, sym, ap, _∙_}
 use mathlib.Core.Bool.{false, not}
 use Prim.Native.Nat.{ℕ}
 use borrow.Author.Tests.{eq-eqb}
 use lib.Dec.{eqb}
-use lib.Ieee.{Float}
 use lib.ListN.{length}
 use Rattle.laws.specs.Lists.{some-of}
 use Rattle.laws.specs.Perm.{Perm}
 use Rattle.laws.proofs.Perms.{perm-length, perm-some}
 use Rattle.drawing.specs.Entries.{SegmentColumns, NodeColumns, ExemptionColumns, segments, nodes, exemptions}
-use Rattle.drawing.specs.Conditions.{differ, unfitSegment, unfitNode, offGridSegment}
-use Rattle.drawing.specs.Checks.{segmentsDiffer, nodesDiffer, exemptionsDiffer, separationConditions, congestionConditions, listConditions, entryConditions, tightPairConditions, clearanceConditions}
+use Rattle.drawing.specs.Conditions.{differ, unfitSegment, unfitNode}
+use Rattle.drawing.specs.Checks.{segmentsDiffer, nodesDiffer, exemptionsDiffer, segmentConditions, listConditions, entryConditions}
 use Rattle.drawing.specs.Lengths.{SegmentsAgree, NodesAgree, ExemptionsAgree}
 use Rattle.drawing.proofs.EntryLaws.{length-segments, length-nodes, length-exemptions}
 
@@ -54,19 +53,15 @@ module _ (s t : SegmentColumns) (o : SameSegments s t) where
   differ-same : segmentsDiffer s ≡ segmentsDiffer t
   differ-same = same-segments s (o .one) ∙ sym (same-segments t (o .other))
 
-  pub separation-order : (words : ℕ) → separationConditions s words ≡ separationConditions t words
-  unfolding separationConditions
-  separation-order words = rw (differ-same, segment-count, perm-some unfitSegment (o .perm))
-
-  pub congestion-order : (cutoff : Float) (words : ℕ) → congestionConditions s cutoff words ≡ congestionConditions t cutoff words
-  unfolding congestionConditions
-  congestion-order cutoff words = rw (separation-order words, perm-some offGridSegment (o .perm))
+  pub segments-order : (words : ℕ) → segmentConditions s words ≡ segmentConditions t words
+  unfolding segmentConditions
+  segments-order words = rw (differ-same, segment-count, perm-some unfitSegment (o .perm))
 
   module _ (m n : NodeColumns) (p : SameNodes m n) where
     pub node-count : length (m .id) ≡ length (n .id)
     node-count = sym (length-nodes m (p .one)) ∙ perm-length (p .perm) ∙ length-nodes n (p .other)
 
-    entries-order : entryConditions s m ≡ entryConditions t n
+    pub entries-order : entryConditions s m ≡ entryConditions t n
     unfolding entryConditions
     entries-order = rw (perm-some unfitSegment (o .perm), perm-some unfitNode (p .perm))
 
@@ -74,14 +69,6 @@ module _ (s t : SegmentColumns) (o : SameSegments s t) where
       pub exemption-count : length (e .net) ≡ length (f .net)
       exemption-count = sym (length-exemptions e (q .one)) ∙ perm-length (q .perm) ∙ length-exemptions f (q .other)
 
-      lists-order : listConditions s m e ≡ listConditions t n f
+      pub lists-order : listConditions s m e ≡ listConditions t n f
       unfolding listConditions
       lists-order = rw (differ-same, same-nodes m (p .one), same-nodes n (p .other), same-exemptions e (q .one), same-exemptions f (q .other), segment-count, node-count, exemption-count)
-
-      pub tight-pair-order : tightPairConditions s m e ≡ tightPairConditions t n f
-      unfolding tightPairConditions
-      tight-pair-order = rw (lists-order, entries-order)
-
-      pub clearance-order : (threshold : Float) (words : ℕ) → clearanceConditions s m e threshold words ≡ clearanceConditions t n f threshold words
-      unfolding clearanceConditions
-      clearance-order threshold words = rw (lists-order, entries-order, segment-count, node-count)

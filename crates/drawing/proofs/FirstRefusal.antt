@@ -3,20 +3,22 @@ use mathlib.Core.Path.{_≡_, refl, sym, ap, _∙_}
 use mathlib.Core.Logic.{inl, inr}
 use mathlib.Core.Bool.{Bool, true, false, not, cond}
 use mathlib.Core.List.{List, [], _∷_, _++_}
-use Prim.Native.Nat.{ℕ, _≤_}
+use Prim.Native.Nat.{ℕ, _+_, _*_, _≤_}
+use native.Mathlib.Omega.{arith}
 use borrow.Author.Tests.{ltb-false, eqb-true, not-false}
 use lib.Dec.{eqb}
 use lib.ListN.{length, replicate}
+use Rattle.laws.specs.Lists.{some-of}
 use Rattle.laws.proofs.Tests.{decide, clash}
 use Rattle.laws.proofs.ListLaws.{none-all}
 use Rattle.drawing.specs.declared.refusal.Refusal.{Refusal}
 use Rattle.drawing.specs.declared.refusal.Check.{Check}
 use Rattle.drawing.specs.declared.refusal.Check.the-variants.{Passed, Refused}
 use Rattle.drawing.specs.Refusals.{firstOf, scratchAfter}
-use Rattle.drawing.specs.Entries.{SegmentColumns, NodeColumns, ExemptionColumns}
-use Rattle.drawing.specs.Conditions.{differ, tooMany}
-use Rattle.drawing.specs.Checks.{segmentsDiffer, nodesDiffer, separationConditions, listConditions}
-use Rattle.drawing.specs.Lengths.{SegmentsAgree, NodesAgree}
+use Rattle.drawing.specs.Entries.{SegmentColumns, NodeColumns, ExemptionColumns, segments}
+use Rattle.drawing.specs.Conditions.{differ, tooMany, shortScratch, unfitSegment}
+use Rattle.drawing.specs.Checks.{segmentsDiffer, nodesDiffer, segmentConditions, listConditions, entryConditions}
+use Rattle.drawing.specs.Lengths.{SegmentsAgree, NodesAgree, comparedEntryConditions}
 
 pub first-yes : (b : Bool) (r : Refusal) (l : List (Bool × Refusal)) → b ≡ true → firstOf ((b, r) ∷ l) ≡ Refused r
 unfolding firstOf
@@ -84,11 +86,23 @@ nodes-agree c e =
     let a = none-all (λ (m : ℕ). not (eqb n m)) (length (c .x) ∷ length (c .y) ∷ length (c .width) ∷ length (c .height) ∷ []) e in
     record { x = as-long n _ (a .0); y = as-long n _ (a .1 .0); width = as-long n _ (a .1 .1 .0); height = as-long n _ (a .1 .1 .1 .0) }
 
--- the columns of one list agree, and the lists are short
-pub separation-agree : (s : SegmentColumns) (words : ℕ) → firstOf (separationConditions s words) ≡ Passed → SegmentsAgree s
-unfolding separationConditions
-separation-agree s words e = segments-agree s (passed-head _ _ _ e .0)
+-- ---- what is known of segments that pass
+pub record SegmentsPass (s : SegmentColumns) (words : ℕ) : Type 0 where
+  pub agree : SegmentsAgree s
+  pub few-segments : length (s .net) ≤ 4096
+  pub room : 32 * length (s .net) + 64 ≤ words
+  pub fit : some-of unfitSegment (segments s) ≡ false
 
+pub segments-pass : (s : SegmentColumns) (words : ℕ) → firstOf (segmentConditions s words) ≡ Passed → SegmentsPass s words
+unfolding segmentConditions shortScratch
+segments-pass s words e =
+    let a = passed-head _ _ _ e in
+    let b = passed-head _ _ _ (a .1) in
+    let c = passed-head _ _ _ (b .1) in
+    let d = passed-head _ _ _ (c .1) in
+    record { agree = segments-agree s (a .0); few-segments = few _ (b .0); room = omega (arith, ltb-false words (32 * (length (s .net) + 0) + 64) (c .0)); fit = d .0 }
+
+-- of three lists
 pub record ListsPass (s : SegmentColumns) (n : NodeColumns) (x : ExemptionColumns) : Type 0 where
   pub segments : SegmentsAgree s
   pub nodes : NodesAgree n
@@ -106,6 +120,14 @@ lists-pass s n x e =
     let f = passed-head _ _ _ (d .1) in
     let g = passed-head _ _ _ (f .1) in
     record { segments = segments-agree s (a .0); nodes = nodes-agree n (b .0); few-segments = few _ (d .0); few-nodes = few _ (f .0); few-exemptions = few _ (g .0) }
+
+-- behind their checks the columns need not be compared again
+pub entries-compared : (s : SegmentColumns) (n : NodeColumns) (x : ExemptionColumns) → firstOf (listConditions s n x) ≡ Passed → firstOf (comparedEntryConditions s n) ≡ firstOf (entryConditions s n)
+unfolding listConditions comparedEntryConditions
+entries-compared s n x e =
+    let a = passed-head _ _ _ e in
+    let b = passed-head _ _ _ (a .1) in
+    first-no _ _ _ (a .0) ∙ first-no _ _ _ (b .0)
 
 -- what is refused does not pass
 pub not-passed : {A : Type 0} (k c : Check) (r : Refusal) → c ≡ k → c ≡ Refused r → k ≡ Passed → A

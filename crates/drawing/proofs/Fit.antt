@@ -11,7 +11,7 @@ use Rattle.laws.proofs.Tests.{of-true, neither-left, neither-right}
 use Rattle.floats.specs.Values.{plusZero}
 use Rattle.floats.proofs.Rank.{Num, Fin, fin-num}
 use Rattle.drawing.specs.Entries.{Segment, Node}
-use Rattle.drawing.specs.Conditions.{unfitLine, unfitSegment, unfitExtent, unfitNode, unfitThreshold}
+use Rattle.drawing.specs.Conditions.{unfitLine, unfitSegment, unfitExtent, unfitBox, unfitNode, unfitThreshold}
 use Rattle.drawing.specs.Held.{SegmentHeld, NodeHeld}
 
 -- ---- fit entries: binary64 holds their floats, and the conditions of refusal 5 do not hold of them
@@ -82,11 +82,11 @@ extent-of x w h k e =
     }
 
 pub across-of : (n : Node) → FitNode n → Extent (n .x) (n .width)
-unfolding unfitNode
+unfolding unfitNode unfitBox
 across-of n p = extent-of (n .x) (n .width) (p .held .x) (p .held .width) (neither-left (unfitExtent (n .x) (n .width)) (unfitExtent (n .y) (n .height)) (p .passes))
 
 pub down-of : (n : Node) → FitNode n → Extent (n .y) (n .height)
-unfolding unfitNode
+unfolding unfitNode unfitBox
 down-of n p = extent-of (n .y) (n .height) (p .held .y) (p .held .height) (neither-right (unfitExtent (n .x) (n .width)) (unfitExtent (n .y) (n .height)) (p .passes))
 
 pub threshold-num : (t : Float) → FitThreshold t → Num binary64 t

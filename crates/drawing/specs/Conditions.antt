@@ -33,8 +33,12 @@ unfitSegment s = unfitLine (s .orientation) (s .fixed) (s .start) (s .end)
 unfoldable pub unfitExtent : Float → Float → Bool
 unfitExtent corner extent = not (finite corner) || not (finite extent) || not (lt plusZero extent) || not (finite (add binary64 corner extent))
 
+-- and along both
+unfoldable pub unfitBox : Float → Float → Float → Float → Bool
+unfitBox x y width height = unfitExtent x width || unfitExtent y height
+
 unfoldable pub unfitNode : Node → Bool
-unfitNode n = unfitExtent (n .x) (n .width) || unfitExtent (n .y) (n .height)
+unfitNode n = unfitBox (n .x) (n .y) (n .width) (n .height)
 
 -- 5. "a non-finite number, .. or a threshold below 0 (-0 passes)"
 unfoldable pub unfitThreshold : Float → Bool

@@ -18,6 +18,11 @@ numberOf InvalidInput = 5
 numberOf OffGrid = 6
 numberOf WorkLimitExceeded = 7
 
+-- what a check answers, by its number: 0 where it passed, as for a call that is accepted
+unfoldable pub numberOfCheck : Check → ℕ
+numberOfCheck Passed = 0
+numberOfCheck (Refused r) = numberOf r
+
 -- conditions with their refusals, in checking order: "the first refusal that applies"
 unfoldable pub firstOf : List (Bool × Refusal) → Check
 firstOf [] = Passed

@@ -1,15 +1,19 @@
-// What every measure shares: the gap and the refusals, the checks of a call's input in document 01's order, the clearing of the scratch, and the visits that were used.
+// What every measure shares: the gap and the refusals, the tests of one entry, the checks of a call's input that the measures share, the clearing of the scratch, and the visits that were used.
 pub mod checks;
+pub mod entry;
 pub mod gap;
 pub mod refusal;
 pub mod scratch;
 pub mod visits;
 
-pub use checks::check_clearance;
-pub use checks::check_congestion;
-pub use checks::check_separation;
-pub use checks::check_tight_pair;
+pub use checks::check_entries;
+pub use checks::check_lists;
+pub use checks::check_segments;
 pub use checks::segments_differ;
+pub use checks::short_scratch;
+pub use entry::node_unfit;
+pub use entry::segment_unfit;
+pub use entry::threshold_unfit;
 pub use gap::Gap;
 pub use gap::minimum_option;
 pub use refusal::Check;

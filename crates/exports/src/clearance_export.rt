@@ -3,7 +3,7 @@ ghost use mathlib.Core.Path.{_≡_};
 ghost use lib.ListN.{length};
 ghost use Rattle.drawing.specs.Refusals.{firstOf, scratchAfter};
 ghost use Rattle.drawing.specs.Entries.{segmentColumns, nodeColumns, exemptionColumns};
-ghost use Rattle.drawing.specs.Checks.{clearanceConditions};
+ghost use Rattle.clearance.specs.Conditions.{clearanceConditions};
 ghost use Rattle.clearance.specs.Answer.{clearanceAnswer, resultOf};
 ghost use Rattle.exports.specs.Words.{clearanceWords};
 use crate::gap::bits_word;

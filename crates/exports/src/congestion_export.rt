@@ -3,7 +3,7 @@ ghost use mathlib.Core.Path.{_≡_};
 ghost use lib.ListN.{length};
 ghost use Rattle.drawing.specs.Refusals.{firstOf, scratchAfter};
 ghost use Rattle.drawing.specs.Entries.{segmentColumns};
-ghost use Rattle.drawing.specs.Checks.{congestionConditions};
+ghost use Rattle.congestion.specs.Conditions.{congestionConditions};
 ghost use Rattle.congestion.specs.Ratio as Ratio;
 ghost use Rattle.congestion.specs.Answer.{densityAnswer, profileAnswer, congestionAnswer, resultOf};
 ghost use Rattle.exports.specs.Words.{congestionWords};

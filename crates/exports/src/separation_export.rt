@@ -3,7 +3,7 @@ ghost use mathlib.Core.Path.{_≡_};
 ghost use lib.ListN.{length};
 ghost use Rattle.drawing.specs.Refusals.{firstOf, scratchAfter};
 ghost use Rattle.drawing.specs.Entries.{segmentColumns};
-ghost use Rattle.drawing.specs.Checks.{separationConditions};
+ghost use Rattle.separation.specs.Conditions.{separationConditions};
 ghost use Rattle.separation.specs.Answer.{separationAnswer, resultOf};
 ghost use Rattle.exports.specs.Words.{separationWords};
 use crate::gap::bits_word;

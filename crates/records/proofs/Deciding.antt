@@ -17,14 +17,17 @@ use Rattle.drawing.specs.declared.refusal.Refusal.the-variants.{ColumnsDiffer, 
 use Rattle.drawing.specs.Entries.{Segment, SegmentColumns, NodeColumns, ExemptionColumns, columnsOf}
 use Rattle.drawing.specs.Conditions.{tooMany}
 use Rattle.drawing.specs.Refusals.{firstOf}
-use Rattle.drawing.specs.Checks.{nodesDiffer, exemptionsDiffer, separationConditions, congestionConditions, listConditions, clearanceConditions}
+use Rattle.drawing.specs.Checks.{nodesDiffer, exemptionsDiffer, segmentConditions, listConditions}
 use Rattle.drawing.proofs.FirstRefusal.{first-yes, first-no, first-stop, not-passed}
 use Rattle.drawing.proofs.ColumnLaws.{columns-same, columns-count}
 use Rattle.separation.specs.declared.report.SeparationAnswer.the-variants as ofSeparation
+use Rattle.separation.specs.Conditions.{separationConditions}
 use Rattle.separation.specs.Answer.{separationAnswer}
 use Rattle.congestion.specs.declared.report.CongestionAnswer.the-variants as ofCongestion
+use Rattle.congestion.specs.Conditions.{congestionConditions}
 use Rattle.congestion.specs.Answer.{densityAnswer, profileAnswer, congestionAnswer}
 use Rattle.clearance.specs.declared.report.ClearanceAnswer.the-variants as ofClearance
+use Rattle.clearance.specs.Conditions.{clearanceConditions}
 use Rattle.clearance.specs.Answer.{clearanceAnswer}
 
 -- a list has at most 4,096 entries, or it is refused for their number alone
@@ -39,13 +42,17 @@ unfolding tooMany
 too-many l h = lt-ltb 4096 (length (columnsOf l .net)) (rw (columns-count l) h)
 
 -- ---- the checks of a list with more than 4,096 entries
+segments-many : (l : List Segment) (words : ℕ) → 4096 < length l → firstOf (segmentConditions (columnsOf l) words) ≡ check.Refused TooManyEntries
+unfolding segmentConditions
+segments-many l words h = first-no _ _ _ (columns-same l) ∙ first-yes _ _ _ (too-many l h)
+
 pub separation-many : (l : List Segment) (words : ℕ) → 4096 < length l → firstOf (separationConditions (columnsOf l) words) ≡ check.Refused TooManyEntries
 unfolding separationConditions
-separation-many l words h = first-no _ _ _ (columns-same l) ∙ first-yes _ _ _ (too-many l h)
+separation-many l words h = segments-many l words h
 
 pub congestion-many : (l : List Segment) (cutoff : Float) (words : ℕ) → 4096 < length l → firstOf (congestionConditions (columnsOf l) cutoff words) ≡ check.Refused TooManyEntries
 unfolding congestionConditions
-congestion-many l cutoff words h = sym (first-stop (separationConditions (columnsOf l) words) _ (check.Refused TooManyEntries) TooManyEntries (sym (separation-many l words h)) refl)
+congestion-many l cutoff words h = sym (first-stop (segmentConditions (columnsOf l) words) _ (check.Refused TooManyEntries) TooManyEntries (sym (segments-many l words h)) refl)
 
 -- refusal 2 of the other lists comes first
 abbrev stops : NodeColumns → ExemptionColumns → Refusal

@@ -2,20 +2,19 @@
 use mathlib.Core.Path.{_≡_, refl, sym, ap, _∙_}
 use mathlib.Core.Bool.{Bool, true, false, cond}
 use Prim.Native.Nat.{ℕ}
-use Rattle.laws.specs.Lists.{All, some-of}
+use Rattle.laws.specs.Lists.{All}
 use Rattle.laws.specs.Charged.{Charged, reaches, settle}
 use Rattle.drawing.specs.declared.refusal.Refusal.the-variants.{WorkLimitExceeded}
 use Rattle.drawing.specs.declared.refusal.Check.the-variants.{Passed}
 use Rattle.drawing.specs.Entries.{SegmentColumns, segments}
 use Rattle.drawing.specs.Refusals.{numberOf, firstOf}
-use Rattle.drawing.specs.Conditions.{unfitSegment}
-use Rattle.drawing.specs.Checks.{separationConditions}
-use Rattle.drawing.proofs.FirstRefusal.{passed-head}
 use Rattle.drawing.specs.Held.{SegmentHeld}
 use Rattle.separation.specs.declared.report.SeparationAnswer.the-variants.{Refused}
+use Rattle.separation.specs.Conditions.{separationConditions}
 use Rattle.separation.specs.Figures.{Figures}
 use Rattle.separation.specs.Walk.{walkAll}
 use Rattle.separation.specs.Answer.{reportOf, accepted, allPairs, separationAnswer, zeros, resultOf}
+use Rattle.separation.proofs.Checked.{separation-passes}
 use Rattle.separation.proofs.Fit.{Fit, fit-all}
 use Rattle.separation.proofs.AnyOrder.{walk-all-pairs}
 
@@ -35,16 +34,8 @@ module _ (s : SegmentColumns) (words : ℕ) (passed : firstOf (separationConditi
       go false c = refl
 
   -- none of its segments is unfit
-  segments-fit : some-of unfitSegment (segments s) ≡ false
-  unfolding separationConditions
-  segments-fit =
-      let a = passed-head _ _ _ passed in
-      let b = passed-head _ _ _ (a .1) in
-      let c = passed-head _ _ _ (b .1) in
-      passed-head _ _ _ (c .1) .0
-
   pub passed-fit : All SegmentHeld (segments s) → All Fit (segments s)
-  passed-fit held = fit-all (segments s) held segments-fit
+  passed-fit held = fit-all (segments s) held (separation-passes s words passed .fit)
 
   -- and the answer is what the walk settles
   pub walk-settles : All SegmentHeld (segments s) → (m : ℕ) → separationAnswer s m words ≡ settle accepted (Refused WorkLimitExceeded) m (walkAll (segments s))

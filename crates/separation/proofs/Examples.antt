@@ -21,9 +21,10 @@ use Rattle.drawing.specs.Orders.{segmentRow, segmentsInOrder}
 use Rattle.drawing.specs.Gaps.{gapFrom, leastGap, lesserGap}
 use Rattle.drawing.specs.Refusals.{numberOf, firstOf}
 use Rattle.drawing.specs.Conditions.{differ, tooMany, shortScratch, unfitLine, unfitSegment}
-use Rattle.drawing.specs.Checks.{segmentsDiffer, separationConditions}
+use Rattle.drawing.specs.Checks.{segmentsDiffer, segmentConditions}
 use Rattle.rows.specs.Rows.{fixedOf, startOf, endOf, rowOf, words, oriented, moment, eventsFrom, events}
 use Rattle.separation.specs.declared.report.SeparationAnswer.the-variants.{Refused}
+use Rattle.separation.specs.Conditions.{separationConditions}
 use Rattle.separation.specs.Figures.{overlapping, counted, gapBetween, gaps, nonzero, leastOf, figures}
 use Rattle.separation.specs.Lines.{lines, index, levels}
 use Rattle.separation.specs.Searches.{otherIn, rightmost, leftmost, setRun}
@@ -88,5 +89,5 @@ pub record Marked : Type 0 where
   pub short : resultOf (separationAnswer D 16 127) ≡ (4, record { minimum = Absent; «minimum_positive» = Absent; visits = 0 })
 
 pub marked : Marked
-unfolding ofBits ofFields toBits round units odd size span climb neg sum add sub lt eq trailingZeros some-of chosen pairs rowLe insertBy sortBy lesser least runs settle canonicalZero lesserOf greaterOf absOf gapOf key keyOf patternAt floatAt segmentsOf segmentRow segmentsInOrder gapFrom leastGap lesserGap numberOf firstOf differ tooMany shortScratch unfitLine unfitSegment segmentsDiffer separationConditions fixedOf startOf endOf overlapping counted gapBetween gaps nonzero leastOf figures rowOf words oriented distinct lines index levels moment eventsFrom events otherIn rightmost leftmost setRun lesserFigures same remove looking startsAt endsAt step sweep along walkAll visitCount allPairs separationAnswer resultOf
+unfolding ofBits ofFields toBits round units odd size span climb neg sum add sub lt eq trailingZeros some-of chosen pairs rowLe insertBy sortBy lesser least runs settle canonicalZero lesserOf greaterOf absOf gapOf key keyOf patternAt floatAt segmentsOf segmentRow segmentsInOrder gapFrom leastGap lesserGap numberOf firstOf differ tooMany shortScratch unfitLine unfitSegment segmentsDiffer segmentConditions separationConditions fixedOf startOf endOf overlapping counted gapBetween gaps nonzero leastOf figures rowOf words oriented distinct lines index levels moment eventsFrom events otherIn rightmost leftmost setRun lesserFigures same remove looking startsAt endsAt step sweep along walkAll visitCount allPairs separationAnswer resultOf
 marked = record { a = refl; b-accepted = refl; b-refused = refl; d-sheet = refl; d = refl; e = refl; e-zeros = refl; f = refl; overflow = refl; short = refl }

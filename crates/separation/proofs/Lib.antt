@@ -12,6 +12,7 @@ pub mod Running
 pub mod Fit
 pub mod WalkFigures
 pub mod AnyOrder
+pub mod Checked
 pub mod Answers
 pub mod Examples
 -- what code that pays for each visit leans on

@@ -6,10 +6,10 @@ use Rattle.drawing.specs.declared.refusal.Refusal.the-variants.{WorkLimitExceed
 use Rattle.drawing.specs.declared.gap.Gap.the-variants.{Absent}
 use Rattle.drawing.specs.Entries.{Segment, SegmentColumns, segments}
 use Rattle.drawing.specs.Refusals.{numberOf, firstOf, checked}
-use Rattle.drawing.specs.Checks.{separationConditions}
 use Rattle.separation.specs.declared.report.ParallelSeparation.{ParallelSeparation}
 use Rattle.separation.specs.declared.report.SeparationAnswer.{SeparationAnswer}
 use Rattle.separation.specs.declared.report.SeparationAnswer.the-variants.{Report, Refused}
+use Rattle.separation.specs.Conditions.{separationConditions}
 use Rattle.separation.specs.Figures.{Figures, figures}
 use Rattle.separation.specs.Walk.{visitCount}
 

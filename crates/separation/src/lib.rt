@@ -1,6 +1,7 @@
-// The least separation of parallel wires of different nets: what is reported, and the functions on single values, each total: on summaries of nets, on the figures so far, on the allowance. The definitions are in specs/; the call is in separation_call.
+// The least separation of parallel wires of different nets: what is reported, and the functions on single values, each total: on summaries of nets, on the figures so far, on the allowance; and the checks of a call. The definitions are in specs/; the call is in separation_call.
 pub mod allowance;
 pub mod answer;
+pub mod checks;
 pub mod report;
 pub mod search;
 pub mod state;
@@ -8,6 +9,7 @@ pub mod summary;
 
 pub use allowance::too_few;
 pub use answer::answer_of;
+pub use checks::check_separation;
 pub use report::ParallelSeparation;
 pub use report::SeparationAnswer;
 pub use search::Charge;

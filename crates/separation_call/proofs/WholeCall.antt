@@ -2,10 +2,8 @@
 use mathlib.Core.Path.{_≡_, sym, ap, _∙_, subst}
 use mathlib.Core.Bool.{Bool, true}
 use mathlib.Core.List.{List}
-use Prim.Native.Nat.{ℕ, _+_, _-_, _*_, _^_, _≤_, _<_}
+use Prim.Native.Nat.{ℕ, _^_, _<_}
 use native.Mathlib.Omega.{arith}
-use borrow.Author.Tests.{ltb-false}
-use lib.ListN.{length}
 use Rattle.laws.specs.Lists.{Mem, All}
 use Rattle.laws.specs.Allowance.{Outcome, spent, left, within, onward}
 use Rattle.laws.proofs.ListLaws.{all-mem}
@@ -15,10 +13,7 @@ use Rattle.drawing.specs.declared.refusal.Refusal.the-variants.{WorkLimitExceed
 use Rattle.drawing.specs.declared.refusal.Check.{Check}
 use Rattle.drawing.specs.declared.refusal.Check.the-variants.{Passed, Refused as Stopped}
 use Rattle.drawing.specs.Entries.{Segment, SegmentColumns, segments}
-use Rattle.drawing.specs.Conditions.{shortScratch}
-use Rattle.drawing.specs.Checks.{separationConditions}
 use Rattle.drawing.specs.Refusals.{firstOf}
-use Rattle.drawing.proofs.FirstRefusal.{passed-head, few, separation-agree}
 use Rattle.drawing.specs.Held.{SegmentHeld}
 use Rattle.drawing.specs.Lengths.{SegmentsAgree}
 use Rattle.rows.specs.Rows.{Row, rowOf, oriented, segmentsToSweep}
@@ -26,9 +21,11 @@ use Rattle.rows.proofs.Oriented.{mem-oriented}
 use Rattle.rows.proofs.ToSweep.{rows-to-sweep}
 use Rattle.separation.specs.declared.report.SeparationAnswer.{SeparationAnswer}
 use Rattle.separation.specs.declared.report.SeparationAnswer.the-variants.{Refused}
+use Rattle.separation.specs.Conditions.{separationConditions}
 use Rattle.separation.specs.Figures.{Figures}
 use Rattle.separation.specs.Walk.{lesserFigures, along, walkAll}
 use Rattle.separation.specs.Answer.{accepted, separationAnswer}
+use Rattle.separation.proofs.Checked.{separation-passes}
 use Rattle.separation.proofs.Fit.{Fit, row-rises}
 use Rattle.separation.proofs.Costs.{walk-least}
 use Rattle.separation.proofs.Allowances.{walk-within}
@@ -46,14 +43,6 @@ unfolding rowOf
 row-net s h = h
 
 module _ (c : SegmentColumns) (words : ℕ) (passed : firstOf (separationConditions c words) ≡ Passed) where
-  sizes : (length (c .net) ≤ 4096) × (32 * length (c .net) + 64 ≤ words)
-  unfolding separationConditions shortScratch
-  sizes =
-      let a = passed-head _ _ _ passed in
-      let b = passed-head _ _ _ (a .1) in
-      let d = passed-head _ _ _ (b .1) in
-      (few (length (c .net)) (b .0), omega (arith, ltb-false words (32 * (length (c .net) + 0) + 64) (d .0)))
-
   module _ (held : All SegmentHeld (segments c)) (nets : All (λ (s : Segment). s .net < 2 ^ 32) (segments c)) where
     proper : (o : ℕ) (r : Row) → Mem r (oriented o (segments c)) → (r .net < 2 ^ 32) × (r .start < r .end)
     proper o r m =
@@ -63,7 +52,7 @@ module _ (c : SegmentColumns) (words : ℕ) (passed : firstOf (separationConditi
         (row-net s (all-mem (λ (t : Segment). t .net < 2 ^ 32) (segments c) nets s (g .there)), row-rises s (all-mem Fit (segments c) (passed-fit c words passed held) s (g .there)))
 
     pub at-columns : (o : ℕ) → AtColumns words o c
-    at-columns o = record { agree = separation-agree c words passed; few = sizes .0; room = sizes .1; proper = proper o }
+    at-columns o = let p = separation-passes c words passed in record { agree = p .agree; few = p .few-segments; room = p .room; proper = proper o }
 
 -- ---- too few visits, whatever the walk finds
 pub too-few : (c : SegmentColumns) → SegmentsAgree c → (m n : ℕ) (t : Bool) → n ≡ segmentsToSweep (c .orientation) → t ≡ tooFew m n → t ≡ true → Spent ≡ sweptOf (within m (walkAll (segments c)))

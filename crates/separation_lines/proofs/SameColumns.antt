@@ -6,9 +6,9 @@ use lib.ListN.{length}
 use Rattle.drawing.specs.declared.refusal.Check.the-variants.{Passed}
 use Rattle.drawing.specs.Entries.{SegmentColumns}
 use Rattle.drawing.specs.Refusals.{firstOf, scratchAfter}
-use Rattle.drawing.specs.Checks.{separationConditions}
 use Rattle.drawing.specs.Held.{SegmentsHeld}
 use Rattle.separation.specs.declared.report.SeparationAnswer.{SeparationAnswer}
+use Rattle.separation.specs.Conditions.{separationConditions}
 use Rattle.separation.specs.Answer.{separationAnswer}
 
 abbrev Promised : ℕ → List ℕ → SeparationAnswer → List ℕ → SegmentColumns → Type 0

@@ -16,11 +16,12 @@ use Rattle.drawing.specs.Entries.{Segment, Node, SegmentColumns, NodeColumns, E
 use Rattle.drawing.specs.Lengths.{SegmentsAgree, NodesAgree, ExemptionsAgree}
 use Rattle.drawing.specs.Refusals.{firstOf}
 use Rattle.drawing.specs.Conditions.{unfitSegment, unfitNode}
-use Rattle.drawing.specs.Checks.{listConditions, entryConditions, tightPairConditions}
+use Rattle.drawing.specs.Checks.{listConditions, entryConditions}
 use Rattle.drawing.proofs.EntryLaws.{length-segments, segments-at, length-nodes, nodes-at}
 use Rattle.drawing.proofs.FirstRefusal.{ListsPass, lists-pass, passed-head, first-no}
 use Rattle.drawing.specs.Held.{SegmentHeld, NodeHeld}
 use Rattle.drawing.proofs.Fit.{FitSegment, FitNode}
+use Rattle.tight_pair.specs.Conditions.{tightPairConditions}
 use Rattle.exemptions.proofs.ExemptLaws.{exemptions-agree}
 
 -- conditions that all pass do so in two parts

@@ -12,12 +12,13 @@ use Rattle.floats.specs.Values.{greaterOf}
 use Rattle.drawing.specs.Entries.{Segment, Node, SegmentColumns, NodeColumns, ExemptionColumns, segmentColumns, nodeColumns, exemptionColumns, segmentsOf, nodesOf, exemptionsOf, segments, nodes, exemptions}
 use Rattle.drawing.specs.Gaps.{gapFrom, leastGap}
 use Rattle.drawing.specs.Refusals.{numberOf, firstOf}
-use Rattle.drawing.specs.Conditions.{differ, tooMany, unfitLine, unfitSegment, unfitExtent, unfitNode}
-use Rattle.drawing.specs.Checks.{segmentsDiffer, nodesDiffer, exemptionsDiffer, listConditions, entryConditions, tightPairConditions}
+use Rattle.drawing.specs.Conditions.{differ, tooMany, unfitLine, unfitSegment, unfitExtent, unfitBox, unfitNode}
+use Rattle.drawing.specs.Checks.{segmentsDiffer, nodesDiffer, exemptionsDiffer, listConditions, entryConditions}
 use Rattle.tight_pair.specs.declared.TightPair.{TightPair}
 use Rattle.tight_pair.specs.declared.TightPair.the-variants.{Pair, Absent}
 use Rattle.boxes.specs.Boxes.{fromNode, fromSegment, nodeBox, segmentBox, axisGap, distance}
 use Rattle.clearance.specs.Figures.{exempt, distances}
+use Rattle.tight_pair.specs.Conditions.{tightPairConditions}
 use Rattle.tight_pair.specs.TightPair.{Tight, found, answer, Answered, resultOf}
 
 abbrev float : ℕ → Float
@@ -54,7 +55,7 @@ pub record PairExamples : Type 0 where
   pub no-length : (pair : ℕ × ℕ) → resultOf (answer (segmentColumns (1 ∷ []) (1 ∷ []) (float 0 ∷ []) (float 0 ∷ []) (float 0 ∷ [])) d-nodes d-exemptions pair) ≡ refusal 5
 
 pub pair-examples : PairExamples
-unfolding ofBits toBits add sub lt some-of chosen cross lesser least greaterOf segmentsOf nodesOf exemptionsOf gapFrom leastGap numberOf firstOf differ tooMany unfitLine unfitSegment unfitExtent unfitNode segmentsDiffer nodesDiffer exemptionsDiffer listConditions entryConditions tightPairConditions fromNode fromSegment nodeBox segmentBox axisGap distance exempt distances found answer resultOf
+unfolding ofBits toBits add sub lt some-of chosen cross lesser least greaterOf segmentsOf nodesOf exemptionsOf gapFrom leastGap numberOf firstOf differ tooMany unfitLine unfitSegment unfitExtent unfitBox unfitNode segmentsDiffer nodesDiffer exemptionsDiffer listConditions entryConditions tightPairConditions fromNode fromSegment nodeBox segmentBox axisGap distance exempt distances found answer resultOf
 pair-examples = record {
   d = λ i j. refl;
   d-tight = record { segment = _; node = _; segment-at = refl; node-at = refl; free = refl; least = refl };

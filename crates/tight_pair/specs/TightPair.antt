@@ -10,9 +10,9 @@ use Rattle.drawing.specs.declared.gap.Gap.the-variants.{Absent as NoGap, Presen
 use Rattle.drawing.specs.Entries.{Segment, Node, Exemption, SegmentColumns, NodeColumns, ExemptionColumns, segments, nodes, exemptions}
 use Rattle.drawing.specs.Gaps.{leastGap}
 use Rattle.drawing.specs.Refusals.{numberOf, firstOf, checked}
-use Rattle.drawing.specs.Checks.{tightPairConditions}
 use Rattle.tight_pair.specs.declared.TightPair.{TightPair}
 use Rattle.tight_pair.specs.declared.TightPair.the-variants.{Pair, Absent, Refused}
+use Rattle.tight_pair.specs.Conditions.{tightPairConditions}
 use Rattle.boxes.specs.Boxes.{nodeBox, segmentBox, distance}
 use Rattle.clearance.specs.Figures.{exempt, distances}
 

@@ -9,11 +9,14 @@ ghost use Rattle.clearance.specs.Figures.{exempt};
 ghost use Rattle.exemptions.specs.Exempting.{Holds, Listed};
 ghost use Rattle.tight_pair.specs.TightPair.{found, Answered};
 ghost use Rattle.tight_pair.specs.Looking.{nearer, bestWith, lookNodes, lookSegments};
+
+mod checks;
+
+use crate::checks::check_tight_pair;
 use boxes::Aabb;
 use drawing::Check;
 use drawing::Gap;
 use drawing::Refusal;
-use drawing::check_tight_pair;
 use exemptions::Range;
 use exemptions::gather;
 use exemptions::is_exempt;

@@ -9,11 +9,11 @@ use lib.ListN.{length}
 use Rattle.laws.specs.Lists.{All}
 use Rattle.floats.specs.Values.{plusZero}
 use Rattle.drawing.specs.Entries.{SegmentColumns, segmentColumns, segments}
-use Rattle.drawing.specs.Checks.{congestionConditions}
 use Rattle.drawing.specs.Refusals.{firstOf}
 use Rattle.drawing.specs.declared.refusal.Check.the-variants.{Passed}
 use Rattle.drawing.specs.Held.{SegmentHeld}
 use Rattle.drawing.proofs.ListOrders.{segments-held}
+use Rattle.congestion.specs.Conditions.{congestionConditions}
 use Rattle.rows.proofs.ToSweep.{rows-to-sweep}
 use Rattle.density_call.specs.Measuring.{Cutoff, AtColumns}
 use Rattle.congestion.proofs.Fitness.{FitList, agree, fit-list}

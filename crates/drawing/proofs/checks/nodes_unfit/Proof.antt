@@ -1,5 +1,4 @@
 -- `drawing::checks::nodes_unfit` meets its contract: after `at` turns the first `at` nodes are fit. Assumes nothing.
-use Rattle.laws.proofs.Tests.{or-left, or-second, or-neither}
 use mathlib.Core.Path.{sym, _∙_}
 use borrow.Author.Needs.{needs}
 use Prim.Native.Nat.{_-_}
@@ -19,43 +18,36 @@ abbrev μ-loop : tie.MeasureT-loop
 loop-holds : tie.Need-loop-holds Inv-loop μ-loop
 loop-holds c = nodes-none unfitNode (nodeColumns _ _ _ _ _) (c .before .before .before .before .before .pre)
 
-mul-extent-unfit : tie.Need-mul-extent-unfit Inv-loop μ-loop
-mul-extent-unfit c = search needs
+mul-node-unfit : tie.Need-mul-node-unfit Inv-loop μ-loop
+mul-node-unfit c = search needs
 
-shared-slice-read-extent-unfit : tie.Need-shared-slice-read-extent-unfit Inv-loop μ-loop
-shared-slice-read-extent-unfit c = search needs
+shared-slice-read-node-unfit : tie.Need-shared-slice-read-node-unfit Inv-loop μ-loop
+shared-slice-read-node-unfit c = search needs
 
-mul-extent-unfit-2 : tie.Need-mul-extent-unfit-2 Inv-loop μ-loop
-mul-extent-unfit-2 c = search needs
+mul-node-unfit-2 : tie.Need-mul-node-unfit-2 Inv-loop μ-loop
+mul-node-unfit-2 c = search needs
 
-shared-slice-read-extent-unfit-2 : tie.Need-shared-slice-read-extent-unfit-2 Inv-loop μ-loop
-shared-slice-read-extent-unfit-2 c = search needs
+shared-slice-read-node-unfit-2 : tie.Need-shared-slice-read-node-unfit-2 Inv-loop μ-loop
+shared-slice-read-node-unfit-2 c = search needs
 
-extent-unfit-requires : tie.Need-extent-unfit-requires Inv-loop μ-loop
-extent-unfit-requires c κs = search needs
+mul-node-unfit-3 : tie.Need-mul-node-unfit-3 Inv-loop μ-loop
+mul-node-unfit-3 c = search needs
+
+shared-slice-read-node-unfit-3 : tie.Need-shared-slice-read-node-unfit-3 Inv-loop μ-loop
+shared-slice-read-node-unfit-3 c = search needs
+
+mul-node-unfit-4 : tie.Need-mul-node-unfit-4 Inv-loop μ-loop
+mul-node-unfit-4 c = search needs
+
+shared-slice-read-node-unfit-4 : tie.Need-shared-slice-read-node-unfit-4 Inv-loop μ-loop
+shared-slice-read-node-unfit-4 c = search needs
+
+node-unfit-requires : tie.Need-node-unfit-requires Inv-loop μ-loop
+node-unfit-requires c κs = search needs
 
 returns : tie.Need-returns Inv-loop μ-loop
 unfolding unfitNode
-returns c = nodes-hit unfitNode (nodeColumns _ _ _ _ _) _ (c .before .before .before .before .before .loop .inv) (c .before .before .before .before .loop-test .taken) (or-left _ _ (sym (c .before .extent-unfit .ensures) ∙ c .if1 .taken))
-
-mul-extent-unfit-3 : tie.Need-mul-extent-unfit-3 Inv-loop μ-loop
-mul-extent-unfit-3 c = search needs
-
-shared-slice-read-extent-unfit-3 : tie.Need-shared-slice-read-extent-unfit-3 Inv-loop μ-loop
-shared-slice-read-extent-unfit-3 c = search needs
-
-mul-extent-unfit-4 : tie.Need-mul-extent-unfit-4 Inv-loop μ-loop
-mul-extent-unfit-4 c = search needs
-
-shared-slice-read-extent-unfit-4 : tie.Need-shared-slice-read-extent-unfit-4 Inv-loop μ-loop
-shared-slice-read-extent-unfit-4 c = search needs
-
-extent-unfit-requires-2 : tie.Need-extent-unfit-requires-2 Inv-loop μ-loop
-extent-unfit-requires-2 c κs = search needs
-
-returns-2 : tie.Need-returns-2 Inv-loop μ-loop
-unfolding unfitNode
-returns-2 c = nodes-hit unfitNode (nodeColumns _ _ _ _ _) _ (c .before .before .before .before .before .before .before .before .before .loop .inv) (c .before .before .before .before .before .before .before .before .loop-test .taken) (or-second (sym (c .before .before .before .before .before .extent-unfit .ensures) ∙ c .before .before .before .before .if1 .left) (sym (c .before .extent-unfit2 .ensures) ∙ c .if2 .taken))
+returns c = nodes-hit unfitNode (nodeColumns _ _ _ _ _) _ (c .before .before .before .before .before .before .before .loop .inv) (c .before .before .before .before .before .before .loop-test .taken) (sym (c .before .node-unfit .ensures) ∙ c .if1 .taken)
 
 add-at : tie.Need-add-at Inv-loop μ-loop
 add-at c = search needs
@@ -65,10 +57,10 @@ loop-less c = search needs
 
 loop-again : tie.Need-loop-again Inv-loop μ-loop
 unfolding unfitNode
-loop-again c = nodes-next unfitNode (nodeColumns _ _ _ _ _) _ (c .before .before .before .before .before .before .before .before .before .loop .inv) (c .before .before .before .before .before .before .before .before .loop-test .taken) (or-neither _ _ (sym (c .before .before .before .before .before .extent-unfit .ensures) ∙ c .before .before .before .before .if1 .left) (sym (c .before .extent-unfit2 .ensures) ∙ c .if2 .left))
+loop-again c = nodes-next unfitNode (nodeColumns _ _ _ _ _) _ (c .before .before .before .before .before .before .before .loop .inv) (c .before .before .before .before .before .before .loop-test .taken) (sym (c .before .node-unfit .ensures) ∙ c .if1 .left)
 
-returns-3 : tie.Need-returns-3 Inv-loop μ-loop
-returns-3 c = nodes-all unfitNode (nodeColumns _ _ _ _ _) _ (c .before .loop .inv) (c .loop-test .left)
+returns-2 : tie.Need-returns-2 Inv-loop μ-loop
+returns-2 c = nodes-all unfitNode (nodeColumns _ _ _ _ _) _ (c .before .loop .inv) (c .loop-test .left)
 
 pub nodes-unfit-spec : {M : Type 1} → statement M
 nodes-unfit-spec =
@@ -77,19 +69,17 @@ nodes-unfit-spec =
     Inv-loop
     μ-loop
     loop-holds
-    mul-extent-unfit
-    shared-slice-read-extent-unfit
-    mul-extent-unfit-2
-    shared-slice-read-extent-unfit-2
-    extent-unfit-requires
+    mul-node-unfit
+    shared-slice-read-node-unfit
+    mul-node-unfit-2
+    shared-slice-read-node-unfit-2
+    mul-node-unfit-3
+    shared-slice-read-node-unfit-3
+    mul-node-unfit-4
+    shared-slice-read-node-unfit-4
+    node-unfit-requires
     returns
-    mul-extent-unfit-3
-    shared-slice-read-extent-unfit-3
-    mul-extent-unfit-4
-    shared-slice-read-extent-unfit-4
-    extent-unfit-requires-2
-    returns-2
     add-at
     loop-less
     loop-again
-    returns-3)
+    returns-2)

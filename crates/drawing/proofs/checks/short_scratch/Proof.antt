@@ -1,22 +1,36 @@
--- `drawing::checks::short_scratch` meets its contract: the sum does not wrap for lists that passed check 3. Assumes nothing.
-use mathlib.Core.Path.{refl}
+-- `drawing::checks::short_scratch` meets its contract: the entries that the scratch is long enough for are compared with those that there are. Assumes nothing.
+use mathlib.Core.Path.{_≡_, sym}
+use mathlib.Core.Bool.{true}
+use Prim.Native.Nat.{ℕ, _+_, _-_, _*_, _/_, _≤_, _<_}
+use native.Mathlib.Omega.{arith}
+use borrow.Author.Tests.{lt-ltb}
+use lib.Dec.{ltb}
+use Rattle.laws.proofs.Tests.{ltb-same}
 use Rattle.drawing.specs.Conditions.{shortScratch}
-use borrow.Author.Needs.{needs}
 use Rattle.drawing.proofs.checks.short_scratch.Statement.{statement}
 use Rattle.drawing.proofs.checks.short_scratch.Tie as tie
 
-add-result : tie.Need-add-result
-add-result c = search needs
+module _ (words segments nodes : ℕ) where
+  below-64 : words < 64 → true ≡ shortScratch words segments nodes
+  unfolding shortScratch
+  below-64 h = sym (lt-ltb words (32 * (segments + nodes) + 64) (omega arith))
 
-mul-result : tie.Need-mul-result
-mul-result c = search needs
+  too-few : 64 ≤ words → (words - 64) / 32 < segments → true ≡ shortScratch words segments nodes
+  unfolding shortScratch
+  too-few h k = sym (lt-ltb words (32 * (segments + nodes) + 64) (omega arith))
 
-add-result-2 : tie.Need-add-result-2
-add-result-2 c = search needs
+  the-rest : 64 ≤ words → segments ≤ (words - 64) / 32 → ltb ((words - 64) / 32 - segments) nodes ≡ shortScratch words segments nodes
+  unfolding shortScratch
+  the-rest h k = ltb-same ((words - 64) / 32 - segments) nodes words (32 * (segments + nodes) + 64) (λ p. omega arith) (λ p. omega arith)
 
 returns : tie.Need-returns
-unfolding shortScratch
-returns c = refl
+returns c = below-64 _ _ _ (c .if1 .taken)
+
+returns-2 : tie.Need-returns-2
+returns-2 c = too-few _ _ _ (c .before .if1 .left) (c .if2 .taken)
+
+returns-3 : tie.Need-returns-3
+returns-3 c = the-rest _ _ _ (c .before .if1 .left) (c .if2 .left)
 
 pub short-scratch-spec : {M : Type 1} → statement M
-short-scratch-spec = tie.close (tie.spec add-result mul-result add-result-2 returns)
+short-scratch-spec = tie.close (tie.spec returns returns-2 returns-3)

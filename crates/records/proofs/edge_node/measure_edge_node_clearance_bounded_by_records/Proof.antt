@@ -8,8 +8,8 @@ use denote.Ref.{now}
 use lib.ListN.{length}
 use Rattle.drawing.specs.Refusals.{firstOf, scratchAfter}
 use Rattle.drawing.specs.Entries.{nodeColumns, exemptionColumns, columnsOf}
-use Rattle.drawing.specs.Checks.{clearanceConditions}
 use Rattle.drawing.specs.Held.{Binary64, SegmentsHeld, NodesHeld}
+use Rattle.clearance.specs.Conditions.{clearanceConditions}
 use Rattle.clearance.specs.Answer.{clearanceAnswer}
 use Rattle.records.specs.Records.{ofEdgeNode}
 use Rattle.records.proofs.Deciding.{clearance-many, clearance-checked, passed-all, clearance-decided}

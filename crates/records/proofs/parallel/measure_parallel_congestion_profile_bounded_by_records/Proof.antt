@@ -8,8 +8,8 @@ use denote.Ref.{now}
 use lib.ListN.{length}
 use Rattle.drawing.specs.Entries.{columnsOf}
 use Rattle.drawing.specs.Refusals.{firstOf, scratchAfter}
-use Rattle.drawing.specs.Checks.{congestionConditions}
 use Rattle.drawing.specs.Held.{Binary64, SegmentsHeld}
+use Rattle.congestion.specs.Conditions.{congestionConditions}
 use Rattle.congestion.specs.Answer.{profileAnswer}
 use Rattle.records.specs.Records.{ofParallel}
 use Rattle.records.proofs.Deciding.{congestion-many, congestion-checked, passed-all, profile-decided}

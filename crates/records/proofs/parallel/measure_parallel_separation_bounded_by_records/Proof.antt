@@ -8,8 +8,8 @@ use denote.Ref.{now}
 use lib.ListN.{length}
 use Rattle.drawing.specs.Entries.{columnsOf}
 use Rattle.drawing.specs.Refusals.{firstOf, scratchAfter}
-use Rattle.drawing.specs.Checks.{separationConditions}
 use Rattle.drawing.specs.Held.{SegmentsHeld}
+use Rattle.separation.specs.Conditions.{separationConditions}
 use Rattle.separation.specs.Answer.{separationAnswer}
 use Rattle.records.specs.Records.{ofParallel}
 use Rattle.records.proofs.Deciding.{separation-many, separation-checked, passed-all, separation-decided}

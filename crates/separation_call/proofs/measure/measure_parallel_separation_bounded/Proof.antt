@@ -2,7 +2,8 @@
 use borrow.Author.Needs.{needs}
 use Rattle.separation_call.proofs.WholeCall.{refused-answer, passed-answer}
 use Rattle.drawing.proofs.ListOrders.{segments-held}
-use Rattle.drawing.proofs.FirstRefusal.{separation-agree, not-passed, refused-scratch, passed-scratch}
+use Rattle.separation.proofs.Checked.{separation-passes}
+use Rattle.drawing.proofs.FirstRefusal.{not-passed, refused-scratch, passed-scratch}
 use Rattle.drawing.specs.Entries.{segmentColumns}
 use denote.Ref.{now}
 use lib.ListN.{replicate}
@@ -48,7 +49,7 @@ returns-2 c =
     let told = walked .before .before .enum-told .given .1 in
     let check = walked .before .before .before .before .check-separation .ensures in
     let passed = sym check ∙ told in
-    let held = segments-held s (separation-agree s _ passed) (walked .before .before .before .before .before .before .before .before .shared-slice-known3 .given) (walked .before .before .before .before .before .before .before .shared-slice-known4 .given) (walked .before .before .before .before .before .before .shared-slice-known5 .given) in
+    let held = segments-held s (separation-passes s _ passed .agree) (walked .before .before .before .before .before .before .before .before .shared-slice-known3 .given) (walked .before .before .before .before .before .before .before .shared-slice-known4 .given) (walked .before .before .before .before .before .before .shared-slice-known5 .given) in
     let kept = ap (λ (k : ℕ). replicate {A = ℕ} k 0) (walked .walk-segments .kept .1 .1 .1 .1 .1 .1 .0) in
     let cleared = c .before .before .before .clear .ensures ∙ kept in (
       passed-answer s _ _ passed held _ (walked .walk-segments .ensures) _ (c .answer-of .ensures),

@@ -5,12 +5,12 @@ use borrow.Author.Needs.{needs}
 use denote.Ref.{now}
 use lib.ListN.{length}
 use Rattle.drawing.specs.declared.refusal.Check.the-variants.{Passed}
-use Rattle.drawing.specs.Entries.{Segment, SegmentColumns, segmentColumns, segments}
+use Rattle.drawing.specs.Entries.{Segment, SegmentColumns, segmentColumns}
 use Rattle.drawing.specs.Lengths.{SegmentsAgree}
-use Rattle.drawing.specs.Checks.{separationConditions}
 use Rattle.drawing.specs.Refusals.{firstOf}
 use Rattle.drawing.proofs.ListOrders.{segments-all, segments-held}
-use Rattle.drawing.proofs.FirstRefusal.{separation-agree}
+use Rattle.separation.specs.Conditions.{separationConditions}
+use Rattle.separation.proofs.Checked.{separation-passes}
 use Rattle.separation_call.specs.Sweeping.{AtColumns}
 use Rattle.separation_call.proofs.WholeCall.{at-columns, too-few, walk-stops, walk-stops-later, walk-both}
 use Rattle.separation_call.proofs.measure.walk_segments.Statement.{statement}
@@ -34,7 +34,7 @@ module _ (c : lts.After-slice-known (segments-to-sweep-reads.Asked, segments-to-
   passed = c .before .before .before .before .before .before .pre
 
   agree : SegmentsAgree columns
-  agree = separation-agree columns words passed
+  agree = separation-passes columns words passed .agree
 
   rows-of : (o : ℕ) → AtColumns words o columns
   rows-of o =

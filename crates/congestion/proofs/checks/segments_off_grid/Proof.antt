@@ -1,13 +1,13 @@
--- `drawing::checks::segments_off_grid` meets its contract: after i turns the first i segments are on the grid. Assumes nothing.
+-- `congestion::checks::segments_off_grid` meets its contract: after i turns the first i segments are on the grid. Assumes nothing.
 use mathlib.Core.Path.{sym, _∙_}
 use borrow.Author.Needs.{needs}
 use Prim.Native.Nat.{_-_}
 use lib.ListN.{length}
 use Rattle.drawing.specs.Entries.{segmentColumns}
 use Rattle.drawing.specs.Conditions.{offGridSegment}
 use Rattle.drawing.proofs.Scans.{SegmentsScanned, segments-none, segments-hit, segments-next, segments-all}
-use Rattle.drawing.proofs.checks.segments_off_grid.Statement.{statement}
-use Rattle.drawing.proofs.checks.segments_off_grid.Tie as tie
+use Rattle.congestion.proofs.checks.segments_off_grid.Statement.{statement}
+use Rattle.congestion.proofs.checks.segments_off_grid.Tie as tie
 
 abbrev Inv-loop : tie.InvT-loop
 Inv-loop net orientation fixed start end i₀ i = SegmentsScanned offGridSegment (segmentColumns net orientation fixed start end) i

@@ -1,45 +1,45 @@
--- `drawing::checks::check_separation` meets its contract: each return is the first condition of the list that holds. Assumes nothing.
+-- `drawing::checks::check_segments` meets its contract: each return is the first condition of the list that holds. Assumes nothing.
 use mathlib.Core.Path.{sym, _∙_}
-use Rattle.drawing.specs.Checks.{separationConditions}
-use Rattle.drawing.proofs.FirstRefusal.{first-yes, first-no, first-none, few, segments-agree}
+use Rattle.drawing.specs.Checks.{segmentConditions}
+use Rattle.drawing.proofs.FirstRefusal.{first-yes, first-no, first-none, segments-agree}
 use borrow.Author.Needs.{needs}
-use Rattle.drawing.proofs.checks.check_separation.Statement.{statement}
-use Rattle.drawing.proofs.checks.check_separation.Tie as tie
+use Rattle.drawing.proofs.checks.check_segments.Statement.{statement}
+use Rattle.drawing.proofs.checks.check_segments.Tie as tie
 
 segments-differ-requires : tie.Need-segments-differ-requires
 segments-differ-requires c κs = search needs
 
 returns : tie.Need-returns
-unfolding separationConditions
+unfolding segmentConditions
 returns c = sym (first-yes _ _ _ (sym (c .before .segments-differ .ensures) ∙ c .if1 .taken))
 
 too-many-requires : tie.Need-too-many-requires
 too-many-requires c κs = search needs
 
 returns-2 : tie.Need-returns-2
-unfolding separationConditions
+unfolding segmentConditions
 returns-2 c = sym (first-no _ _ _ (sym (c .before .before .before .segments-differ .ensures) ∙ c .before .before .if1 .left) ∙ first-yes _ _ _ (sym (c .before .too-many .ensures) ∙ c .if2 .taken))
 
 short-scratch-requires : tie.Need-short-scratch-requires
-short-scratch-requires c κs = (few _ (sym (c .before .too-many .ensures) ∙ c .if2 .left), search needs)
+short-scratch-requires c κs = search needs
 
 returns-3 : tie.Need-returns-3
-unfolding separationConditions
+unfolding segmentConditions
 returns-3 c = sym (first-no _ _ _ (sym (c .before .before .before .before .before .segments-differ .ensures) ∙ c .before .before .before .before .if1 .left) ∙ first-no _ _ _ (sym (c .before .before .before .too-many .ensures) ∙ c .before .before .if2 .left) ∙ first-yes _ _ _ (sym (c .before .short-scratch .ensures) ∙ c .if3 .taken))
 
 segments-unfit-requires : tie.Need-segments-unfit-requires
 segments-unfit-requires c κs = segments-agree _ (sym (c .before .before .before .before .before .segments-differ .ensures) ∙ c .before .before .before .before .if1 .left)
 
 returns-4 : tie.Need-returns-4
-unfolding separationConditions
+unfolding segmentConditions
 returns-4 c = sym (first-no _ _ _ (sym (c .before .before .before .before .before .before .before .segments-differ .ensures) ∙ c .before .before .before .before .before .before .if1 .left) ∙ first-no _ _ _ (sym (c .before .before .before .before .before .too-many .ensures) ∙ c .before .before .before .before .if2 .left) ∙ first-no _ _ _ (sym (c .before .before .before .short-scratch .ensures) ∙ c .before .before .if3 .left) ∙ first-yes _ _ _ (sym (c .before .segments-unfit .ensures) ∙ c .if4 .taken))
 
 returns-5 : tie.Need-returns-5
-unfolding separationConditions
+unfolding segmentConditions
 returns-5 c = sym (first-no _ _ _ (sym (c .before .before .before .before .before .before .before .segments-differ .ensures) ∙ c .before .before .before .before .before .before .if1 .left) ∙ first-no _ _ _ (sym (c .before .before .before .before .before .too-many .ensures) ∙ c .before .before .before .before .if2 .left) ∙ first-no _ _ _ (sym (c .before .before .before .short-scratch .ensures) ∙ c .before .before .if3 .left) ∙ first-no _ _ _ (sym (c .before .segments-unfit .ensures) ∙ c .if4 .left) ∙ first-none)
 
-pub check-separation-spec : {M : Type 1} → statement M
-check-separation-spec =
+pub check-segments-spec : {M : Type 1} → statement M
+check-segments-spec =
     tie.close
     (tie.spec
     segments-differ-requires

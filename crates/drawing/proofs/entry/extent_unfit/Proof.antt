@@ -1,11 +1,11 @@
--- `drawing::checks::extent_unfit` meets its contract: each return is the first part of the definition that holds. Assumes nothing.
+-- `drawing::entry::extent_unfit` meets its contract: each return is the first part of the definition that holds. Assumes nothing.
 use mathlib.Core.Path.{sym, ap, _∙_}
 use mathlib.Core.Bool.{not}
 use lib.Ieee.{ofBits}
 use Rattle.drawing.specs.Conditions.{unfitExtent}
 use borrow.Author.Needs.{needs}
-use Rattle.drawing.proofs.checks.extent_unfit.Statement.{statement}
-use Rattle.drawing.proofs.checks.extent_unfit.Tie as tie
+use Rattle.drawing.proofs.entry.extent_unfit.Statement.{statement}
+use Rattle.drawing.proofs.entry.extent_unfit.Tie as tie
 
 is-finite-requires : tie.Need-is-finite-requires
 is-finite-requires c κs = search needs

@@ -1,10 +1,10 @@
--- `drawing::checks::segment_off_grid` meets its contract: each return is the first part of the definition that holds. Assumes nothing.
+-- `congestion::checks::segment_off_grid` meets its contract: each return is the first part of the definition that holds. Assumes nothing.
 use mathlib.Core.Path.{sym, ap, _∙_}
 use mathlib.Core.Bool.{not}
 use Rattle.drawing.specs.Conditions.{offGridLine}
 use borrow.Author.Needs.{needs}
-use Rattle.drawing.proofs.checks.segment_off_grid.Statement.{statement}
-use Rattle.drawing.proofs.checks.segment_off_grid.Tie as tie
+use Rattle.congestion.proofs.checks.segment_off_grid.Statement.{statement}
+use Rattle.congestion.proofs.checks.segment_off_grid.Tie as tie
 
 on-grid-requires : tie.Need-on-grid-requires
 on-grid-requires c κs = search needs

@@ -1,11 +1,11 @@
--- `drawing::checks::segment_unfit` meets its contract: each return is the first part of the definition that holds. Assumes nothing.
+-- `drawing::entry::segment_unfit` meets its contract: each return is the first part of the definition that holds. Assumes nothing.
 use mathlib.Core.Bool.{not}
 use mathlib.Core.Path.{sym, ap, _∙_}
 use borrow.Author.Tests.{lt-ltb, le-ltb}
 use Rattle.drawing.specs.Conditions.{unfitLine}
 use borrow.Author.Needs.{needs}
-use Rattle.drawing.proofs.checks.segment_unfit.Statement.{statement}
-use Rattle.drawing.proofs.checks.segment_unfit.Tie as tie
+use Rattle.drawing.proofs.entry.segment_unfit.Statement.{statement}
+use Rattle.drawing.proofs.entry.segment_unfit.Tie as tie
 
 returns : tie.Need-returns
 unfolding unfitLine

@@ -1,0 +1,21 @@
+// The checks of the call, in document 01's order.
+ghost use mathlib.Core.Path.{_≡_};
+ghost use Rattle.drawing.specs.Refusals.{firstOf};
+ghost use Rattle.drawing.specs.Entries.{segmentColumns};
+ghost use Rattle.separation.specs.Conditions.{separationConditions};
+use drawing::Check;
+use drawing::check_segments;
+
+// The checks of separation: segments and a scratch of so many words.
+pub fn check_separation(
+    net: &[u32],
+    orientation: &[u8],
+    fixed: &[f64],
+    start: &[f64],
+    end: &[f64],
+    words: usize,
+) -> Check
+    ensures { λ r. ⌜ r ≡ firstOf (separationConditions (segmentColumns (now (net .entry)) (now (orientation .entry)) (now (fixed .entry)) (now (start .entry)) (now (end .entry))) words) ⌝ }
+{
+    check_segments(net, orientation, fixed, start, end, words)
+}
