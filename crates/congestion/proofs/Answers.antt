@@ -1,11 +1,10 @@
 -- What the congestion calls answer: an earlier refusal, or what their allowance settles. Assumes nothing.
 use mathlib.Core.Path.{_≡_, refl, ap, _∙_}
 use mathlib.Core.Bool.{Bool, true, false, cond}
-use mathlib.Core.List.{List, map}
+use mathlib.Core.List.{List}
 use Prim.Native.Nat.{ℕ, _*_, _≤_}
-use native.Mathlib.Nat.{le-trans, le-of-eq}
 use lib.Ieee.{Float}
-use lib.ListN.{length, length-map}
+use lib.ListN.{length}
 use Rattle.laws.specs.Charged.{Charged, reaches, settle}
 use Rattle.drawing.specs.Entries.{Segment, SegmentColumns, segments}
 use Rattle.drawing.specs.Refusals.{numberOf, firstOf, checked}
@@ -18,10 +17,9 @@ use Rattle.congestion.specs.declared.report.ParallelCongestion.{Parallel
 use Rattle.congestion.specs.declared.report.CongestionAnswer.{CongestionAnswer}
 use Rattle.congestion.specs.declared.report.CongestionAnswer.the-variants.{Report, Refused}
 use Rattle.congestion.specs.Conditions.{congestionConditions}
-use Rattle.congestion.specs.Wires.{wireOf, cutoffOf}
 use Rattle.congestion.specs.Profile.{allPairs}
 use Rattle.congestion.specs.Answer.{reportOf, settled, densityAnswer, withoutDensity, profileAnswer, congestionAnswer, zeros, resultOf}
-use Rattle.congestion.proofs.Bounds.{visits-at-most}
+use Rattle.congestion.proofs.Visits.{visits-at-most}
 
 -- a call with this cutoff and a scratch of so many words meets no refusal before 7
 abbrev pub Passes : SegmentColumns → Float → ℕ → Type 0
@@ -72,4 +70,4 @@ congestion-reached s cutoff words p = rw p
 -- ---- n segments cost at most n * n visits
 pub cost-at-most : (cutoff : Float) (l : List Segment) → allPairs cutoff l .cost ≤ length l * length l
 unfolding allPairs
-cost-at-most cutoff l = le-trans (visits-at-most (cutoffOf cutoff) (map wireOf l)) (le-of-eq (ap (λ (n : ℕ). n * n) (length-map l wireOf)))
+cost-at-most cutoff l = visits-at-most cutoff l

@@ -1,19 +1,18 @@
--- Within the limits every sum is below 2 ^ 53 and n segments cost at most n * n visits. Assumes nothing.
+-- Within the limits every sum is below 2 ^ 53. Assumes nothing.
 use mathlib.Core.Path.{_≡_, refl}
 use mathlib.Core.List.{List, [], _∷_}
-use mathlib.Core.Bool.{Bool, true, false, _&&_, Bool·beq, cond}
-use Prim.Native.Nat.{ℕ, suc, _+_, _*_, _^_, _≤_, _<_, zero-le}
+use mathlib.Core.Bool.{Bool, true, false, _&&_, cond}
+use Prim.Native.Nat.{ℕ, _+_, _*_, _^_, _≤_, _<_, zero-le}
 use native.Mathlib.Omega.{arith}
 use native.Mathlib.Nat.{le-refl, le-trans, le-of-eq, lt-of-le-of-lt, mul-le-mul, mul-le-mul-right}
-use lib.Dec.{ltb, eqb, lit<}
+use lib.Dec.{lit<}
 use lib.ListN.{length, length-append}
-use Rattle.laws.specs.Lists.{Mem, some-of, fold, bit, sum, count, beside, pairs}
+use Rattle.laws.specs.Lists.{Mem, some-of, fold, sum, beside, pairs}
 use Rattle.laws.proofs.ListLaws.{mem-pairs, length-beside}
 use Rattle.laws.proofs.Folds.{count-at-most, sum-at-most}
 use Rattle.congestion.specs.Wires.{Wire}
 use Rattle.congestion.specs.Cells.{extent, cells, covers}
-use Rattle.rows.specs.Rows.{atLeastTwo}
-use Rattle.congestion.specs.Figures.{close, closeOther, overlap, total, stretches, congested, pairOverlap, closePairs, inOrientation, visits}
+use Rattle.congestion.specs.Figures.{closeOther, overlap, total, stretches, congested, pairOverlap}
 use Rattle.congestion.proofs.CellLaws.{length-cells}
 use Rattle.congestion.proofs.Beginning.{Sound}
 use Rattle.congestion.proofs.Orientations.{overlap-sum}
@@ -63,34 +62,3 @@ overlap-small c l v m =
 
     half : (p n s : ℕ) → 2 * p + n ≡ s → p ≤ s
     half p n s e = omega arith
-
--- ---- visits
-two-ways : (l : List Wire) → inOrientation true l + inOrientation false l ≡ length l
-unfolding fold
-two-ways [] = refl
-two-ways (x ∷ l) = go (x .horizontal) (inOrientation true l) (inOrientation false l) (length l) (two-ways l)
-  where
-    go : (b : Bool) (p q n : ℕ) → p + q ≡ n → (bit (Bool·beq true b) + p) + (bit (Bool·beq false b) + q) ≡ suc n
-    go true p q n e = omega arith
-    go false p q n e = omega arith
-
-pub visits-at-most : (c : ℕ) (l : List Wire) → visits c l ≤ length l * length l
-unfolding visits closePairs
-visits-at-most c l =
-    let n = pairs-length l in
-    let k = count-at-most (λ p. close c (p .0) (p .1)) (pairs l) in
-    let a = few (inOrientation true l) in
-    let b = few (inOrientation false l) in
-    let t = two-ways l in
-    all (eqb c 0) (atLeastTwo (inOrientation true l)) (atLeastTwo (inOrientation false l)) (inOrientation true l) (inOrientation false l) (count (λ p. close c (p .0) (p .1)) (pairs l)) (length (pairs l)) (length l) (length l * length l) a b t k n
-  where
-    few : (n : ℕ) → atLeastTwo n ≤ n
-    few n = go (ltb n 2)
-      where
-        go : (b : Bool) → cond b 0 n ≤ n
-        go true = zero-le
-        go false = le-refl n
-
-    all : (z : Bool) (a b p q k r n s : ℕ) → a ≤ p → b ≤ q → p + q ≡ n → k ≤ r → 2 * r + n ≡ s → cond z 0 (a + b + 2 * k) ≤ s
-    all true a b p q k r n s x y e f g = zero-le
-    all false a b p q k r n s x y e f g = omega arith

@@ -25,10 +25,12 @@ mod Meetings
 pub mod Reaching
 -- its figures
 pub mod Bounds
+pub mod UnitVisits
 pub mod Oriented
 pub mod Orientations
 pub mod SweepFigures
 pub mod FiguresOrder
+mod Visits
 pub mod LeastGap
 pub mod RoundedSweep
 -- the total and the answers that the code makes

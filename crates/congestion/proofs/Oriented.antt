@@ -17,8 +17,9 @@ use Rattle.laws.proofs.ListLaws.{mem-pairs, of-pair, both, pairs-map}
 use Rattle.laws.proofs.Folds.{Monoid, plus, greatest, idr, exchange, fold-same, fold-both, fold-unit, fold-map, fold-fold, fold-square, at-most-greatest}
 use Rattle.congestion.specs.Wires.{Wire}
 use Rattle.congestion.specs.Cells.{cellsFrom, cells, covers}
-use Rattle.congestion.specs.Figures.{apart, near, overlaps, overlap, close, other, closeOther, stretches, congested, closeOtherPairs, pairOverlap, neighborsOn, peak, closePairs}
+use Rattle.congestion.specs.Figures.{apart, near, overlaps, overlap, close, other, closeOther, stretches, congested, closeOtherPairs, pairOverlap, neighborsOn, peak}
 use Rattle.congestion.specs.Sweep.{Item, numbered, events, inOrder, inRange, nonzero, gap, begin, oriented}
+use Rattle.congestion.proofs.UnitVisits.{closePairs}
 use Rattle.congestion.proofs.FoldLaws.{fewest, lesser-same, fold-chosen, sum-const, some-count}
 use Rattle.congestion.proofs.CellLaws.{covers-from, covers-to, is-covered, length-cells, cells-unit, cells-within}
 use Rattle.congestion.proofs.Sets.{neighborsIn, congestedIn, pairsIn, congested-same, pairs-same, none-congested, none-paired}

@@ -17,22 +17,23 @@ use Rattle.drawing.specs.Orders.{segmentsInOrder}
 use Rattle.drawing.specs.declared.gap.Gap.the-variants.{Absent}
 use Rattle.drawing.proofs.ListOrders.{segments-in-order-perm}
 use Rattle.congestion.specs.Wires.{wireOf, cutoffOf}
-use Rattle.congestion.specs.Figures.{total, congested, pairOverlap, peak, visits}
+use Rattle.congestion.specs.Figures.{total, congested, pairOverlap, peak}
 use Rattle.congestion.specs.Profile.{lengths, allPairs}
 use Rattle.congestion.specs.Sweep.{walkAll}
 use Rattle.congestion.proofs.SweepFigures.{found, zero-cutoff, sweep-finds}
 use Rattle.congestion.proofs.FiguresOrder.{found-order}
 use Rattle.congestion.proofs.LeastGap.{least-gap}
+use Rattle.congestion.proofs.Visits.{visits-in-units}
 use Rattle.congestion.proofs.Fitness.{zero-stands, FitList, sound-wires}
 
 pub fit-perm : {l m : List Segment} → Perm l m → FitList l → FitList m
 fit-perm p f = record { few = le-trans (le-of-eq (sym (perm-length p))) (f .few); each = λ s n. f .each s (perm-mem s (perm-sym p) n) }
 
-module _ (cutoff : Float) where
+module _ (cutoff : Float) (grid : T (onGrid cutoff)) where
   -- the report is that of the wires
   pub all-pairs-found : (l : List Segment) → FitList l → allPairs cutoff l ≡ found (cutoffOf cutoff) (map wireOf l)
   unfolding allPairs
-  all-pairs-found l f = let g = least-gap (cutoffOf cutoff) l (λ s m. f .each s m .fixed) in let c = cutoffOf cutoff in let w = map wireOf l in λ i. record { value = (lengths (total w) (congested c w) (pairOverlap c w) (peak c w), g i); cost = visits c w }
+  all-pairs-found l f = let g = least-gap (cutoffOf cutoff) l (λ s m. f .each s m .fixed) in let c = cutoffOf cutoff in let w = map wireOf l in let n = visits-in-units cutoff grid l f in λ i. record { value = (lengths (total w) (congested c w) (pairOverlap c w) (peak c w), g i); cost = n i }
 
   pub all-pairs-order : {l m : List Segment} → Perm l m → FitList l → allPairs cutoff l ≡ allPairs cutoff m
   all-pairs-order {l} {m} p f = all-pairs-found l f ∙ found-order (cutoffOf cutoff) (perm-map wireOf p) ∙ sym (all-pairs-found m (fit-perm p f))
@@ -47,10 +48,10 @@ module _ (cutoff : Float) where
       ∙ all-pairs-order p g
 
   -- "Cutoff 0 or less gives total length, zeros and an absent gap": the cutoff is not above 0
-  pub no-cutoff : T (onGrid cutoff) → lt plusZero cutoff ≡ false → (l : List Segment) → FitList l → allPairs cutoff l ≡ record { value = (lengths (total (map wireOf l)) 0 0 0, Absent); cost = 0 }
+  pub no-cutoff : lt plusZero cutoff ≡ false → (l : List Segment) → FitList l → allPairs cutoff l ≡ record { value = (lengths (total (map wireOf l)) 0 0 0, Absent); cost = 0 }
   unfolding cutoffOf
-  no-cutoff g e l f =
+  no-cutoff e l f =
       let z = zero-stands in
-      let h = ltb-false (unit plusZero) (unit cutoff) (sym (lt-units plusZero cutoff (z .grid) g) ∙ e) in
+      let h = ltb-false (unit plusZero) (unit cutoff) (sym (lt-units plusZero cutoff (z .grid) grid) ∙ e) in
       let c : cutoffOf cutoff ≡ 0 = let u = z .is in omega arith in
       all-pairs-found l f ∙ zero-cutoff (cutoffOf cutoff) c (map wireOf l)

@@ -1,10 +1,9 @@
 -- Congestion over all pairs, in whole numbers of 1/64: c is the cutoff in these numbers, and the wires come in any order. No sweep and no allowance is in these definitions.
 use mathlib.Core.List.{List}
-use mathlib.Core.Bool.{Bool, true, false, not, _&&_, Bool·beq, cond}
-use Prim.Native.Nat.{ℕ, _+_, _-_, _*_, min, max}
+use mathlib.Core.Bool.{Bool, not, _&&_, Bool·beq}
+use Prim.Native.Nat.{ℕ, _-_, min, max}
 use lib.Dec.{ltb, eqb}
 use Rattle.laws.specs.Lists.{some-of, keep, fold, sum, count, pairs}
-use Rattle.rows.specs.Rows.{atLeastTwo}
 use Rattle.congestion.specs.Wires.{Wire}
 use Rattle.congestion.specs.Cells.{extent, cells, covers}
 
@@ -62,15 +61,3 @@ neighborsOn c l s k = count (λ t. closeOther c s t && covers k t) l
 -- "the peak, the most different-net segments close to one segment on one stretch"
 unfoldable pub peak : ℕ → List Wire → ℕ
 peak c l = fold max 0 (λ s. fold max 0 (neighborsOn c l s) (cells s)) l
-
--- "the close pairs of all nets, equal nets included", how many
-unfoldable pub closePairs : ℕ → List Wire → ℕ
-closePairs c l = count (λ p. close c (p .0) (p .1)) (pairs l)
-
--- the segments of one orientation, how many
-abbrev pub inOrientation : Bool → List Wire → ℕ
-inOrientation h l = count (λ s. Bool·beq h (s .horizontal)) l
-
--- "segments in orientations holding at least two, plus twice the close pairs of all nets, equal nets included; 0 if the cutoff is 0 or less"
-unfoldable pub visits : ℕ → List Wire → ℕ
-visits c l = cond (eqb c 0) 0 (atLeastTwo (inOrientation true l) + atLeastTwo (inOrientation false l) + 2 * closePairs c l)

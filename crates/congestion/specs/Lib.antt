@@ -2,9 +2,10 @@
 pub mod Wires
 pub mod Cells
 pub mod Figures
+pub mod Rounded
+pub mod Visits
 pub mod Profile
 pub mod Sweep
-pub mod Rounded
 pub mod RoundedSweep
 pub mod Conditions
 pub mod Answer

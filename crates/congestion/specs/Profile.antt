@@ -13,7 +13,8 @@ use Rattle.drawing.specs.Gaps.{leastGap}
 use Rattle.drawing.specs.declared.gap.Gap.{Gap}
 use Rattle.congestion.specs.declared.report.ParallelCongestion.{ParallelCongestion}
 use Rattle.congestion.specs.Wires.{Wire, wireOf, cutoffOf}
-use Rattle.congestion.specs.Figures.{closeOther, total, congested, pairOverlap, peak, visits}
+use Rattle.congestion.specs.Figures.{closeOther, total, congested, pairOverlap, peak}
+use Rattle.congestion.specs.Visits.{visitCount}
 
 -- lengths of so many 64ths, and the peak
 unfoldable pub lengths : ℕ → ℕ → ℕ → ℕ → ParallelCongestion
@@ -32,4 +33,4 @@ unfoldable pub allPairs : Float → List Segment → Charged (ParallelCongestion
 allPairs cutoff l =
     let c = cutoffOf cutoff in
     let w = map wireOf l in
-    record { value = (lengths (total w) (congested c w) (pairOverlap c w) (peak c w), leastNonzero c l); cost = visits c w }
+    record { value = (lengths (total w) (congested c w) (pairOverlap c w) (peak c w), leastNonzero c l); cost = visitCount cutoff l }

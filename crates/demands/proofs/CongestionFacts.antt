@@ -24,7 +24,7 @@ use Rattle.congestion.specs.declared.report.CongestionAnswer.the-variants.{Repo
 use Rattle.congestion.specs.Conditions.{congestionConditions}
 use Rattle.congestion.specs.Profile.{lengths, leastNonzero, allPairs}
 use Rattle.congestion.specs.Answer.{reportOf, densityAnswer, withoutDensity, profileAnswer, congestionAnswer, zeros, resultOf}
-use Rattle.congestion.proofs.Fitness.{fit-list}
+use Rattle.congestion.proofs.Fitness.{fit-list, fit-cutoff}
 use Rattle.congestion.proofs.SweepTheorem.{all-pairs-order, sweep-is-all-pairs}
 use Rattle.congestion.proofs.Answers.{Settles, result-settles, density-settles, profile-settles, congestion-earlier, congestion-reached}
 use Rattle.demands.specs.Measures.{visitsReach, Reported, ofCongestion, density, profile, congestion}
@@ -71,15 +71,16 @@ module _ (part : Charges → Charges) (A : Type 0) (reach : A → ℕ → Bool) 
     (refuses : (s : SegmentColumns) (cutoff : Float) (a : A) (words : ℕ) (r : Refusal) → firstOf (congestionConditions s cutoff words) ≡ Stopped r → answers s cutoff a words ≡ Refused r)
     (settles : (s : SegmentColumns) (cutoff : Float) (a : A) (words : ℕ) → firstOf (congestionConditions s cutoff words) ≡ Passed → resultOf (answers s cutoff a words) ≡ cond (reach a (allPairs cutoff (segments s) .cost)) (0, reportOf (part (allPairs cutoff (segments s)) .value) (allPairs cutoff (segments s) .cost)) (7, zeros)) where
   facts : Facts (ofCongestion part A reach answers)
+  unfolding allPairs
   facts = record {
     refuses = λ s cutoff a words r e. ap resultOf (refuses s cutoff a words r e) ∙ refused-result r;
     settles = settles;
     apart = λ f n e. let z : _≡_ {A = ℕ} 0 7 = ap (λ (r : ℕ × CongestionReport). r .0) e in omega arith;
     same = λ s t cutoff words o h p.
-        let all = all-pairs-order cutoff o (fit-list s cutoff words p) in
+        let all = all-pairs-order cutoff (fit-cutoff s cutoff words p) o (fit-list s cutoff words p) in
         record { figures = ap (λ (c : Charges). part c .value) all; count = ap (λ (c : Charges). c .cost) all };
     walks = λ s cutoff words h p.
-        let all = sweep-is-all-pairs cutoff (segments s) (fit-list s cutoff words p) in
+        let all = sweep-is-all-pairs cutoff (fit-cutoff s cutoff words p) (segments s) (fit-list s cutoff words p) in
         ap part all ∙ (λ i. record { value = part (allPairs cutoff (segments s)) .value; cost = costs (allPairs cutoff (segments s)) i });
     numbers = λ s cutoff words h p. parts (allPairs cutoff (segments s)) (all-numbers s cutoff words p);
   }

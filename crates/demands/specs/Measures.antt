@@ -32,6 +32,7 @@ use Rattle.congestion.specs.declared.report.ParallelCongestion.{ParallelCongest
 use Rattle.congestion.specs.declared.report.CongestionReport.{CongestionReport}
 use Rattle.congestion.specs.declared.report.CongestionAnswer.{CongestionAnswer}
 use Rattle.congestion.specs.Conditions.{congestionConditions}
+use Rattle.congestion.specs.Visits as congestionVisits
 use Rattle.congestion.specs.Profile.{allPairs}
 use Rattle.congestion.specs.Sweep as congestionWalk
 use Rattle.congestion.specs.Answer.{densityAnswer, profileAnswer, congestionAnswer, withoutDensity, reportOf, zeros, resultOf}
@@ -155,7 +156,7 @@ ofCongestion part A reach answers = record {
   figures = λ s cutoff. part (allPairs cutoff (segments s)) .value;
   floats = λ f. f .0 .«total_length» ∷ f .0 .«congested_length» ∷ f .0 .«pair_overlap_length» ∷ present (f .1);
   walk = λ s cutoff. part (congestionWalk.walkAll cutoff (segments s));
-  count = λ s cutoff. allPairs cutoff (segments s) .cost;
+  count = λ s cutoff. congestionVisits.visitCount cutoff (segments s);
   Answer = CongestionAnswer;
   answer = answers;
   Result = ℕ × CongestionReport;

@@ -7,7 +7,7 @@ use Prim.Native.Nat.{ℕ, _+_, _-_, _^_, _≤_, _<_, max}
 use native.Mathlib.Nat.{le-trans, le-of-eq}
 use native.Mathlib.Omega.{arith}
 use borrow.Author.Tests.{ne-eqb}
-use lib.Dec.{ltb, eqb}
+use lib.Dec.{T, ltb, eqb}
 use lib.Ieee.{Float, binary64, add}
 use lib.ListN.{length, length-map}
 use Rattle.laws.specs.Lists.{All}
@@ -19,7 +19,7 @@ use Rattle.laws.proofs.Tests.{le-or-lt, cond-false}
 use Rattle.laws.proofs.ListLaws.{mem-all}
 use Rattle.laws.proofs.Perms.{perm-sym, perm-mem, perm-length}
 use Rattle.laws.proofs.Runs.{within-enough, within-short, within-free, within-after, onward-spent, onward-left}
-use Rattle.floats.specs.Grid.{ofUnits}
+use Rattle.floats.specs.Grid.{onGrid, ofUnits}
 use Rattle.floats.proofs.Units.{add-units}
 use Rattle.drawing.specs.declared.gap.Gap.{Gap}
 use Rattle.drawing.specs.Entries.{Segment}
@@ -127,7 +127,7 @@ module _ (c : ℕ) (some : 0 < c) (l : List Segment) where
           ∙ (λ i. onward (within r (down-is c l i)) (λ v k. within-free k (together h v) i))
 
 -- ---- the sweep over rows has the figures over all pairs
-module _ (cutoff : Float) (l : List Segment) (fit : FitList l) (held : All SegmentHeld l) where
+module _ (cutoff : Float) (grid : T (onGrid cutoff)) (l : List Segment) (fit : FitList l) (held : All SegmentHeld l) where
   abbrev c : ℕ
   c = cutoffOf cutoff
 
@@ -143,7 +143,7 @@ module _ (cutoff : Float) (l : List Segment) (fit : FitList l) (held : All Segme
   small w m = small-wires l fit w (perm-mem w same-wires m)
 
   all-pairs-are : allPairs cutoff l ≡ sweepWires c (wiresInRows l)
-  all-pairs-are = all-pairs-found cutoff l fit ∙ found-order c (perm-sym same-wires) ∙ sym (sweep-finds c (wiresInRows l) sound)
+  all-pairs-are = all-pairs-found cutoff grid l fit ∙ found-order c (perm-sym same-wires) ∙ sym (sweep-finds c (wiresInRows l) sound)
 
   module _ (some : 0 < c) where
     -- the sums of both orientations are those of the whole, which a float holds

@@ -68,7 +68,7 @@ returns-2 : tie.Need-returns-2
 returns-2 c =
     let e = c .before .before in
     let rows = rows-to-sweep (columns e) (agree (columns e) (cutoff e) (words e) (passed e)) in
-    too-few (cutoff e) (segments (columns e)) (fit e) (held e) (sweeps e .some) _ _ (c .before .segments-to-sweep .ensures ∙ rows) (c .if2 .taken)
+    too-few (cutoff e) (sweeps e .grid) (segments (columns e)) (fit e) (held e) (sweeps e .some) _ _ (c .before .segments-to-sweep .ensures ∙ rows) (c .if2 .taken)
 
 sweep-along-requires : tie.Need-sweep-along-requires
 sweep-along-requires c κs = let e = c .before .before .before in (rows-of e 1, sweeps e)
@@ -83,7 +83,7 @@ same-length : tie.Need-same-length
 same-length c = search needs
 
 returns-3 : tie.Need-returns-3
-returns-3 c = let e = c .before .before .before .before .before .before .before .before in stops (cutoff e) (segments (columns e)) (fit e) (held e) (sweeps e .some) _ _ (c .before .before .before .before .sweep-along .ensures) (c .enum-told .given .1)
+returns-3 c = let e = c .before .before .before .before .before .before .before .before in stops (cutoff e) (sweeps e .grid) (segments (columns e)) (fit e) (held e) (sweeps e .some) _ _ (c .before .before .before .before .sweep-along .ensures) (c .enum-told .given .1)
 
 sweep-along-requires-2 : tie.Need-sweep-along-requires-2
 sweep-along-requires-2 c κs = let e = c .before .before .before .before .before .before .before .before .before .before in (subst (λ (n : ℕ). AtColumns n 0 (columns e)) (sym (c .before .before .before .before .before .before .sweep-along .kept .0)) (rows-of e 0), sweeps e)
@@ -98,7 +98,7 @@ same-length-2 : tie.Need-same-length-2
 same-length-2 c = search needs
 
 returns-4 : tie.Need-returns-4
-returns-4 c = let e = c .before .before .before .before .before .before .before .before .before .before .before .before .before .before .before in stops-later (cutoff e) (segments (columns e)) (fit e) (held e) (sweeps e .some) _ _ (c .before .before .before .before .before .before .before .before .before .before .before .sweep-along .ensures) _ (c .before .before .before .before .before .before .before .first .given .1) _ (c .before .before .before .before .sweep-along2 .ensures) (c .enum-told2 .given .1)
+returns-4 c = let e = c .before .before .before .before .before .before .before .before .before .before .before .before .before .before .before in stops-later (cutoff e) (sweeps e .grid) (segments (columns e)) (fit e) (held e) (sweeps e .some) _ _ (c .before .before .before .before .before .before .before .before .before .before .before .sweep-along .ensures) _ (c .before .before .before .before .before .before .before .first .given .1) _ (c .before .before .before .before .sweep-along2 .ensures) (c .enum-told2 .given .1)
 
 together-requires : tie.Need-together-requires
 together-requires c κs = search needs
@@ -107,7 +107,7 @@ same-length-3 : tie.Need-same-length-3
 same-length-3 c = search needs
 
 returns-5 : tie.Need-returns-5
-returns-5 c = let e = c .before .before .before .before .before .before .before .before .before .before .before .before .before .before .before .before .before in went-both (cutoff e) (segments (columns e)) (fit e) (held e) (sweeps e .some) _ _ (c .before .before .before .before .before .before .before .before .before .before .before .before .before .sweep-along .ensures) _ (c .before .before .before .before .before .before .before .before .before .first .given .1) _ (c .before .before .before .before .before .before .sweep-along2 .ensures) _ _ (c .before .before .second .given .1) (c .together .ensures)
+returns-5 c = let e = c .before .before .before .before .before .before .before .before .before .before .before .before .before .before .before .before .before in went-both (cutoff e) (sweeps e .grid) (segments (columns e)) (fit e) (held e) (sweeps e .some) _ _ (c .before .before .before .before .before .before .before .before .before .before .before .before .before .sweep-along .ensures) _ (c .before .before .before .before .before .before .before .before .before .first .given .1) _ (c .before .before .before .before .before .before .sweep-along2 .ensures) _ _ (c .before .before .second .given .1) (c .together .ensures)
 
 pub sweep-both-spec : {M : Type 1} → statement M
 sweep-both-spec =
