@@ -1,10 +1,11 @@
 // The tests by which the walk leaves out a part of the tree, or the distances of its branches.
 ghost use mathlib.Core.Path.{_≡_};
+ghost use Rattle.drawing.specs.LeastFloats.{Number, gapOfFloat};
 ghost use Rattle.clearance.specs.Walk.{contributes};
-ghost use Rattle.clearance.specs.State.{Number, gapOfFloat, axisBelow, edgesBelow};
+ghost use Rattle.clearance.specs.State.{axisBelow, edgesBelow};
 use boxes::Aabb;
 
-// Whether a part whose box is at this distance may still change the figures. A NaN is at most nothing. The walk hands over distances of boxes, which are numbers.
+// Whether a part whose box is at this distance may still change the figures. Where there is no least distance yet, `least` is a NaN, and the comparison is false. The walk hands over distances of boxes, which are numbers.
 pub fn clearance_subtree_can_contribute(lower: f64, threshold: f64, least: f64) -> bool
     ensures { λ r. ⌜ (Number lower → r ≡ contributes lower threshold (gapOfFloat least)) ⌝ }
 {
