@@ -1,5 +1,4 @@
 // What a call answers, from what its walks came to.
-ghost use mathlib.Core.Path.{_≡_};
 ghost use Rattle.clearance.specs.State.{Answers};
 use crate::report::ClearanceAnswer;
 use crate::report::EdgeNodeClearance;

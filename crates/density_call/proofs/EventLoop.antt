@@ -8,7 +8,7 @@ use Prim.Native.Nat.{ℕ, zero, suc, _+_, _-_, _*_, _/_, _%_, _^_, _≤_, _<_}
 use native.Mathlib.Numerals.{add-one}
 use native.Mathlib.Omega.{arith}
 use native.Mathlib.Nat.{le-of-eq, add-sub-of-le, lt-of-le-of-lt, le-of-suc-le-suc, not-suc-le-zero}
-use lib.Ieee.{Float, binary64, inf, ofBits}
+use lib.Ieee.{Float, nan, binary64, ofBits}
 use lib.ListN.{length, getD, take, drop, length-map, length-drop, drop-of-length-le, List·getD-map}
 use lib.Seq.{drop-cons, getD-take, getD-drop, length-take-le}
 use Rattle.laws.specs.Lists.{Mem}
@@ -25,6 +25,7 @@ use Rattle.bitset.proofs.Digits.{bit-zero}
 use Rattle.floats.specs.TotalOrder.{floatAt}
 use Rattle.floats.proofs.Units.{unit-bound}
 use Rattle.drawing.specs.declared.gap.Gap.{Gap}
+use Rattle.drawing.specs.LeastFloats.{gapOfFloat}
 use Rattle.density_call.specs.declared.sweep.Sweeping.{Sweeping}
 use Rattle.density_call.specs.declared.sweep.Handled.{Handled}
 use Rattle.density_call.specs.declared.sweep.Handled.the-variants.{Went, Spent}
@@ -33,7 +34,7 @@ use Rattle.congestion.specs.Wires.{Wire}
 use Rattle.congestion.specs.Sweep.{Item, Event, State, numbered, at, events, inOrder, step, firstAt, begin, oriented}
 use Rattle.congestion.specs.Keys.{Key}
 use Rattle.density_call.specs.Tables.{noWire, itemAt, eventAt, Tabled, rowFrom, rowsFrom, Stored}
-use Rattle.density_call.specs.Sweeping.{Follows, AtEvent, Steps, Handles, AtFirst, gapOfFloat, sweptOf}
+use Rattle.density_call.specs.Sweeping.{Follows, AtEvent, Steps, Handles, AtFirst, sweptOf}
 use Rattle.congestion.proofs.Moments.{Fit, event}
 use Rattle.congestion.proofs.Passing.{run}
 use Rattle.congestion.proofs.Beginning.{Sound, wires-of, fit-numbered}
@@ -168,7 +169,7 @@ module _ (s₀ : List ℕ) (n allowance : ℕ) (a : AtFirst s₀ n) where
         rw (add-one q) (drop-cons order q none (omega (arith, order-long)) ∙ ap (λ (e : Event). e ∷ drop (suc q) order) here)
 
   -- ---- before the first event
-  pub going-first : (x top : Float) → x ≡ floatAt (getD s₀ (2 * n + getD s₀ 0 0) 0) → top ≡ inf false → Going (record { «congested_active» = 0; «congested_length» = ofBits binary64 0; «close_pairs» = 0; «pair_overlap_length» = ofBits binary64 0; «peak_close_neighbors» = 0; «minimum_positive» = top; previous = x; left = allowance }) s₀ 0
+  pub going-first : (x top : Float) → x ≡ floatAt (getD s₀ (2 * n + getD s₀ 0 0) 0) → top ≡ nan → Going (record { «congested_active» = 0; «congested_length» = ofBits binary64 0; «close_pairs» = 0; «pair_overlap_length» = ofBits binary64 0; «peak_close_neighbors» = 0; «minimum_positive» = top; previous = x; left = allowance }) s₀ 0
   unfolding oriented ofBits
   going-first x top e f = record {
     st = begin items;

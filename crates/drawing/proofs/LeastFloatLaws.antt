@@ -1,7 +1,7 @@
 -- The least gap so far, kept as a float: what it stands for, and that one more gap makes it the lesser of the two. Assumes nothing.
 use mathlib.Core.Path.{_≡_, refl, sym, ap, _∙_}
 use mathlib.Core.Logic.{inl, inr}
-use mathlib.Core.Bool.{Bool, true, false, not, _&&_, _||_, Bool·beq, cond}
+use mathlib.Core.Bool.{Bool, true, false, not, _&&_, _||_, cond}
 use Prim.Native.Nat.{ℕ, _+_, _*_, _≤_, _<_}
 use native.Mathlib.Nat.{add-comm}
 use native.Mathlib.Omega.{arith}
@@ -9,7 +9,7 @@ use borrow.Author.Tests.{lt-ltb, le-ltb, eq-eqb, ne-eqb}
 use lib.Dec.{ltb, eqb}
 use lib.Ieee.{Float, nan, inf, fin, up, down, below, level, isNan, lt, le, ne}
 use lib.Ieee.Compare.{differs-from-itself, nan-differs}
-use Rattle.laws.proofs.Tests.{le-or-lt, same-or-not, clash, of-true, cond-true, cond-false}
+use Rattle.laws.proofs.Tests.{le-or-lt, same-or-not, clash, of-true}
 use Rattle.floats.specs.Values.{lesserOf}
 use Rattle.drawing.specs.declared.gap.Gap.{Gap}
 use Rattle.drawing.specs.declared.gap.Gap.the-variants.{Absent, Present}

@@ -110,6 +110,10 @@ pub line-mem : (r : Row) (l : List Row) → Mem r l → Mem (r .line) (lines l)
 unfolding lines
 line-mem r l m = mem-distinct (r .line) (map (λ (t : Row). t .line) l) (map-mem (λ (t : Row). t .line) l r m)
 
+pub line-of-row : (p : ℕ) (l : List Row) → Mem p (lines l) → (r : Row) × Mem r l × (p ≡ r .line)
+unfolding lines
+line-of-row p l m = mem-map (λ (t : Row). t .line) l p (distinct-mem p (map (λ (t : Row). t .line) l) m)
+
 -- ---- the index of a value among rising ones
 pub index-past : (q p : ℕ) (l : List ℕ) → q < p → index (q ∷ l) p ≡ suc (index l p)
 unfolding index

@@ -1,6 +1,7 @@
 // The least separation of parallel wires of different nets: what is reported, and the functions on single values, each total: on summaries of nets, on the figures so far, on the allowance. The definitions are in specs/; the call is in separation_call.
 pub mod allowance;
 pub mod answer;
+pub mod found;
 pub mod report;
 pub mod search;
 pub mod state;
@@ -8,14 +9,19 @@ pub mod summary;
 
 pub use allowance::too_few;
 pub use answer::answer_of;
+pub use found::Found;
+pub use found::Swept;
+pub use found::together;
 pub use report::ParallelSeparation;
 pub use report::SeparationAnswer;
 pub use search::Charge;
+pub use search::OtherNet;
 pub use search::Search;
+pub use state::Handled;
 pub use state::Sweeping;
-pub use state::Swept;
 pub use state::after_charge;
-pub use state::together;
+pub use state::at_start;
+pub use state::found_in;
 pub use state::with_other_line;
 pub use state::with_own_line;
 pub use summary::NetSummary;

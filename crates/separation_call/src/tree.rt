@@ -2,13 +2,15 @@
 ghost use mathlib.Core.Path.{_≡_};
 ghost use Prim.Native.Nat.{ℕ, _+_, _*_, _^_, _≤_, _<_};
 ghost use lib.ListN.{length};
+ghost use Rattle.laws.specs.Charged.{free, visit};
 ghost use Rattle.laws.specs.Allowance.{within};
 ghost use Rattle.separation.specs.Lines.{levels};
 ghost use Rattle.separation.specs.Searches.{rightmost, leftmost, setRun, searchOf};
 ghost use Rattle.separation.specs.Summaries.{hasOther};
-ghost use Rattle.separation_call.specs.ActiveTree.{summaryAt, chargeOf, Leaves, Below, Renewed};
+ghost use Rattle.separation_call.specs.ActiveTree.{summaryAt, otherNetOf, chargeOf, Leaves, Below, Renewed};
 use separation::Charge;
 use separation::NetSummary;
+use separation::OtherNet;
 use separation::Search;
 use separation::merged_word;
 use separation::summary_of_word;
@@ -34,13 +36,23 @@ fn other_below(tree: &[u64], node: usize, excluded: u32) -> bool
     summary.has_other(excluded)
 }
 
-// The same of one line. The caller pays the visit.
-pub(crate) fn has_other_at(tree: &[u64], leaves: usize, index: usize, excluded: u32) -> bool
+// The same of one line, for one visit.
+pub(crate) fn has_other_at(
+    tree: &[u64],
+    leaves: usize,
+    index: usize,
+    excluded: u32,
+    left: usize,
+) -> OtherNet
     requires { ⌜ Leaves (now tree) leaves ⌝ }
     requires { ⌜ index < leaves ⌝ }
-    ensures { λ r. ⌜ r ≡ hasOther (summaryAt (now (tree .entry)) (leaves + index)) excluded ⌝ }
+    ensures { λ r. ⌜ r ≡ otherNetOf (within left (visit (free (hasOther (summaryAt (now (tree .entry)) (leaves + index)) excluded)))) ⌝ }
 {
-    other_below(tree, leaves + index, excluded)
+    if left == 0 {
+        return OtherNet::Spent;
+    }
+    let other = other_below(tree, leaves + index, excluded);
+    OtherNet::Known(other, left - 1)
 }
 
 // The last line below `query_end` with another active net, among those from `start` up to `end`, which stand below the node.
