@@ -14,7 +14,7 @@ use floats::absolute;
 use floats::float_of_key;
 
 // How many of the wires met are of another net; how many of these become congested or cease to be; the greatest count among them; the least gap so far; how many visits are left.
-// The least gap is a NaN where there is none yet. These figures are copied at each visit: with an enum for the least gap the copies took two thirds of the loop's time.
+// The least gap is a NaN where there is none yet (`no_gap`). These figures are copied at each visit: with an enum, whose copies wait for the stores that made it, they took two thirds of the loop's time.
 pub(crate) struct Meeting {
     pub neighbors: usize,
     pub changed: usize,

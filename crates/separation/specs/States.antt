@@ -11,7 +11,7 @@ use Rattle.drawing.specs.LeastFloats.{gapOfFloat}
 use Rattle.separation.specs.declared.report.SeparationAnswer.{SeparationAnswer}
 use Rattle.separation.specs.declared.report.SeparationAnswer.the-variants.{Refused}
 use Rattle.separation.specs.declared.search.Charge.{Charge}
-use Rattle.separation.specs.declared.search.Charge.the-variants.{Paid, Short}
+use Rattle.separation.specs.declared.search.Charge.the-variants.{Paid, Spent as Unpaid}
 use Rattle.separation.specs.declared.state.Sweeping.{Sweeping}
 use Rattle.separation.specs.declared.state.Handled.{Handled}
 use Rattle.separation.specs.declared.state.Handled.the-variants.{Went, Spent}
@@ -54,7 +54,7 @@ withGap x f = let g = Present x in lesserFigures f (record { least = g; leastNon
 
 -- the figures of a state, with what a `set` left of the allowance
 abbrev pub chargedTo : Sweeping → Charge → Handled
-chargedTo s Short = Spent
+chargedTo s Unpaid = Spent
 chargedTo s (Paid m) = Went (record { minimum = s .minimum; «minimum_positive» = s .«minimum_positive»; left = m })
 
 -- the answer of a call whose checks passed and whose walk came to r

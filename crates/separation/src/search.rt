@@ -13,8 +13,8 @@ pub enum Search {
     Spent,
 }
 
-// What is left after a `set`, or that the allowance did not reach.
+// What is left after a `set`, or that the allowance is spent.
 pub enum Charge {
     Paid(usize),
-    Short,
+    Spent,
 }

@@ -33,7 +33,7 @@ use Rattle.separation.proofs.States.{went-on, stopped, stops, goes}
 use Rattle.separation.specs.declared.search.OtherNet.{OtherNet}
 use Rattle.separation.specs.declared.search.OtherNet.the-variants.{Known, Spent as Unpaid}
 use Rattle.separation.specs.declared.search.Charge.{Charge}
-use Rattle.separation.specs.declared.search.Charge.the-variants.{Paid, Short}
+use Rattle.separation.specs.declared.search.Charge.the-variants.{Paid, Spent as Unset}
 use Rattle.separation.specs.declared.state.Sweeping.{Sweeping}
 use Rattle.separation.specs.declared.state.Handled.{Handled}
 use Rattle.separation.specs.declared.state.Handled.the-variants.{Went, Spent}
@@ -265,4 +265,4 @@ charge-pays st H charge e = ap (λ (c : Charge). outcomeOf (chargedTo st c)) e �
 
 pub charge-paid : (st to : Sweeping) (charge : Charge) → Went to ≡ chargedTo st charge → (m : ℕ) × (charge ≡ Paid m)
 charge-paid st to (Paid m) e = (m, refl)
-charge-paid st to Short e = absurd (let z : _≡_ {A = ℕ} 0 1 = cc in omega arith)
+charge-paid st to Unset e = absurd (let z : _≡_ {A = ℕ} 0 1 = cc in omega arith)

@@ -14,7 +14,7 @@ use Rattle.separation.specs.Summaries.{hasOther, summaryOfWord}
 use Rattle.separation.specs.declared.search.OtherNet.{OtherNet}
 use Rattle.separation.specs.declared.search.OtherNet.the-variants.{Known, Spent}
 use Rattle.separation.specs.declared.search.Charge.{Charge}
-use Rattle.separation.specs.declared.search.Charge.the-variants.{Paid, Short}
+use Rattle.separation.specs.declared.search.Charge.the-variants.{Paid, Spent as Unpaid}
 
 -- node k's summary
 abbrev pub summaryAt : List ℕ → ℕ → NetSummary
@@ -27,7 +27,7 @@ otherNetOf (left b m) = Known b m
 
 -- what a `set` within an allowance comes to
 unfoldable pub chargeOf : Outcome (Unit {0}) → Charge
-chargeOf spent = Short
+chargeOf spent = Unpaid
 chargeOf (left u m) = Paid m
 
 -- ---- the nodes of a tree of H levels: node k over h levels, whose first leaf is s

@@ -171,7 +171,7 @@ pub(crate) fn set(
     ensures { λ r. ⌜ ((H m : ℕ) → leaves ≡ 2 ^ H → r ≡ Charge.Paid m → Renewed (now (tree .entry)) (now (tree .exit)) H index summary) ⌝ }
 {
     if left == 0 {
-        return Charge::Short;
+        return Charge::Spent;
     }
     let mut rest = left - 1;
     let leaf = leaves + index;
@@ -179,7 +179,7 @@ pub(crate) fn set(
     let mut cursor = leaf / 2;
     while cursor != 0 {
         if rest == 0 {
-            return Charge::Short;
+            return Charge::Spent;
         }
         rest -= 1;
         tree[cursor] = merged_word(tree[2 * cursor], tree[2 * cursor + 1]);
