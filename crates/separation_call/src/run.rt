@@ -9,41 +9,14 @@ ghost use Rattle.rows.specs.Rows.{Row};
 ghost use Rattle.separation.specs.Lines.{lines, levels};
 ghost use Rattle.separation.specs.Walk.{sweep};
 ghost use Rattle.separation.specs.States.{sweptOf};
-ghost use Rattle.separation_call.specs.Sweeping.{Ready, AtStart, AtEnd, AtEvent, AtFirst, Begins, Finishes, Handles};
-use crate::sweep::enter;
-use crate::sweep::leave;
-use crate::sweep::look;
+ghost use Rattle.separation_call.specs.Sweeping.{Ready, AtEvent, AtFirst, Handles};
+use crate::sweep::end_event;
+use crate::sweep::start_event;
 use separation::Handled;
 use separation::Sweeping;
 use separation::Swept;
 use separation::at_start;
 use separation::found_in;
-
-// Segment j starts.
-fn start_event(s: &mut [u64], n: usize, leaves: usize, j: usize, state: Sweeping) -> Handled
-    requires { ⌜ AtStart (now s) n leaves j ⌝ }
-    ensures { λ r. ⌜ Begins (now (s .entry)) (now (s .exit)) n leaves j state r ⌝ }
-{
-    let line = s[4 * n + j] as usize;
-    let net = s[5 * n + j] as u32;
-    let slot = s[7 * n + j] as usize;
-    let handled = look(&s[12 * n..], leaves, &s[6 * n..], line, net, state);
-    let Handled::Went(seen) = handled else {
-        return Handled::Spent;
-    };
-    enter(&mut s[9 * n..], n, leaves, slot, line, net, seen)
-}
-
-// Segment j ends.
-fn end_event(s: &mut [u64], n: usize, leaves: usize, j: usize, state: Sweeping) -> Handled
-    requires { ⌜ AtEnd (now s) n leaves j ⌝ }
-    ensures { λ r. ⌜ Finishes (now (s .entry)) (now (s .exit)) n leaves j state r ⌝ }
-{
-    let line = s[4 * n + j] as usize;
-    let net = s[5 * n + j] as u32;
-    let slot = s[7 * n + j] as usize;
-    leave(&mut s[9 * n..], n, leaves, slot, line, net, state)
-}
 
 // Event e: below n it is the end of segment e, else the start of segment e - n.
 fn handle_event(s: &mut [u64], n: usize, leaves: usize, e: usize, state: Sweeping) -> Handled

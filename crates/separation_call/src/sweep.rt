@@ -1,4 +1,4 @@
-// The sweep over one orientation's events, within what is left of the allowance.
+// One event of the sweep over an orientation's segments, within what is left of the allowance.
 ghost use mathlib.Core.Path.{_≡_};
 ghost use mathlib.Core.List.{List};
 ghost use mathlib.Core.Option.{Option};
@@ -7,7 +7,7 @@ ghost use lib.ListN.{length, getD, take};
 ghost use Rattle.laws.specs.Allowance.{Outcome};
 ghost use Rattle.separation.specs.Searches.{searchOf};
 ghost use Rattle.separation.specs.States.{metBy, outcomeOf};
-ghost use Rattle.separation_call.specs.Sweeping.{WithinLines, Gapped, joined, Lookable, Looks, Enterable, Leavable, Pays, Entered, TakenOut};
+ghost use Rattle.separation_call.specs.Sweeping.{WithinLines, Gapped, joined, Lookable, Looks, Enterable, Leavable, Pays, Entered, TakenOut, AtStart, AtEnd, Begins, Finishes};
 use crate::nets::end_net;
 use crate::nets::start_net;
 use crate::tree::has_other_at;
@@ -44,7 +44,7 @@ fn with_search(fixed: &[u64], line: usize, search: Search, state: Sweeping) -> H
 }
 
 // What a start looks at: whether another net is on its own line, and the nearest line with another net on either side.
-pub(crate) fn look(
+fn look(
     tree: &[u64],
     leaves: usize,
     fixed: &[u64],
@@ -70,7 +70,7 @@ pub(crate) fn look(
 }
 
 // A segment starts: its net is counted, and its line's summary is set. `work` holds the counts and behind them the tree.
-pub(crate) fn enter(
+fn enter(
     work: &mut [u64],
     n: usize,
     leaves: usize,
@@ -89,7 +89,7 @@ pub(crate) fn enter(
 }
 
 // A segment ends: one less of its net, and its line's summary is set.
-pub(crate) fn leave(
+fn leave(
     work: &mut [u64],
     n: usize,
     leaves: usize,
@@ -105,4 +105,42 @@ pub(crate) fn leave(
     let summary = end_net(work, n, slot, line, net);
     let charge = set(&mut work[3 * n..], leaves, line, summary, state.left);
     after_charge(charge, state)
+}
+
+// Segment j starts: event n + j.
+pub(crate) fn start_event(
+    s: &mut [u64],
+    n: usize,
+    leaves: usize,
+    j: usize,
+    state: Sweeping,
+) -> Handled
+    requires { ⌜ AtStart (now s) n leaves j ⌝ }
+    ensures { λ r. ⌜ Begins (now (s .entry)) (now (s .exit)) n leaves j state r ⌝ }
+{
+    let line = s[4 * n + j] as usize;
+    let net = s[5 * n + j] as u32;
+    let slot = s[7 * n + j] as usize;
+    let handled = look(&s[12 * n..], leaves, &s[6 * n..], line, net, state);
+    let Handled::Went(seen) = handled else {
+        return Handled::Spent;
+    };
+    enter(&mut s[9 * n..], n, leaves, slot, line, net, seen)
+}
+
+// Segment j ends: event j.
+pub(crate) fn end_event(
+    s: &mut [u64],
+    n: usize,
+    leaves: usize,
+    j: usize,
+    state: Sweeping,
+) -> Handled
+    requires { ⌜ AtEnd (now s) n leaves j ⌝ }
+    ensures { λ r. ⌜ Finishes (now (s .entry)) (now (s .exit)) n leaves j state r ⌝ }
+{
+    let line = s[4 * n + j] as usize;
+    let net = s[5 * n + j] as u32;
+    let slot = s[7 * n + j] as usize;
+    leave(&mut s[9 * n..], n, leaves, slot, line, net, state)
 }

@@ -1,9 +1,9 @@
--- `separation_call::run::start_event` meets its contract: a look, and then the segment is entered. Assumes nothing.
+-- `separation_call::sweep::start_event` meets its contract: a look, and then the segment is entered. Assumes nothing.
 use borrow.Author.Needs.{needs}
 use Rattle.separation_call.proofs.SweepRun.{start-net-small, start-lookable, start-enterable, begins-not, begins}
 use denote.Ref.{now}
-use Rattle.separation_call.proofs.run.start_event.Statement.{statement}
-use Rattle.separation_call.proofs.run.start_event.Tie as tie
+use Rattle.separation_call.proofs.sweep.start_event.Statement.{statement}
+use Rattle.separation_call.proofs.sweep.start_event.Tie as tie
 
 mul-line : tie.Need-mul-line
 mul-line c = search needs
