@@ -15,7 +15,7 @@ use Rattle.laws.specs.Charged.{runs}
 use Rattle.laws.proofs.Tests.{is-true}
 use Rattle.laws.proofs.Folds.{plus, greatest, idr, fold-append, fold-unit, greatest-at-most, at-most-greatest}
 use Rattle.congestion.specs.Cells.{cellsFrom, covers}
-use Rattle.congestion.specs.Sweep.{Item, State, Event, at, inRange, visited, neighbor, gap, highest, step}
+use Rattle.congestion.specs.Walk.{Item, State, Event, at, inRange, visited, neighbor, gap, highest, step}
 use Rattle.congestion.proofs.FoldLaws.{fewest, sum-const}
 use Rattle.congestion.proofs.CellLaws.{is-covered, mem-cells, length-cells, cells-at, cells-same, cells-unit}
 use Rattle.congestion.proofs.Sets.{neighborsIn, neighbors-same}

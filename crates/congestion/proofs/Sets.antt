@@ -11,7 +11,7 @@ use Rattle.laws.specs.Lists.{Mem, All, fold, bit, sum, count, beside, pairs}
 use Rattle.laws.proofs.Tests.{clash, is-true}
 use Rattle.laws.proofs.ListLaws.{all-mem, all-append, mem-pairs}
 use Rattle.laws.proofs.Folds.{Monoid, plus, idr, fold-same, fold-both, fold-unit, fold-square}
-use Rattle.congestion.specs.Sweep.{Item, same}
+use Rattle.congestion.specs.Walk.{Item, same}
 
 -- R holds of each entry and each later one
 abbrev pub Pairwise : {A : Type 0} → (A → A → Type 0) → List A → Type 0

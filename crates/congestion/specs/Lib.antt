@@ -3,7 +3,7 @@ pub mod Wires
 pub mod Cells
 pub mod Figures
 pub mod Profile
-pub mod Sweep
+pub mod Walk
 pub mod Rounded
 pub mod RoundedSweep
 pub mod Answer

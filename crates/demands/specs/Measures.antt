@@ -31,7 +31,7 @@ use Rattle.congestion.specs.declared.report.ParallelCongestion.{ParallelCongest
 use Rattle.congestion.specs.declared.report.CongestionReport.{CongestionReport}
 use Rattle.congestion.specs.declared.report.CongestionAnswer.{CongestionAnswer}
 use Rattle.congestion.specs.Profile.{allPairs}
-use Rattle.congestion.specs.Sweep as congestionWalk
+use Rattle.congestion.specs.Walk as congestionWalk
 use Rattle.congestion.specs.Answer.{densityAnswer, profileAnswer, congestionAnswer, withoutDensity, reportOf, zeros, resultOf}
 
 pub record Measure : Type 1 where

@@ -16,7 +16,7 @@ use Rattle.floats.proofs.Units.{of-units-value}
 use Rattle.drawing.specs.LeastFloats.{Number, gapOfFloat, leastWith}
 use Rattle.drawing.proofs.LeastFloatLaws.{none-absent, number-present, least-lesser}
 use Rattle.congestion.specs.Figures.{apart}
-use Rattle.congestion.specs.Sweep.{nonzero, gapOfUnits}
+use Rattle.congestion.specs.Walk.{nonzero, gapOfUnits}
 use Rattle.congestion.specs.Keys.{Key, Held}
 use Rattle.density_call.specs.Meeting.{leastFloat, withGap}
 use Rattle.congestion.proofs.FoldLaws.{fewest}

@@ -17,7 +17,7 @@ use Rattle.density_call.specs.declared.meet.Meeting.{Meeting}
 use Rattle.density_call.specs.declared.meet.Met.{Met}
 use Rattle.density_call.specs.declared.meet.Met.the-variants.{Went, Spent}
 use Rattle.congestion.specs.Wires.{Wire}
-use Rattle.congestion.specs.Sweep.{Row, State, visited, neighbor, neighbors, leastHere, risen, fallen}
+use Rattle.congestion.specs.Walk.{Row, State, visited, neighbor, neighbors, leastHere, risen, fallen}
 use Rattle.congestion.specs.Keys.{Held}
 use Rattle.density_call.specs.Tables.{itemAt, Tabled, rowsFrom, Stored}
 

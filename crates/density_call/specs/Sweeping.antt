@@ -19,7 +19,7 @@ use Rattle.density_call.specs.declared.sweep.Handled.the-variants.{Went,
 use Rattle.congestion.specs.declared.found.Swept.{Swept}
 use Rattle.congestion.specs.declared.found.Swept.the-variants.{Went as Done, Spent as Short}
 use Rattle.congestion.specs.Wires.{Wire}
-use Rattle.congestion.specs.Sweep.{Item, Event, Row, State, at, neighbor, neighbors, wasCongested, step, gapOfUnits}
+use Rattle.congestion.specs.Walk.{Item, Event, Row, State, at, neighbor, neighbors, wasCongested, step, gapOfUnits}
 use Rattle.congestion.specs.Keys.{Key, Held}
 use Rattle.density_call.specs.Tables.{eventAt, Tabled, Stored}
 use Rattle.density_call.specs.Meeting.{leastFloat}

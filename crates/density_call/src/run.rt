@@ -1,7 +1,7 @@
 // The sweep over all events of one orientation. The scratch holds the tables of its n wires (8 n words) and behind them the words that the sweep changes.
 ghost use mathlib.Core.Path.{_≡_};
 ghost use Rattle.laws.specs.Allowance.{within};
-ghost use Rattle.congestion.specs.Sweep.{oriented};
+ghost use Rattle.congestion.specs.Walk.{sweep};
 ghost use Rattle.density_call.specs.Sweeping.{AtEvent, Handles, AtFirst, sweptOf};
 use crate::sweep::Handled;
 use crate::sweep::Sweeping;
@@ -27,7 +27,7 @@ fn handle_event(s: &mut [u64], n: usize, e: usize, state: Sweeping) -> Handled
 // The events in order, from no active wire and the coordinate of the first one. The key of event e, be it an end or a start, is word 2 n + e.
 pub(crate) fn run_events(s: &mut [u64], n: usize, allowance: usize) -> Swept
     requires { ⌜ AtFirst (now s) n ⌝ }
-    ensures { λ r. ⌜ ((a : AtFirst (now (s .entry)) n) → r ≡ sweptOf (within allowance (oriented (a .c) (a .L)))) ⌝ }
+    ensures { λ r. ⌜ ((a : AtFirst (now (s .entry)) n) → r ≡ sweptOf (within allowance (sweep (a .c) (a .L)))) ⌝ }
 {
     let first = s[0] as usize;
     let coordinate = float_of_key(s[2 * n + first]);
