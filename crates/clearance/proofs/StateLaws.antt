@@ -13,6 +13,8 @@ use Rattle.drawing.specs.declared.gap.Gap.{Gap}
 use Rattle.drawing.specs.declared.gap.Gap.the-variants.{Present}
 use Rattle.drawing.specs.declared.refusal.Refusal.the-variants.{WorkLimitExceeded}
 use Rattle.drawing.specs.Gaps.{lesserGap}
+use Rattle.drawing.specs.LeastFloats.{Number, gapOfFloat, leastWith}
+use Rattle.drawing.proofs.LeastFloatLaws.{least-joined}
 use Rattle.clearance.specs.declared.report.ClearanceAnswer.the-variants.{Report, Refused}
 use Rattle.clearance.specs.declared.visit.Walking.{Walking}
 use Rattle.clearance.specs.declared.visit.Walked.{Walked}
@@ -21,7 +23,7 @@ use Rattle.clearance.specs.declared.halves.Subtree.{Subtree}
 use Rattle.clearance.specs.Figures.{Figures}
 use Rattle.clearance.specs.Walk.{withPair}
 use Rattle.clearance.specs.Answer.{accepted}
-use Rattle.clearance.specs.State.{gapOfFloat, soFar, outcomeOf, nearerFirst, Answers}
+use Rattle.clearance.specs.State.{soFar, outcomeOf, nearerFirst, Answers}
 
 -- ---- the visit of a pair, as the code answers it
 pub visit-stopped : (m : ℕ) (g : Figures) → m ≡ 0 → outcomeOf Spent ≡ within m (visit (free g))
@@ -36,15 +38,15 @@ module _ (w : Walking) (b : Bool) (t d : Float) (paid : w .left ≡ 0 → ⊥) w
   unfolding withPair outcomeOf
   visit-passed e = rw e (visit-went (w .left) (soFar w) paid)
 
-  visit-counted : b ≡ false → (v : ℕ) → v ≡ w .violations + bit (lt d t) → (x : Float) → gapOfFloat x ≡ lesserGap (gapOfFloat (w .least)) (Present d) → outcomeOf (Went (record { least = x; violations = v; left = w .left - 1 })) ≡ within (w .left) (visit (free (withPair b t d (soFar w))))
+  visit-counted : b ≡ false → (v : ℕ) → v ≡ w .violations + bit (lt d t) → (x : Float) → x ≡ leastWith (w .least) d → Number d → outcomeOf (Went (record { least = x; violations = v; left = w .left - 1 })) ≡ within (w .left) (visit (free (withPair b t d (soFar w))))
   unfolding withPair outcomeOf
-  visit-counted e v f x h = rw (e, f, h) (visit-went (w .left) (withPair false t d (soFar w)) paid)
+  visit-counted e v f x h num = let k : gapOfFloat x ≡ lesserGap (gapOfFloat (w .least)) (Present d) = ap gapOfFloat h ∙ least-joined (w .least) d num in rw (e, f, k) (visit-went (w .left) (withPair false t d (soFar w)) paid)
 
   -- a violation more, as long as the count does not wrap
-  pub visit-below : b ≡ false → lt d t ≡ true → w .violations + w .left < 2 ^ 64 → (v : ℕ) → v ≡ (w .violations + 1) % 2 ^ 64 → (x : Float) → gapOfFloat x ≡ lesserGap (gapOfFloat (w .least)) (Present d) → outcomeOf (Went (record { least = x; violations = v; left = w .left - 1 })) ≡ within (w .left) (visit (free (withPair b t d (soFar w))))
+  pub visit-below : b ≡ false → lt d t ≡ true → w .violations + w .left < 2 ^ 64 → (v : ℕ) → v ≡ (w .violations + 1) % 2 ^ 64 → (x : Float) → x ≡ leastWith (w .least) d → Number d → outcomeOf (Went (record { least = x; violations = v; left = w .left - 1 })) ≡ within (w .left) (visit (free (withPair b t d (soFar w))))
   visit-below e f room v wraps = visit-counted e v (wraps ∙ mod-eq-of-lt (omega arith) ∙ rw f)
 
-  pub visit-clear : b ≡ false → lt d t ≡ false → (x : Float) → gapOfFloat x ≡ lesserGap (gapOfFloat (w .least)) (Present d) → outcomeOf (Went (record { least = x; violations = w .violations; left = w .left - 1 })) ≡ within (w .left) (visit (free (withPair b t d (soFar w))))
+  pub visit-clear : b ≡ false → lt d t ≡ false → (x : Float) → x ≡ leastWith (w .least) d → Number d → outcomeOf (Went (record { least = x; violations = w .violations; left = w .left - 1 })) ≡ within (w .left) (visit (free (withPair b t d (soFar w))))
   visit-clear e f = visit-counted e (w .violations) (rw f (omega arith))
 
 -- ---- the order of two halves, as the code answers it

@@ -1,13 +1,11 @@
 -- What inner contracts cite, and no reader of the answer needs: the state that a walk hands on, the tests on the edges of two boxes, the order of two halves, and the answer from what the walks came to.
 use mathlib.Core.Path.{_≡_}
-use mathlib.Core.Bool.{Bool, not, _&&_, cond}
+use mathlib.Core.Bool.{Bool, _&&_, cond}
 use Prim.Native.Nat.{ℕ}
-use lib.Dec.{T}
-use lib.Ieee.{Float, nan, inf, fin, binary64, isNan, sub, lt}
+use lib.Ieee.{Float, nan, binary64, sub, lt}
 use Rattle.laws.specs.Allowance.{Outcome, spent, left, reply}
-use Rattle.drawing.specs.declared.gap.Gap.{Gap}
-use Rattle.drawing.specs.declared.gap.Gap.the-variants.{Absent, Present}
 use Rattle.drawing.specs.declared.refusal.Refusal.the-variants.{WorkLimitExceeded}
+use Rattle.drawing.specs.LeastFloats.{gapOfFloat}
 use Rattle.boxes.specs.declared.aabb.Aabb.{Aabb}
 use Rattle.clearance.specs.declared.report.ClearanceAnswer.{ClearanceAnswer}
 use Rattle.clearance.specs.declared.report.ClearanceAnswer.the-variants.{Refused}
@@ -18,16 +16,6 @@ use Rattle.clearance.specs.declared.halves.Subtree.{Subtree}
 use Rattle.clearance.specs.declared.halves.Halves.{Halves}
 use Rattle.clearance.specs.Figures.{Figures}
 use Rattle.clearance.specs.Answer.{accepted}
-
--- a float that is no NaN
-abbrev pub Number : Float → Type 0
-Number x = T (not (isNan x))
-
--- the least distance that a state holds: a NaN stands for none
-unfoldable pub gapOfFloat : Float → Gap
-gapOfFloat nan = Absent
-gapOfFloat (inf s) = Present (inf s)
-gapOfFloat (fin s m e) = Present (fin s m e)
 
 -- the figures that a state holds
 abbrev pub soFar : Walking → Figures

@@ -1,16 +1,16 @@
 // The state of a walk, and the visit of one pair of a segment and a node.
 ghost use mathlib.Core.Path.{_≡_};
 ghost use Prim.Native.Nat.{_+_, _^_, _<_};
-ghost use lib.Ieee.{nan};
 ghost use Rattle.laws.specs.Charged.{free, visit};
 ghost use Rattle.laws.specs.Allowance.{within};
-ghost use Rattle.drawing.specs.declared.gap.Gap.the-variants.{Present};
-ghost use Rattle.drawing.specs.Gaps.{lesserGap};
+ghost use Rattle.drawing.specs.LeastFloats.{Number};
 ghost use Rattle.clearance.specs.Walk.{withPair};
-ghost use Rattle.clearance.specs.State.{Number, gapOfFloat, soFar, outcomeOf, atStart};
+ghost use Rattle.clearance.specs.State.{soFar, outcomeOf, atStart};
+use drawing::least_with;
+use drawing::no_gap;
 use std::num::wrapping_add_usize;
 
-// The figures so far, and how many visits are left. The least distance is a NaN where there is none yet: no distance is a NaN, and +infinity may be one.
+// The figures so far, and how many visits are left. The least distance is a NaN where there is none yet.
 pub struct Walking {
     pub violations: usize,
     pub least: f64,
@@ -23,29 +23,15 @@ pub enum Walked {
     Went(Walking),
 }
 
-// No distance yet.
-fn no_distance() -> f64
-    ensures { λ r. ⌜ r ≡ nan ⌝ }
-{
-    0.0 / 0.0
-}
-
 // Where the walks begin: nothing met, and the whole allowance left.
 pub fn at_start(allowance: usize) -> Walking
     ensures { λ r. ⌜ r ≡ atStart allowance ⌝ }
 {
     Walking {
         violations: 0,
-        least: no_distance(),
+        least: no_gap(),
         left: allowance,
     }
-}
-
-// The least distance so far with one more. Where there is none so far, `least` is a NaN: then the comparison is false, and the new one is taken.
-fn least_with(least: f64, distance: f64) -> f64
-    ensures { λ r. ⌜ (Number distance → gapOfFloat r ≡ lesserGap (gapOfFloat least) (Present distance)) ⌝ }
-{
-    if least <= distance { least } else { distance }
 }
 
 // The visit of a pair at the given distance: charged first, then counted unless the pair is exempt. The walk hands over distances of boxes, which are numbers, and states whose violations and visits left fit a word together, so that no count wraps.

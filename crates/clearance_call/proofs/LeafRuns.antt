@@ -12,6 +12,7 @@ use Rattle.laws.specs.Allowance.{Outcome, within}
 use Rattle.laws.proofs.Loops.{Onwards, loop-next, loop-stops, loop-ends}
 use Rattle.bitset.specs.Members.{member}
 use Rattle.drawing.specs.Entries.{Exemption}
+use Rattle.drawing.specs.LeastFloats.{Number, gapOfFloat}
 use Rattle.boxes.specs.declared.aabb.Aabb.{Aabb}
 use Rattle.boxes.specs.Boxes.{distance}
 use Rattle.boxes.specs.Fitting.{FitBox}
@@ -25,7 +26,7 @@ use Rattle.clearance.specs.Tree.{boundsOf}
 use Rattle.clearance_call.specs.Stored.{boxAt, leafAt, storedTree, leavesFrom}
 use Rattle.clearance.specs.Walk.{withPair}
 use Rattle.clearance_call.specs.Marks.{Marked}
-use Rattle.clearance.specs.State.{Number, gapOfFloat, soFar, outcomeOf, edgesBelow}
+use Rattle.clearance.specs.State.{soFar, outcomeOf, edgesBelow}
 use Rattle.clearance_call.specs.Nested.{Nested, TreeBelow, leafVisit}
 use Rattle.clearance_call.specs.Walking.{Part, Near, NetMarks, Walks}
 use Rattle.clearance.proofs.Visits.{pair-violations}

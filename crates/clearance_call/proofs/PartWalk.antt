@@ -15,6 +15,7 @@ use Rattle.laws.specs.Allowance.{within, onward}
 use Rattle.laws.proofs.Runs.{after-nothing, after-after, within-free, within-after}
 use Rattle.laws.proofs.Tests.{le-or-lt}
 use Rattle.drawing.specs.Entries.{Segment, Exemption}
+use Rattle.drawing.specs.LeastFloats.{gapOfFloat}
 use Rattle.boxes.specs.declared.aabb.Aabb.{Aabb}
 use Rattle.clearance.specs.declared.visit.Walking.{Walking}
 use Rattle.clearance.specs.declared.halves.Subtree.{Subtree}
@@ -30,7 +31,7 @@ use Rattle.clearance_call.specs.Stored.{storedTree}
 use Rattle.clearance.specs.Walk.{contributes, walk}
 use Rattle.clearance_call.specs.Marks.{Marked}
 use Rattle.clearance_call.specs.Nested.{Nested}
-use Rattle.clearance.specs.State.{gapOfFloat, soFar, outcomeOf}
+use Rattle.clearance.specs.State.{soFar, outcomeOf}
 use Rattle.clearance_call.specs.Walking.{Part, Near, Walkable, Halved, NetMarks, Walks, stepOf, Steps}
 use Rattle.clearance_call.proofs.NestedTrees.{stored-same}
 use Rattle.clearance_call.proofs.StoredWalk.{onward-stopped, onward-went, next-room, half-walkable}

@@ -15,6 +15,7 @@ use Rattle.laws.proofs.Runs.{within-left, within-free}
 use Rattle.floats.specs.TotalOrder.{keyOf}
 use Rattle.floats.proofs.Gaps.{Good}
 use Rattle.drawing.specs.Entries.{Segment, Exemption}
+use Rattle.drawing.specs.LeastFloats.{gapOfFloat}
 use Rattle.boxes.specs.declared.aabb.Aabb.{Aabb}
 use Rattle.clearance.specs.declared.visit.Walking.{Walking}
 use Rattle.clearance.specs.declared.halves.Subtree.{Subtree}
@@ -27,7 +28,7 @@ use Rattle.clearance.specs.Tree.{Tree, leaf, branch, boundsOf}
 use Rattle.clearance_call.specs.Stored.{boxAt, leafAt, splitAt, storedTree}
 use Rattle.clearance.specs.Walk.{contributes, withPair, walk}
 use Rattle.clearance_call.specs.Nested.{Nested}
-use Rattle.clearance.specs.State.{gapOfFloat, soFar, outcomeOf, nearerFirst}
+use Rattle.clearance.specs.State.{soFar, outcomeOf, nearerFirst}
 use Rattle.clearance_call.specs.Walking.{Part, Near, Walkable, Smaller, Halved, Walks}
 use Rattle.floats.proofs.NumberKeys.{nearer-key, no-nearer-key}
 use Rattle.boxes.proofs.AnyBoxes.{any-distance-good}

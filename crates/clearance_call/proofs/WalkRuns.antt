@@ -11,6 +11,7 @@ use Rattle.laws.specs.Allowance.{within}
 use Rattle.laws.proofs.Loops.{Onwards, loop-next, loop-stops, loop-ends, told-next, told-none}
 use Rattle.laws.proofs.Places.{first-at}
 use Rattle.drawing.specs.Entries.{Segment, Exemption, SegmentColumns, segmentAt}
+use Rattle.drawing.specs.LeastFloats.{gapOfFloat}
 use Rattle.boxes.specs.declared.aabb.Aabb.{Aabb}
 use Rattle.clearance.specs.declared.visit.Walking.{Walking}
 use Rattle.clearance.specs.declared.visit.Walked.{Walked}
@@ -24,7 +25,7 @@ use Rattle.clearance.specs.Walk.{walk}
 use Rattle.exemptions.specs.Exempting.{Rising, Holds}
 use Rattle.clearance_call.specs.Marks.{Marked, MarkedFor}
 use Rattle.clearance_call.specs.Nested.{Nested}
-use Rattle.clearance.specs.State.{gapOfFloat, soFar, outcomeOf}
+use Rattle.clearance.specs.State.{soFar, outcomeOf}
 use Rattle.clearance_call.specs.Walking.{Part, Walkable, Held, InTurns, allWalks}
 use Rattle.clearance_call.proofs.StoredWalk.{near-box, walk-room}
 

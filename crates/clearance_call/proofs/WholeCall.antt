@@ -48,10 +48,11 @@ use Rattle.clearance_call.specs.Stored.{storedTree, Grown}
 use Rattle.clearance_call.specs.Nested.{Nested}
 use Rattle.exemptions.specs.Exempting.{Holds, Gathered}
 use Rattle.clearance_call.specs.Marks.{Grouped}
-use Rattle.clearance.specs.State.{gapOfFloat, outcomeOf, atStart, Answers}
+use Rattle.clearance.specs.State.{outcomeOf, atStart, Answers}
 use Rattle.clearance_call.specs.Walking.{Part, Held, InTurns, allWalks}
 use Rattle.clearance.specs.Answer.{accepted, clearanceAnswer}
 use Rattle.drawing.proofs.Fit.{FitSegment, FitNode}
+use Rattle.drawing.specs.LeastFloats.{gapOfFloat}
 use Rattle.boxes.proofs.BoxLaws.{fit-segment}
 use Rattle.clearance.proofs.Answers.{Lent, passes, fit-call}
 use Rattle.clearance.proofs.WithinAllowance.{reply-within}

@@ -10,6 +10,7 @@ use Rattle.laws.specs.Charged.{Charged, after, runs}
 use Rattle.laws.specs.Allowance.{within}
 use Rattle.drawing.specs.Entries.{Segment, Exemption, SegmentColumns, segmentAt}
 use Rattle.drawing.specs.Lengths.{SegmentsAgree}
+use Rattle.drawing.specs.LeastFloats.{gapOfFloat}
 use Rattle.boxes.specs.declared.aabb.Aabb.{Aabb}
 use Rattle.clearance.specs.declared.visit.Walking.{Walking}
 use Rattle.clearance.specs.declared.halves.Subtree.{Subtree}
@@ -24,7 +25,7 @@ use Rattle.clearance.specs.Figures.{Figures}
 use Rattle.clearance.specs.Tree.{boundsOf}
 use Rattle.clearance_call.specs.Stored.{storedTree}
 use Rattle.clearance.specs.Walk.{contributes, walk, noFigures}
-use Rattle.clearance.specs.State.{gapOfFloat, soFar, outcomeOf}
+use Rattle.clearance.specs.State.{soFar, outcomeOf}
 use Rattle.clearance_call.specs.Nested.{Nested}
 use Rattle.exemptions.specs.Exempting.{Holds}
 use Rattle.clearance_call.specs.Marks.{Marked}

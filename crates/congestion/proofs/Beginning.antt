@@ -13,7 +13,7 @@ use Rattle.laws.specs.Lists.{Mem, Pairwise, fold}
 use Rattle.laws.proofs.Perms.{perm-sym, perm-mem}
 use Rattle.laws.proofs.Folds.{Monoid, fold-perm}
 use Rattle.congestion.specs.Wires.{Wire}
-use Rattle.congestion.specs.Sweep.{Item, Event, numbered, at, events, inOrder, firstAt, begin}
+use Rattle.congestion.specs.Walk.{Item, Event, numbered, at, events, inOrder, firstAt, begin}
 use Rattle.congestion.proofs.Sets.{Rising, neighborsIn, congested-same, pairs-same, none-congested, none-paired}
 use Rattle.congestion.proofs.Tracking.{facing, row, rowIn, Tracks}
 use Rattle.congestion.proofs.Moments.{Fit, Pending, event, startKey, endKey, key, activeAt, at-order, head-first}

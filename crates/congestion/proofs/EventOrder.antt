@@ -16,7 +16,7 @@ use Rattle.laws.proofs.Tests.{le-or-lt}
 use Rattle.laws.proofs.Perms.{perm-sym, perm-mem, perm-pairwise}
 use Rattle.laws.proofs.RowLaws.{row-less, row-more, row-next, by-rows}
 use Rattle.laws.proofs.Sorting.{sort-perm, sort-sorted}
-use Rattle.congestion.specs.Sweep.{Item, Event, at, eventRow, events, inOrder}
+use Rattle.congestion.specs.Walk.{Item, Event, at, eventRow, events, inOrder}
 use Rattle.congestion.proofs.Moments.{Fit, event, key, starts-differ, ends-differ, kinds-differ}
 
 -- ---- "(coordinate, 0 for an end and 1 for a start, index)" as one number

@@ -13,7 +13,7 @@ use Rattle.congestion.specs.Wires.{Wire}
 use Rattle.congestion.specs.Cells.{extent, cells, covers}
 use Rattle.rows.specs.Rows.{atLeastTwo}
 use Rattle.congestion.specs.Figures.{overlap, close, closeOther, total, stretches, congested, pairOverlap, neighborsOn, peak}
-use Rattle.congestion.specs.Sweep.{gap}
+use Rattle.congestion.specs.Walk.{gap}
 use Rattle.congestion.proofs.UnitVisits.{closePairs, visits}
 use Rattle.congestion.proofs.FoldLaws.{fewest, pairs-perm}
 use Rattle.congestion.proofs.Tracking.{eqb-turn}

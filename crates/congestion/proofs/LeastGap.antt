@@ -23,7 +23,7 @@ use Rattle.drawing.proofs.GapLaws.{gap-from-lesser}
 use Rattle.congestion.specs.Wires.{Wire, wireOf}
 use Rattle.congestion.specs.Figures.{apart, closeOther}
 use Rattle.congestion.specs.Profile.{gapped, leastNonzero}
-use Rattle.congestion.specs.Sweep.{nonzero, gap, gapOfUnits}
+use Rattle.congestion.specs.Walk.{nonzero, gap, gapOfUnits}
 use Rattle.congestion.specs.Keys.{Held}
 use Rattle.congestion.proofs.FoldLaws.{fewest}
 use Rattle.congestion.proofs.Oriented.{leastUnits}

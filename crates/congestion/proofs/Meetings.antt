@@ -9,7 +9,7 @@ use lib.Ieee.Fits.{and-l, and-r, and-i}
 use Rattle.laws.specs.Lists.{bit}
 use Rattle.laws.proofs.Tests.{le-or-lt}
 use Rattle.congestion.specs.Figures.{overlaps}
-use Rattle.congestion.specs.Sweep.{Item}
+use Rattle.congestion.specs.Walk.{Item}
 use Rattle.congestion.proofs.Moments.{startKey, endKey, activeAt, starts-differ, ends-differ}
 
 one-of : (a b o : Bool) → (T a → T o) → (T b → T o) → (T a → T b → ⊥) → (T o → T a ⊎ T b) → bit a + bit b ≡ bit o

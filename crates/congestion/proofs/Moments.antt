@@ -12,7 +12,7 @@ use borrow.Author.Tests.{lt-ltb, le-ltb, le-leb, lt-leb}
 use Rattle.laws.specs.Lists.{Mem, Pairwise}
 use Rattle.laws.proofs.Tests.{same-test, le-or-lt, or-false}
 use Rattle.congestion.specs.Cells.{covers}
-use Rattle.congestion.specs.Sweep.{Item, State, Event, at, same, step}
+use Rattle.congestion.specs.Walk.{Item, State, Event, at, same, step}
 use Rattle.congestion.proofs.Sets.{Rising, same-is}
 use Rattle.congestion.proofs.Tracking.{Tracks, tracks-same, tracks-start, tracks-end}
 

@@ -16,7 +16,7 @@ use Rattle.congestion.specs.Wires.{Wire}
 use Rattle.congestion.specs.Cells.{cells, covers}
 use Rattle.rows.specs.Rows.{atLeastTwo}
 use Rattle.congestion.specs.Figures.{apart, near, overlaps, overlap, close, other, closeOther, stretches, congested, closeOtherPairs, pairOverlap, neighborsOn, peak}
-use Rattle.congestion.specs.Sweep.{gap, only}
+use Rattle.congestion.specs.Walk.{gap, only}
 use Rattle.congestion.proofs.UnitVisits.{closePairs, inOrientation}
 use Rattle.congestion.proofs.FoldLaws.{fewest, fold-chosen, fold-pairs}
 use Rattle.congestion.proofs.Oriented.{leastUnits, stretches-are}

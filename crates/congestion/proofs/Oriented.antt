@@ -18,7 +18,7 @@ use Rattle.laws.proofs.Folds.{Monoid, plus, greatest, idr, exchange, fold-same,
 use Rattle.congestion.specs.Wires.{Wire}
 use Rattle.congestion.specs.Cells.{cellsFrom, cells, covers}
 use Rattle.congestion.specs.Figures.{apart, near, overlaps, overlap, close, other, closeOther, stretches, congested, closeOtherPairs, pairOverlap, neighborsOn, peak}
-use Rattle.congestion.specs.Sweep.{Item, numbered, events, inOrder, inRange, nonzero, gap, begin, oriented}
+use Rattle.congestion.specs.Walk.{Item, numbered, events, inOrder, inRange, nonzero, gap, begin, sweep}
 use Rattle.congestion.proofs.UnitVisits.{closePairs}
 use Rattle.congestion.proofs.FoldLaws.{fewest, lesser-same, fold-chosen, sum-const, some-count}
 use Rattle.congestion.proofs.CellLaws.{covers-from, covers-to, is-covered, length-cells, cells-unit, cells-within}
@@ -124,8 +124,8 @@ module _ (c : ℕ) (L : List Wire) (sound : Sound L) (alike : (s t : Wire) → M
       (λ k x. ap (λ (z : Bool). f z k) (is-false (on k i) (λ t. late (i .wire .end) k x (covers-to k (i .wire) t))) ∙ p k)
       (λ k x y. ap (λ (z : Bool). f z k) (is-true (on k i) (is-covered k (i .wire) x y)) ∙ q k x y)
 
-  pub congested-is : oriented c L .value .congestedLength ≡ congested c L
-  unfolding oriented congested
+  pub congested-is : sweep c L .value .congestedLength ≡ congested c L
+  unfolding sweep congested
   congested-is =
       run-sum c l fit (congestedIn (facing c) l) (congested-same (facing c) l) (none-congested (facing c) l) (λ st. st .congestedLength) (λ st. st .congestedActive) (λ b s st. elim b [ true ↦ refl | false ↦ refl ]) (λ t st tr. tr .active-is) hi 0 (inOrder (events l)) (begin l) (pending c l fit) (tracks c l fit) (at-bound c l fit hi ended)
       ∙ plus .idl _
@@ -142,8 +142,8 @@ module _ (c : ℕ) (L : List Wire) (sound : Sound L) (alike : (s t : Wire) → M
       (λ i m. own-cells greatest i m (λ b k. cond b (N (on k) i) 0) (g (i .wire)) (λ k. refl) (λ k x y. sym (on-cell i m k x y)))
       ∙ sym (fold-numbered greatest (λ s. fold max 0 (g s) (cells s)) L)
 
-  pub peak-is : oriented c L .value .peakCloseNeighbors ≡ peak c L
-  unfolding oriented peak
+  pub peak-is : sweep c L .value .peakCloseNeighbors ≡ peak c L
+  unfolding sweep peak
   peak-is =
       run-peak c l fit hi ended 0 (inOrder (events l)) (begin l) (pending c l fit) (tracks c l fit)
       ∙ greatest .idl _
@@ -190,8 +190,8 @@ module _ (c : ℕ) (L : List Wire) (sound : Sound L) (alike : (s t : Wire) → M
           above : (b v h : ℕ) → b ≤ h → min b v ≤ h
           above b v h p = omega arith
 
-  pub overlap-is : oriented c L .value .pairOverlapLength ≡ pairOverlap c L
-  unfolding oriented pairOverlap closeOtherPairs
+  pub overlap-is : sweep c L .value .pairOverlapLength ≡ pairOverlap c L
+  unfolding sweep pairOverlap closeOtherPairs
   overlap-is =
       run-sum c l fit (pairsIn (facing c) l) (pairs-same (facing c) l) (none-paired (facing c) l) (λ st. st .pairOverlapLength) (λ st. st .closePairs) (λ b s st. elim b [ true ↦ refl | false ↦ refl ]) (λ t st tr. tr .pairs-are) hi 0 (inOrder (events l)) (begin l) (pending c l fit) (tracks c l fit) (at-bound c l fit hi ended)
       ∙ plus .idl _
@@ -226,8 +226,8 @@ module _ (c : ℕ) (L : List Wire) (sound : Sound L) (alike : (s t : Wire) → M
   range-turn i j = and-comm (ltb (j .wire .fixed) (i .wire .fixed + c)) (ltb (i .wire .fixed) (j .wire .fixed + c))
 
   -- ---- visits
-  pub cost-is : 0 < c → oriented c L .cost ≡ length L + 2 * closePairs c L
-  unfolding oriented closePairs
+  pub cost-is : 0 < c → sweep c L .cost ≡ length L + 2 * closePairs c L
+  unfolding sweep closePairs
   cost-is pos =
       run-cost c l fit 0 (inOrder (events l)) (begin l) (pending c l fit) (tracks c l fit)
       ∙ at-events plus (λ t i j. bit (activeAt t j && inRange c (i .wire) (j .wire))) 1 (λ p. bit (close c (p .0 .wire) (p .1 .wire)) + bit (close c (p .0 .wire) (p .1 .wire))) own pair
@@ -256,8 +256,8 @@ module _ (c : ℕ) (L : List Wire) (sound : Sound L) (alike : (s t : Wire) → M
           ∙ ap (λ (b : Bool). bit (b && overlaps (i .wire) (j .wire)) + bit (b && overlaps (i .wire) (j .wire))) (sym (near-is i j m n))
 
   -- ---- the least gap
-  pub least-is : oriented c L .value .minimumPositive ≡ leastUnits c L
-  unfolding oriented lesser
+  pub least-is : sweep c L .value .minimumPositive ≡ leastUnits c L
+  unfolding sweep lesser
   least-is =
       run-least c l fit 0 (inOrder (events l)) (begin l) (pending c l fit) (tracks c l fit)
       ∙ at-events fewest (λ t i j. cond (activeAt t j && facing c i j) (gap (i .wire) (j .wire)) none) none (λ p. cond (closeOther c (p .0 .wire) (p .1 .wire)) (gap (p .0 .wire) (p .1 .wire)) none) own pair

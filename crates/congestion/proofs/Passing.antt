@@ -13,7 +13,7 @@ use Rattle.laws.specs.Least.{lesser}
 use Rattle.laws.specs.Charged.{runs}
 use Rattle.laws.proofs.Folds.{plus, idr, fold-append}
 use Rattle.congestion.specs.Cells.{cellsFrom, covers}
-use Rattle.congestion.specs.Sweep.{Item, State, Event, at, inRange, visited, neighbor, gap, step}
+use Rattle.congestion.specs.Walk.{Item, State, Event, at, inRange, visited, neighbor, gap, step}
 use Rattle.congestion.proofs.FoldLaws.{fewest, sum-const}
 use Rattle.congestion.proofs.CellLaws.{length-cells, cells-at, cells-same, cells-unit}
 use Rattle.congestion.proofs.Tracking.{facing, Tracks, tracks-same, over-rows}

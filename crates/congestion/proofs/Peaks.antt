@@ -13,7 +13,7 @@ use Rattle.laws.specs.Charged.{runs}
 use Rattle.laws.proofs.Tests.{is-true, of-true, or-left}
 use Rattle.laws.proofs.Folds.{greatest, fold-append, fold-unit, greatest-at-most, at-most-greatest}
 use Rattle.congestion.specs.Cells.{cellsFrom}
-use Rattle.congestion.specs.Sweep.{Item, State, Event, at, same, highest, step}
+use Rattle.congestion.specs.Walk.{Item, State, Event, at, same, highest, step}
 use Rattle.congestion.proofs.CellLaws.{is-covered, mem-cells, cells-at, cells-unit}
 use Rattle.congestion.proofs.Sets.{neighborsIn, neighbors-grow}
 use Rattle.congestion.proofs.Tracking.{facing, Tracks, tracks-same, peak-start}

@@ -12,7 +12,7 @@ use Rattle.floats.proofs.Units.{canonical-grid}
 use Rattle.floats.proofs.Zeros.{canonical-again}
 use Rattle.drawing.specs.Entries.{Segment}
 use Rattle.congestion.specs.Wires.{wireOf, cutoffOf}
-use Rattle.congestion.specs.Sweep.{inRange}
+use Rattle.congestion.specs.Walk.{inRange}
 use Rattle.congestion.specs.Rounded.{inRangeFloats}
 use Rattle.congestion.specs.Keys.{Key}
 use Rattle.congestion.proofs.KeyUnits.{canonical-fits, key-unit}

@@ -7,7 +7,7 @@ use native.Mathlib.Omega.{arith}
 use lib.Dec.{T, eqb}
 use Rattle.laws.specs.Lists.{Mem, bit, count}
 use Rattle.laws.proofs.Tests.{is-true}
-use Rattle.congestion.specs.Sweep.{Item, Event, State, events, inOrder, neighbor, neighbors, wasCongested, step, begin}
+use Rattle.congestion.specs.Walk.{Item, Event, State, events, inOrder, neighbor, neighbors, wasCongested, step, begin}
 use Rattle.congestion.proofs.Sets.{neighborsIn}
 use Rattle.congestion.proofs.Tracking.{facing, Tracks, tracks-same, grows, active-before, pairs-before}
 use Rattle.congestion.proofs.Moments.{Fit, Pending, event, endKey, key, activeAt, unchanged, next, item∈, off-after, end-drops, step-tracks}

@@ -25,7 +25,7 @@ use Rattle.drawing.specs.Gaps.{lesserGap}
 use Rattle.congestion.specs.Wires.{Wire, wireOf, cutoffOf}
 use Rattle.congestion.specs.Figures.{closeOther, congested, pairOverlap}
 use Rattle.congestion.specs.Profile.{lengths, allPairs}
-use Rattle.congestion.specs.Sweep.{Item, numbered, only, gapOfUnits}
+use Rattle.congestion.specs.Walk.{Item, numbered, only, gapOfUnits}
 use Rattle.congestion.specs.Keys.{Held}
 use Rattle.congestion.specs.Rounded.{roundedTotal, roundedOverlap}
 use Rattle.congestion.specs.RoundedSweep.{coordinatesOf, roundedOriented, onlyOf, Sums, roundedJoin, roundedSweep}

@@ -22,7 +22,7 @@ use Rattle.floats.proofs.Units.{accumulate}
 use Rattle.congestion.specs.Wires.{Wire}
 use Rattle.drawing.specs.Gaps.{leastGap, lesserGap}
 use Rattle.congestion.specs.Figures.{apart, congested, pairOverlap}
-use Rattle.congestion.specs.Sweep.{Item, Row, Event, State, numbered, at, events, inOrder, neighbor, gap, leastHere, step, firstAt, begin, oriented, gapOfUnits}
+use Rattle.congestion.specs.Walk.{Item, Row, Event, State, numbered, at, events, inOrder, neighbor, gap, leastHere, step, firstAt, begin, sweep, gapOfUnits}
 use Rattle.congestion.specs.Keys.{Held}
 use Rattle.congestion.specs.RoundedSweep.{Coordinates, coordinate, Amounts, roundedStep, roundedRun, firstAmounts}
 use Rattle.congestion.proofs.Sets.{neighborsIn}
@@ -163,7 +163,7 @@ module _ (c : ℕ) (L : List Wire) (sound : Sound L) (small : Small L) (alike : 
   amounts = roundedRun c x (begin l) (firstAmounts x (inOrder (events l))) (inOrder (events l))
 
   pub amounts-exact : (amounts .congestedLength ≡ ofUnits (congested c L)) × (amounts .pairOverlapLength ≡ ofUnits (pairOverlap c L)) × (amounts .minimumPositive ≡ gapOfUnits (leastUnits c L))
-  unfolding oriented
+  unfolding sweep
   amounts-exact =
       let a = congested-is c L sound alike in
       let b = overlap-is c L sound alike in

@@ -12,7 +12,7 @@ use Rattle.laws.specs.Lists.{Mem, Pairwise, fold, bit, sum, count, pairs}
 use Rattle.laws.proofs.Tests.{clash, is-true}
 use Rattle.laws.proofs.ListLaws.{mem-pairs}
 use Rattle.laws.proofs.Folds.{Monoid, plus, idr, fold-same, fold-both, fold-unit, fold-square, count-grows}
-use Rattle.congestion.specs.Sweep.{Item, same}
+use Rattle.congestion.specs.Walk.{Item, same}
 
 -- ---- indices rise along the list, so that an index belongs to one item
 abbrev pub Rising : List Item → Type 0

@@ -12,7 +12,7 @@ use Rattle.laws.specs.Lists.{Mem, fold, bit, count}
 use Rattle.laws.proofs.Tests.{clash, is-true, same-test}
 use Rattle.laws.proofs.Folds.{Monoid, plus, greatest, fold-same, fold-map, greatest-at-most, at-most-greatest}
 use Rattle.congestion.specs.Figures.{other}
-use Rattle.congestion.specs.Sweep.{Item, Row, State, same, inRange, neighbor, risen, fallen, neighbors, wasCongested, highest, atStart, atEnd}
+use Rattle.congestion.specs.Walk.{Item, Row, State, same, inRange, neighbor, risen, fallen, neighbors, wasCongested, highest, atStart, atEnd}
 use Rattle.congestion.proofs.Sets.{Rising, is-same, neighborsIn, congestedIn, pairsIn, neighbors-same, congested-same, pairs-same, gone, out, own-out, change, own-count, congested-add, pairs-add, pick}
 
 -- ---- which active items count as neighbors

@@ -5,7 +5,7 @@ pub mod Figures
 pub mod Rounded
 pub mod Visits
 pub mod Profile
-pub mod Sweep
+pub mod Walk
 pub mod RoundedSweep
 pub mod Conditions
 pub mod Answer

@@ -13,7 +13,7 @@ use Rattle.drawing.specs.Gaps.{leastGap, lesserGap}
 use Rattle.drawing.specs.declared.gap.Gap.{Gap}
 use Rattle.drawing.specs.declared.gap.Gap.the-variants.{Absent}
 use Rattle.congestion.specs.Wires.{wireOf}
-use Rattle.congestion.specs.Sweep.{Item, numbered, Event, events, inOrder, State, neighbor, step, begin}
+use Rattle.congestion.specs.Walk.{Item, numbered, Event, events, inOrder, State, neighbor, step, begin}
 
 -- the floats of each item's coordinates
 pub record Coordinates : Type 0 where

@@ -16,7 +16,7 @@ use Rattle.rows.specs.Rows.{Row}
 use Rattle.separation.specs.Searches.{otherIn}
 use Rattle.separation.specs.TwoNets.{hasOther, summaryOver}
 use Rattle.congestion.specs.Wires.{wireOf, cutoffOf}
-use Rattle.congestion.specs.Sweep.{inRange}
+use Rattle.congestion.specs.Walk.{inRange}
 use Rattle.congestion.specs.Rounded.{inRangeFloats, roundedTotal, roundedOverlap}
 use Rattle.congestion.specs.RoundedSweep.{roundedSweep}
 use Rattle.demands.specs.Applies.{NoneApplies}

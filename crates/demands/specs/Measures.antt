@@ -34,7 +34,7 @@ use Rattle.congestion.specs.declared.report.CongestionAnswer.{CongestionAnswer}
 use Rattle.congestion.specs.Conditions.{congestionConditions}
 use Rattle.congestion.specs.Visits as congestionVisits
 use Rattle.congestion.specs.Profile.{allPairs}
-use Rattle.congestion.specs.Sweep as congestionWalk
+use Rattle.congestion.specs.Walk as congestionWalk
 use Rattle.congestion.specs.Answer.{densityAnswer, profileAnswer, congestionAnswer, withoutDensity, reportOf, zeros, resultOf}
 
 pub record Measure : Type 1 where

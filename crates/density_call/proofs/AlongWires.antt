@@ -37,7 +37,7 @@ use Rattle.rows.proofs.EventTables.{EventsOrdered, later-column, events-placed}
 use Rattle.congestion.specs.declared.found.Swept.{Swept}
 use Rattle.congestion.specs.declared.found.Swept.the-variants.{Went}
 use Rattle.congestion.specs.Wires.{Wire, cutoffOf}
-use Rattle.congestion.specs.Sweep.{begin, oriented, along}
+use Rattle.congestion.specs.Walk.{begin, sweep, along}
 use Rattle.congestion.specs.Keys.{Key}
 use Rattle.density_call.specs.Tables.{itemAt, Tabled}
 use Rattle.density_call.specs.Ranges.{Rangeable, RangesOnly, FillsRanges}
@@ -135,7 +135,7 @@ module _ (h : Bool) (l : List Row) (sorted : Sorted rowsInOrder l) (proper : (r 
           itself true = refl
           itself false = refl
 
-      first-wires : (few : n ≤ 4096) (some : 1 ≤ n) → oriented (at-first few some .c) (at-first few some .L) ≡ oriented (cutoffOf cutoff) L
+      first-wires : (few : n ≤ 4096) (some : 1 ≤ n) → sweep (at-first few some .c) (at-first few some .L) ≡ sweep (cutoffOf cutoff) L
       unfolding at-first
       first-wires few some = refl
 
@@ -156,7 +156,7 @@ module _ (s s₁ s₂ : List ℕ) (n from table : ℕ) (spread-is : s₁ ≡ row
 
   module _ (s₃ : List ℕ) (kept : length s₃ ≡ length s₂) (cutoff : Float) (cut : Cutoff cutoff) (only : RangesOnly n s₂ s₃) (fills : FillsRanges s₂ s₃ n cutoff) (e : List ℕ) (clear : e ≡ replicate {A = ℕ} (length (midOf (8 * n) (10 * n + 1 - 8 * n) s₃)) 0) where
     -- the record that the sweep asks for, with the wires of the rows that are known
-    pub rows-first : (a : AtRows s n from table) → (b : AtFirst (putMid (8 * n) (10 * n + 1 - 8 * n) s₃ e) n) × (oriented (b .c) (b .L) ≡ oriented (cutoffOf cutoff) (map (wireOfRow (a .across)) (a .l)))
+    pub rows-first : (a : AtRows s n from table) → (b : AtFirst (putMid (8 * n) (10 * n + 1 - 8 * n) s₃ e) n) × (sweep (b .c) (b .L) ≡ sweep (cutoffOf cutoff) (map (wireOfRow (a .across)) (a .l)))
     rows-first a =
         let d = spread a in
         let f = a .front in
@@ -164,7 +164,7 @@ module _ (s s₁ s₂ : List ℕ) (n from table : ℕ) (spread-is : s₁ ≡ row
         let q = a .many in
         let p = a .few in
         subst (λ (m : ℕ). EventsOrdered m s₁ s₂ → RangesOnly m s₂ s₃ → FillsRanges s₂ s₃ m cutoff → e ≡ replicate {A = ℕ} (length (midOf (8 * m) (10 * m + 1 - 8 * m) s₃)) 0 → 10 * m + 1 ≤ length s₃ → m ≤ 4096 → 1 ≤ m
-        → (b : AtFirst (putMid (8 * m) (10 * m + 1 - 8 * m) s₃ e) m) × (oriented (b .c) (b .L) ≡ oriented (cutoffOf cutoff) (map (wireOfRow (a .across)) (a .l)))) (a .size)
+        → (b : AtFirst (putMid (8 * m) (10 * m + 1 - 8 * m) s₃ e) m) × (sweep (b .c) (b .L) ≡ sweep (cutoffOf cutoff) (map (wireOfRow (a .across)) (a .l)))) (a .size)
         (λ o x y z room few some. (at-first (a .across) (a .l) (a .sorted) (a .proper) s₁ s₂ d o s₃ cutoff cut x y e room z few some, first-wires (a .across) (a .l) (a .sorted) (a .proper) s₁ s₂ d o s₃ cutoff cut x y e room z few some))
         (ordered a) only fills clear (omega arith) p (omega arith)
 
@@ -190,7 +190,7 @@ module _ (s e : List ℕ) (o n : ℕ) (c : SegmentColumns) (a : AtColumns (lengt
       let k : length (map (wireOfRow b) l) < 2 = omega (arith, length-map l (wireOfRow b), count) in
       (λ i. Went (record { «congested_length» = u i; «pair_overlap_length» = u i; «peak_close_neighbors» = 0; «minimum_positive» = Absent; left = allowance }))
       ∙ sym (ap sweptOf (within-free allowance (begin [])))
-      ∙ ap (λ r. sweptOf (within allowance r)) (sym (cond-true (ltb (length (map (wireOfRow b) l)) 2) (free (begin [])) (oriented cut (map (wireOfRow b) l)) (lt-ltb (length (map (wireOfRow b) l)) 2 k)))
+      ∙ ap (λ r. sweptOf (within allowance r)) (sym (cond-true (ltb (length (map (wireOfRow b) l)) 2) (free (begin [])) (sweep cut (map (wireOfRow b) l)) (lt-ltb (length (map (wireOfRow b) l)) 2 k)))
 
   module _ (kept : length e ≡ length (midOf from (length s - from) s)) (many : 2 ≤ n) where
     abbrev u : List ℕ
@@ -216,8 +216,8 @@ module _ (s e : List ℕ) (o n : ℕ) (c : SegmentColumns) (a : AtColumns (lengt
           room = omega (arith, rows-kept s e o n c (a .agree) narrow orders kept);
         }
 
-    pub more-swept : (b : Bool) (cut allowance : ℕ) (r : Swept) → ((x : AtRows u n from (length (c .net))) → r ≡ sweptOf (within allowance (oriented cut (map (wireOfRow (x .across)) (x .l))))) → r ≡ sweptOf (within allowance (along cut (map (wireOfRow b) l)))
+    pub more-swept : (b : Bool) (cut allowance : ℕ) (r : Swept) → ((x : AtRows u n from (length (c .net))) → r ≡ sweptOf (within allowance (sweep cut (map (wireOfRow (x .across)) (x .l))))) → r ≡ sweptOf (within allowance (along cut (map (wireOfRow b) l)))
     unfolding along at-rows
     more-swept b cut allowance r g =
         let k : 2 ≤ length (map (wireOfRow b) l) = omega (arith, length-map l (wireOfRow b), count) in
-        g (at-rows b) ∙ ap (λ z. sweptOf (within allowance z)) (sym (cond-false (ltb (length (map (wireOfRow b) l)) 2) (free (begin [])) (oriented cut (map (wireOfRow b) l)) (le-ltb (length (map (wireOfRow b) l)) 2 k)))
+        g (at-rows b) ∙ ap (λ z. sweptOf (within allowance z)) (sym (cond-false (ltb (length (map (wireOfRow b) l)) 2) (free (begin [])) (sweep cut (map (wireOfRow b) l)) (le-ltb (length (map (wireOfRow b) l)) 2 k)))

@@ -33,7 +33,7 @@ use Rattle.congestion.specs.declared.found.Swept.the-variants.{Went, Spent}
 use Rattle.congestion.specs.Wires.{wireOf, cutoffOf}
 use Rattle.congestion.specs.Figures.{total}
 use Rattle.congestion.specs.Profile.{lengths, allPairs}
-use Rattle.congestion.specs.Sweep.{State, along, sweepWires, only, gapOfUnits}
+use Rattle.congestion.specs.Walk.{State, along, sweepWires, only, gapOfUnits}
 use Rattle.congestion.specs.Keys.{Held}
 use Rattle.density_call.specs.Sweeping.{sweptOf}
 use Rattle.density_call.specs.Measuring.{wireOfRow, foundOf, togetherOf}

@@ -12,7 +12,7 @@ use Rattle.laws.specs.Charged.{runs}
 use Rattle.laws.proofs.Tests.{of-true, and-left, and-right}
 use Rattle.laws.proofs.ListLaws.{mem-map}
 use Rattle.laws.proofs.Folds.{count-at-most}
-use Rattle.congestion.specs.Sweep.{Item, Row, Event, State, neighbor, step}
+use Rattle.congestion.specs.Walk.{Item, Row, Event, State, neighbor, step}
 use Rattle.density_call.specs.Sweeping.{Ending, Due}
 use Rattle.congestion.proofs.Sets.{neighborsIn}
 use Rattle.congestion.proofs.Tracking.{facing, rowIn, Tracks}

@@ -6,7 +6,7 @@ use mathlib.Core.List.{List, [], _∷_, map, map-map}
 use Prim.Native.Nat.{ℕ, zero, suc, _+_, _-_, _*_, _/_, _%_, _^_, _≤_, _<_}
 use native.Mathlib.Omega.{arith}
 use native.Mathlib.Nat.{le-of-eq, add-sub-of-le, lt-of-le-of-lt, le-of-suc-le-suc, not-suc-le-zero}
-use lib.Ieee.{Float, binary64, inf, ofBits}
+use lib.Ieee.{Float, nan, binary64, ofBits}
 use lib.ListN.{length, getD, drop, length-map, length-drop}
 use lib.Seq.{getD-drop}
 use Rattle.laws.specs.Lists.{Mem}
@@ -24,15 +24,16 @@ use Rattle.bitset.proofs.Digits.{bit-zero}
 use Rattle.floats.specs.TotalOrder.{floatAt}
 use Rattle.floats.proofs.Units.{unit-bound}
 use Rattle.drawing.specs.declared.gap.Gap.{Gap}
+use Rattle.drawing.specs.LeastFloats.{gapOfFloat}
 use Rattle.density_call.specs.declared.sweep.Sweeping.{Sweeping}
 use Rattle.density_call.specs.declared.sweep.Handled.{Handled}
 use Rattle.density_call.specs.declared.sweep.Handled.the-variants.{Went, Spent}
 use Rattle.congestion.specs.declared.found.Swept.the-variants.{Went as Done, Spent as Short}
 use Rattle.congestion.specs.Wires.{Wire}
-use Rattle.congestion.specs.Sweep.{Item, Event, State, numbered, at, events, inOrder, step, firstAt, begin, oriented}
+use Rattle.congestion.specs.Walk.{Item, Event, State, numbered, at, events, inOrder, step, firstAt, begin, sweep}
 use Rattle.congestion.specs.Keys.{Key}
 use Rattle.density_call.specs.Tables.{noWire, itemAt, eventAt, Tabled, rowFrom, rowsFrom, Stored}
-use Rattle.density_call.specs.Sweeping.{Follows, AtEvent, Steps, Handles, AtFirst, gapOfFloat, sweptOf}
+use Rattle.density_call.specs.Sweeping.{Follows, AtEvent, Steps, Handles, AtFirst, sweptOf}
 use Rattle.congestion.proofs.Moments.{Fit, event}
 use Rattle.congestion.proofs.Passing.{run}
 use Rattle.congestion.proofs.Beginning.{Sound, wires-of, fit-numbered}
@@ -118,7 +119,7 @@ module _ (s₀ : List ℕ) (n allowance : ℕ) (a : AtFirst s₀ n) where
   order = inOrder (events items)
 
   abbrev all : Charged State
-  all = oriented (a .c) (a .L)
+  all = sweep (a .c) (a .L)
 
   sound : Sound (a .L)
   sound = record { few = omega (arith, a .size, a .few); ordered = a .ordered }
@@ -164,8 +165,8 @@ module _ (s₀ : List ℕ) (n allowance : ℕ) (a : AtFirst s₀ n) where
     none-ahead h = told-none 0 (eventAt (a .L)) (2 * length (a .L)) s long order (tabled .ordered) q (omega (arith, a .size))
 
   -- ---- before the first event
-  pub going-first : (x top : Float) → x ≡ floatAt (getD s₀ (2 * n + getD s₀ 0 0) 0) → top ≡ inf false → Going (record { «congested_active» = 0; «congested_length» = ofBits binary64 0; «close_pairs» = 0; «pair_overlap_length» = ofBits binary64 0; «peak_close_neighbors» = 0; «minimum_positive» = top; previous = x; left = allowance }) s₀ 0
-  unfolding oriented ofBits
+  pub going-first : (x top : Float) → x ≡ floatAt (getD s₀ (2 * n + getD s₀ 0 0) 0) → top ≡ nan → Going (record { «congested_active» = 0; «congested_length» = ofBits binary64 0; «close_pairs» = 0; «pair_overlap_length» = ofBits binary64 0; «peak_close_neighbors» = 0; «minimum_positive» = top; previous = x; left = allowance }) s₀ 0
+  unfolding sweep ofBits
   going-first x top e f = record {
     st = begin items;
     room = a .room;
@@ -284,7 +285,7 @@ module _ (s₀ : List ℕ) (n allowance : ℕ) where
     run-event a less = event-due s₀ n allowance a state s q (g a) less
 
     module _ (less : q < 2 * n) (r : Handled) (t : List ℕ) (f : Handles s t n (getD s q 0) state r) where
-      pub run-stops : r ≡ Spent → (a : AtFirst s₀ n) → Short ≡ sweptOf (within allowance (oriented (a .c) (a .L)))
+      pub run-stops : r ≡ Spent → (a : AtFirst s₀ n) → Short ≡ sweptOf (within allowance (sweep (a .c) (a .L)))
       unfolding event-due
       run-stops e a = going-stops s₀ n allowance a state s q (g a) less r t (f (event-due s₀ n allowance a state s q (g a) less)) e
 

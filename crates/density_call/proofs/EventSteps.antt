@@ -27,7 +27,7 @@ use Rattle.density_call.specs.declared.sweep.Sweeping.{Sweeping}
 use Rattle.density_call.specs.declared.sweep.Handled.the-variants.{Went, Spent}
 use Rattle.congestion.specs.Wires.{Wire}
 use Rattle.congestion.specs.Figures.{apart}
-use Rattle.congestion.specs.Sweep.{Item, Event, Row, State, at, neighbor, neighbors, gap, leastHere, wasCongested, risen, fallen, atStart, atEnd, step}
+use Rattle.congestion.specs.Walk.{Item, Event, Row, State, at, neighbor, neighbors, gap, leastHere, wasCongested, risen, fallen, atStart, atEnd, step}
 use Rattle.congestion.specs.Keys.{Key, Held}
 use Rattle.density_call.specs.Tables.{itemAt, eventAt, Tabled, rowFrom, rowsFrom, Stored}
 use Rattle.density_call.specs.Meeting.{visitsOf, leastFloat, Meetable, CountsOnly, Meets}

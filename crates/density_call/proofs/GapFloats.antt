@@ -1,10 +1,10 @@
--- A least gap of 64ths kept as a float, an infinity where there is none. Assumes nothing.
+-- A least gap of 64ths kept as a float, a NaN where there is none yet. Assumes nothing.
 use mathlib.Core.Path.{_≡_, refl, sym, ap, ap₂, _∙_, subst}
 use mathlib.Core.Option.{Option, none, some}
 use mathlib.Core.Bool.{Bool, true, false, not, cond}
 use Prim.Native.Nat.{ℕ, _^_, _<_}
 use lib.Dec.{ltb, eqb}
-use lib.Ieee.{Float, nan, inf, fin, lt}
+use lib.Ieee.{Float, nan, inf, fin, isNan, lt, le}
 use lib.Ieee.Exact.{HasValue}
 use Rattle.laws.specs.Least.{lesser}
 use Rattle.laws.proofs.Tests.{cond-true, cond-false}
@@ -13,12 +13,12 @@ use Rattle.floats.specs.Values.{plusZero, lesserOf, gapOf}
 use Rattle.floats.specs.Grid.{unit, ofUnits}
 use Rattle.floats.specs.TotalOrder.{floatAt}
 use Rattle.floats.proofs.Units.{of-units-value}
-use Rattle.drawing.specs.declared.gap.Gap.the-variants.{Absent, Present}
+use Rattle.drawing.specs.LeastFloats.{Number, gapOfFloat, leastWith}
+use Rattle.drawing.proofs.LeastFloatLaws.{none-absent, number-present, least-lesser}
 use Rattle.congestion.specs.Figures.{apart}
-use Rattle.congestion.specs.Sweep.{nonzero, gapOfUnits}
+use Rattle.congestion.specs.Walk.{nonzero, gapOfUnits}
 use Rattle.congestion.specs.Keys.{Key, Held}
 use Rattle.density_call.specs.Meeting.{leastFloat, withGap}
-use Rattle.density_call.specs.Sweeping.{gapOfFloat}
 use Rattle.congestion.proofs.FoldLaws.{fewest}
 use Rattle.congestion.proofs.Oriented.{apart-turn}
 use Rattle.congestion.proofs.LeastGap.{held-lesser, lt-units, grid-gap, above-zero}
@@ -26,46 +26,35 @@ use Rattle.congestion.proofs.LeastGap.{held-lesser, lt-units, grid-gap, above-z
 pub lesser-none : (o : Option ℕ) → lesser ltb o none ≡ o
 lesser-none o = idr fewest o
 
--- every number is below the infinity
-below-infinity : (x : Float) (s : Bool) (a b : ℕ) → HasValue x s a b → lt x (inf false) ≡ true
-unfolding lt
-below-infinity nan s a b h = absurd h
-below-infinity (inf t) s a b h = absurd h
-below-infinity (fin t m e) s a b h = refl
+-- so many 64ths are a number
+value-number : (x : Float) (s : Bool) (a b : ℕ) → HasValue x s a b → Number x
+unfolding isNan
+value-number nan s a b h = absurd h
+value-number (inf t) s a b h = absurd h
+value-number (fin t m e) s a b h = tt
 
-units-below : (n : ℕ) → n < 2 ^ 53 → lt (ofUnits n) (inf false) ≡ true
+units-number : (n : ℕ) → n < 2 ^ 53 → Number (ofUnits n)
 unfolding ofUnits
-units-below n h = below-infinity (ofUnits n) false n 64 (of-units-value false n h)
-
-not-below : lt (inf false) (inf false) ≡ false
-unfolding lt
-not-below = refl
+units-number n h = value-number (ofUnits n) false n 64 (of-units-value false n h)
 
 -- ---- when the sweep is done it becomes a gap
-module _ (x top : Float) (is : top ≡ inf false) where
-  pub gap-present : lt x top ≡ true → Present x ≡ gapOfFloat x
-  gap-present b = sym (cond-true (lt x (inf false)) (Present x) Absent (ap (lt x) (sym is) ∙ b))
-
-  pub gap-absent : lt x top ≡ false → Absent ≡ gapOfFloat x
-  gap-absent b = sym (cond-false (lt x (inf false)) (Present x) Absent (ap (lt x) (sym is) ∙ b))
-
 pub gap-again : (o : Option ℕ) → Held o → gapOfFloat (leastFloat o) ≡ gapOfUnits o
-gap-again none h = cond-false (lt (inf false) (inf false)) (Present (inf false)) Absent not-below
-gap-again (some n) h = cond-true (lt (ofUnits n) (inf false)) (Present (ofUnits n)) Absent (units-below n h)
+gap-again none h = none-absent
+gap-again (some n) h = number-present (ofUnits n) (units-number n h)
 
 -- ---- a gap joins it
-lesser-float : (o : Option ℕ) (a : ℕ) → Held o → a < 2 ^ 53 → lesserOf (leastFloat o) (ofUnits a) ≡ leastFloat (lesser ltb o (some a))
-unfolding lesserOf lesser
-lesser-float none a h k = cond-true (lt (ofUnits a) (inf false)) (ofUnits a) (inf false) (units-below a k)
-lesser-float (some n) a h k = ap (λ (t : Bool). cond t (ofUnits a) (ofUnits n)) (lt-units a n k h) ∙ go (ltb a n)
+least-float : (o : Option ℕ) (a : ℕ) → Held o → a < 2 ^ 53 → leastWith (leastFloat o) (ofUnits a) ≡ leastFloat (lesser ltb o (some a))
+unfolding leastWith le lesserOf lesser
+least-float none a h k = refl
+least-float (some n) a h k = least-lesser (ofUnits n) (ofUnits a) (units-number n h) (units-number a k) ∙ ap (λ (t : Bool). cond t (ofUnits a) (ofUnits n)) (lt-units a n k h) ∙ go (ltb a n)
   where
     go : (t : Bool) → cond t (ofUnits a) (ofUnits n) ≡ ofUnits (cond t a n)
     go true = refl
     go false = refl
 
 joined-units : (o : Option ℕ) (b : Bool) (a : ℕ) (g : Float) → Held o → a < 2 ^ 53 → g ≡ ofUnits a → lt plusZero g ≡ not b → (withGap (leastFloat o) g ≡ leastFloat (lesser ltb o (nonzero b a))) × Held (lesser ltb o (nonzero b a))
-joined-units o true a g h k e z = (cond-false (lt plusZero g) (lesserOf (leastFloat o) g) (leastFloat o) z ∙ sym (ap leastFloat (lesser-none o)), subst Held (sym (lesser-none o)) h)
-joined-units o false a g h k e z = (cond-true (lt plusZero g) (lesserOf (leastFloat o) g) (leastFloat o) z ∙ ap (lesserOf (leastFloat o)) e ∙ lesser-float o a h k, held-lesser o (some a) h k)
+joined-units o true a g h k e z = (cond-false (lt plusZero g) (leastWith (leastFloat o) g) (leastFloat o) z ∙ sym (ap leastFloat (lesser-none o)), subst Held (sym (lesser-none o)) h)
+joined-units o false a g h k e z = (cond-true (lt plusZero g) (leastWith (leastFloat o) g) (leastFloat o) z ∙ ap (leastWith (leastFloat o)) e ∙ least-float o a h k, held-lesser o (some a) h k)
 
 pub keys-join : (o : Option ℕ) (w w' u u' : ℕ) → Held o → Key w u → Key w' u' → (withGap (leastFloat o) (gapOf (floatAt w) (floatAt w')) ≡ leastFloat (lesser ltb o (nonzero (eqb u' u) (apart u' u)))) × Held (lesser ltb o (nonzero (eqb u' u) (apart u' u)))
 keys-join o w w' u u' h k k' =

@@ -26,7 +26,7 @@ use Rattle.density_call.specs.declared.meet.Meeting.{Meeting}
 use Rattle.density_call.specs.declared.meet.Met.the-variants.{Went, Spent}
 use Rattle.congestion.specs.Wires.{Wire}
 use Rattle.congestion.specs.Figures.{other}
-use Rattle.congestion.specs.Sweep.{Row, State, inRange, visited, neighbor, gap, neighbors, leastHere}
+use Rattle.congestion.specs.Walk.{Row, State, inRange, visited, neighbor, gap, neighbors, leastHere}
 use Rattle.congestion.specs.Keys.{Key, Held}
 use Rattle.density_call.specs.Tables.{itemAt, Tabled, rowFrom, rowsFrom, Stored}
 use Rattle.density_call.specs.Meeting.{visitsOf, CountsOnly, moved, turning, topmost, leastFloat, withGap, countAfter, highestAfter, withNeighbor, paid, Visits}

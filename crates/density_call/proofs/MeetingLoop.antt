@@ -21,7 +21,7 @@ use Rattle.floats.specs.TotalOrder.{floatAt}
 use Rattle.density_call.specs.declared.meet.Meeting.{Meeting}
 use Rattle.density_call.specs.declared.meet.Met.the-variants.{Went, Spent}
 use Rattle.congestion.specs.Wires.{Wire}
-use Rattle.congestion.specs.Sweep.{Row}
+use Rattle.congestion.specs.Walk.{Row}
 use Rattle.density_call.specs.Tables.{Tabled, rowFrom}
 use Rattle.density_call.specs.Meeting.{Meetable, CountsOnly, Meets, Visitable, Visits}
 use Rattle.density_call.proofs.RowPlaces.{upTo-mem}

@@ -16,7 +16,7 @@ use Rattle.laws.proofs.Folds.{plus, fold-append, fold-map, fold-unit}
 use Rattle.sorting.specs.Sorted.{upTo}
 use Rattle.sorting.proofs.Entries.{length-upTo, upTo-below}
 use Rattle.congestion.specs.Wires.{Wire}
-use Rattle.congestion.specs.Sweep.{Row, State, wasCongested}
+use Rattle.congestion.specs.Walk.{Row, State, wasCongested}
 use Rattle.congestion.specs.Keys.{Key}
 use Rattle.density_call.specs.Tables.{itemAt, eventAt, Tabled, rowFrom, rowsFrom}
 

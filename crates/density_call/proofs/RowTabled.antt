@@ -31,7 +31,7 @@ use Rattle.rows.specs.Tables.{noRow, rowFrom, eventFrom, column}
 use Rattle.rows.proofs.SpreadTables.{Spread}
 use Rattle.rows.proofs.ColumnParts.{getD-map, column-at}
 use Rattle.congestion.specs.Wires.{Wire}
-use Rattle.congestion.specs.Sweep.{Event, numbered, events, inOrder, eventRow}
+use Rattle.congestion.specs.Walk.{Event, numbered, events, inOrder, eventRow}
 use Rattle.congestion.specs.Keys.{Key}
 use Rattle.density_call.specs.Tables.{noWire, itemAt, eventAt, Ranged, Tabled}
 use Rattle.density_call.specs.Measuring.{wireOfRow, Coordinate, Proper}

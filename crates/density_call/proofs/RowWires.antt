@@ -18,7 +18,7 @@ use Rattle.drawing.specs.Held.{SegmentHeld}
 use Rattle.rows.specs.Rows.{fixedOf, startOf, endOf, Row, rowOf, rowsInOrder, oriented}
 use Rattle.rows.proofs.Oriented.{list-order-idle}
 use Rattle.congestion.specs.Wires.{Wire, wireOf}
-use Rattle.congestion.specs.Sweep.{only}
+use Rattle.congestion.specs.Walk.{only}
 use Rattle.congestion.proofs.KeyUnits.{key-unit}
 use Rattle.density_call.specs.Measuring.{wireOfRow}
 

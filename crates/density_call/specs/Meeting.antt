@@ -5,18 +5,19 @@ use mathlib.Core.List.{List, map}
 use mathlib.Core.Option.{Option, none, some}
 use Prim.Native.Nat.{ℕ, _+_, _-_, _*_, _≤_, _<_, max}
 use lib.Dec.{eqb, ltb}
-use lib.Ieee.{Float, inf, lt}
+use lib.Ieee.{Float, nan, lt}
 use lib.ListN.{length, getD, take, drop, set}
 use Rattle.laws.specs.Lists.{Mem, bit, fold, count}
 use Rattle.laws.specs.Least.{lesser}
-use Rattle.floats.specs.Values.{plusZero, lesserOf, gapOf}
+use Rattle.floats.specs.Values.{plusZero, gapOf}
 use Rattle.floats.specs.TotalOrder.{floatAt}
 use Rattle.floats.specs.Grid.{ofUnits}
+use Rattle.drawing.specs.LeastFloats.{leastWith}
 use Rattle.density_call.specs.declared.meet.Meeting.{Meeting}
 use Rattle.density_call.specs.declared.meet.Met.{Met}
 use Rattle.density_call.specs.declared.meet.Met.the-variants.{Went, Spent}
 use Rattle.congestion.specs.Wires.{Wire}
-use Rattle.congestion.specs.Sweep.{Row, State, visited, neighbor, neighbors, leastHere, risen, fallen}
+use Rattle.congestion.specs.Walk.{Row, State, visited, neighbor, neighbors, leastHere, risen, fallen}
 use Rattle.congestion.specs.Keys.{Held}
 use Rattle.density_call.specs.Tables.{itemAt, Tabled, rowsFrom, Stored}
 
@@ -60,9 +61,9 @@ abbrev pub topmost : Bool → (Row → Bool) → List Row → ℕ
 topmost true p l = fold max 0 (λ x. cond (p x) (x .neighbors + 1) 0) l
 topmost false p l = 0
 
--- a least gap of 64ths as a float, an infinity where there is none
+-- a least gap of 64ths as a float, a NaN where there is none yet
 abbrev pub leastFloat : Option ℕ → Float
-leastFloat none = inf false
+leastFloat none = nan
 leastFloat (some n) = ofUnits n
 
 abbrev pub Meets : Bool → List ℕ → List ℕ → ℕ → ℕ → Float → ℕ → Met → Type 0
@@ -82,7 +83,7 @@ Meets starts s t n j least allowance r =
 -- ---- its loop
 -- a gap joins the least one where it is above 0
 abbrev pub withGap : Float → Float → Float
-withGap least gap = cond (lt plusZero gap) (lesserOf least gap) least
+withGap least gap = cond (lt plusZero gap) (leastWith least gap) least
 
 -- a neighbor of the count k at that gap: its new count, the greatest count so far, and the meeting with it
 abbrev pub countAfter : Bool → ℕ → ℕ

@@ -1,19 +1,17 @@
 -- What only private contracts cite: where the sweep over one orientation's wires stands, what each event makes of that, and what all events come to.
 use mathlib.Core.Path.{_≡_}
-use mathlib.Core.Bool.{true, false, not, _&&_, Bool·beq, cond}
+use mathlib.Core.Bool.{true, not, _&&_, Bool·beq}
 use mathlib.Core.List.{List, _++_}
 use Prim.Native.Nat.{ℕ, _+_, _-_, _*_, _^_, _≤_, _<_, max}
 use lib.IntN.{pos}
 use lib.Dec.{eqb}
-use lib.Ieee.{Float, binary64, inf, add, sub, mul, ofInt, lt}
+use lib.Ieee.{Float, binary64, add, sub, mul, ofInt}
 use lib.ListN.{length, getD, take, drop, set}
 use Rattle.laws.specs.Lists.{Mem, bit, count}
 use Rattle.laws.specs.Allowance.{Outcome, spent, left}
 use Rattle.bitset.specs.Members.{inserted, removed}
 use Rattle.floats.specs.TotalOrder.{floatAt}
 use Rattle.floats.specs.Grid.{ofUnits}
-use Rattle.drawing.specs.declared.gap.Gap.{Gap}
-use Rattle.drawing.specs.declared.gap.Gap.the-variants.{Absent, Present}
 use Rattle.density_call.specs.declared.meet.Meeting.{Meeting}
 use Rattle.density_call.specs.declared.sweep.Sweeping.{Sweeping}
 use Rattle.density_call.specs.declared.sweep.Handled.{Handled}
@@ -21,7 +19,7 @@ use Rattle.density_call.specs.declared.sweep.Handled.the-variants.{Went,
 use Rattle.congestion.specs.declared.found.Swept.{Swept}
 use Rattle.congestion.specs.declared.found.Swept.the-variants.{Went as Done, Spent as Short}
 use Rattle.congestion.specs.Wires.{Wire}
-use Rattle.congestion.specs.Sweep.{Item, Event, Row, State, at, neighbor, neighbors, wasCongested, step, gapOfUnits}
+use Rattle.congestion.specs.Walk.{Item, Event, Row, State, at, neighbor, neighbors, wasCongested, step, gapOfUnits}
 use Rattle.congestion.specs.Keys.{Key, Held}
 use Rattle.density_call.specs.Tables.{eventAt, Tabled, Stored}
 use Rattle.density_call.specs.Meeting.{leastFloat}
@@ -146,10 +144,6 @@ pub record AtFirst (s : List ℕ) (n : ℕ) : Type 0 where
   pub cleared : (i : ℕ) → i < 2 * n → getD s (8 * n + i) 0 ≡ 0
   pub ordered : (w : Wire) → Mem w L → w .start < w .end
   pub alike : (v w : Wire) → Mem v L → Mem w L → Bool·beq (v .horizontal) (w .horizontal) ≡ true
-
--- the least gap that the sweep kept as a float
-abbrev pub gapOfFloat : Float → Gap
-gapOfFloat x = cond (lt x (inf false)) (Present x) Absent
 
 -- what a sweep within the allowance comes to, as the code answers it
 unfoldable pub sweptOf : Outcome State → Swept

@@ -12,7 +12,7 @@ use Rattle.laws.specs.Lists.{All}
 use Rattle.sorting.specs.Sorted.{upTo}
 use Rattle.bitset.specs.Members.{member}
 use Rattle.congestion.specs.Wires.{Wire}
-use Rattle.congestion.specs.Sweep.{Item, Event, Row, State, numbered, events, inOrder, inRange}
+use Rattle.congestion.specs.Walk.{Item, Event, Row, State, numbered, events, inOrder, inRange}
 use Rattle.congestion.specs.Keys.{Key}
 
 -- the wire at a place, with its index, and the event of a number

@@ -7,7 +7,7 @@ ghost use Rattle.laws.specs.Allowance.{within};
 ghost use Rattle.drawing.specs.Entries.{segmentColumns, segments};
 ghost use Rattle.rows.specs.Rows as Rows;
 ghost use Rattle.congestion.specs.Wires.{cutoffOf};
-ghost use Rattle.congestion.specs.Sweep.{oriented, along};
+ghost use Rattle.congestion.specs.Walk.{sweep, along};
 ghost use Rattle.density_call.specs.Sweeping.{sweptOf};
 ghost use Rattle.density_call.specs.Measuring.{wireOfRow, Cutoff, AtRows, AtColumns};
 use crate::ranges::fill_ranges;
@@ -31,7 +31,7 @@ fn sweep_rows(
 ) -> Swept
     requires { ⌜ AtRows (now s) n from table ⌝ }
     requires { ⌜ Cutoff cutoff ⌝ }
-    ensures { λ r. ⌜ ((a : AtRows (now (s .entry)) n from table) → r ≡ sweptOf (within allowance (oriented (cutoffOf cutoff) (map (wireOfRow (a .across)) (a .l))))) ⌝ }
+    ensures { λ r. ⌜ ((a : AtRows (now (s .entry)) n from table) → r ≡ sweptOf (within allowance (sweep (cutoffOf cutoff) (map (wireOfRow (a .across)) (a .l))))) ⌝ }
 {
     spread_rows(s, n, from, table);
     order_events(s, n);

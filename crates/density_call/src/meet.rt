@@ -9,12 +9,12 @@ use crate::counts::greater;
 use bitset::Last;
 use bitset::last_below;
 use bitset::rest_below;
+use drawing::least_with;
 use floats::absolute;
 use floats::float_of_key;
-use floats::lesser;
 
 // How many of the wires met are of another net; how many of these become congested or cease to be; the greatest count among them; the least gap so far; how many visits are left.
-// The least gap is a float, an infinity where there is none: these figures are copied at each visit, and copies of an enum took two thirds of the loop's time.
+// The least gap is a NaN where there is none yet (`no_gap`). These figures are copied at each visit: with an enum, whose copies wait for the stores that made it, they took two thirds of the loop's time.
 pub(crate) struct Meeting {
     pub neighbors: usize,
     pub changed: usize,
@@ -34,7 +34,7 @@ fn with_gap(least: f64, gap: f64) -> f64
     ensures { λ r. ⌜ r ≡ withGap least gap ⌝ }
 {
     if 0.0 < gap {
-        return lesser(least, gap);
+        return least_with(least, gap);
     }
     least
 }

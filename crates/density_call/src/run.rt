@@ -1,35 +1,17 @@
 // The sweep over all events of one orientation. The scratch holds the tables of its n wires (8 n words) and behind them the words that the sweep changes.
 ghost use mathlib.Core.Path.{_≡_};
-ghost use mathlib.Core.Bool.{false};
-ghost use lib.Ieee.{inf};
 ghost use Rattle.laws.specs.Allowance.{within};
-ghost use Rattle.congestion.specs.Sweep.{oriented};
-ghost use Rattle.density_call.specs.Sweeping.{AtEvent, Handles, AtFirst, gapOfFloat, sweptOf};
+ghost use Rattle.congestion.specs.Walk.{sweep};
+ghost use Rattle.density_call.specs.Sweeping.{AtEvent, Handles, AtFirst, sweptOf};
 use crate::sweep::Handled;
 use crate::sweep::Sweeping;
 use crate::sweep::end_event;
 use crate::sweep::start_event;
 use congestion::Found;
 use congestion::Swept;
-use drawing::Gap;
+use drawing::gap_of_float;
+use drawing::no_gap;
 use floats::float_of_key;
-
-// Above every gap.
-fn infinity() -> f64
-    ensures { λ r. ⌜ r ≡ inf false ⌝ }
-{
-    1.0 / 0.0
-}
-
-// The least gap that the sweep kept as a float.
-fn gap_of_float(least: f64) -> Gap
-    ensures { λ r. ⌜ r ≡ gapOfFloat least ⌝ }
-{
-    if least < infinity() {
-        return Gap::Present(least);
-    }
-    Gap::Absent
-}
 
 // Event e: below n it is the end of wire e, else the start of wire e - n.
 fn handle_event(s: &mut [u64], n: usize, e: usize, state: Sweeping) -> Handled
@@ -45,7 +27,7 @@ fn handle_event(s: &mut [u64], n: usize, e: usize, state: Sweeping) -> Handled
 // The events in order, from no active wire and the coordinate of the first one. The key of event e, be it an end or a start, is word 2 n + e.
 pub(crate) fn run_events(s: &mut [u64], n: usize, allowance: usize) -> Swept
     requires { ⌜ AtFirst (now s) n ⌝ }
-    ensures { λ r. ⌜ ((a : AtFirst (now (s .entry)) n) → r ≡ sweptOf (within allowance (oriented (a .c) (a .L)))) ⌝ }
+    ensures { λ r. ⌜ ((a : AtFirst (now (s .entry)) n) → r ≡ sweptOf (within allowance (sweep (a .c) (a .L)))) ⌝ }
 {
     let first = s[0] as usize;
     let coordinate = float_of_key(s[2 * n + first]);
@@ -55,7 +37,7 @@ pub(crate) fn run_events(s: &mut [u64], n: usize, allowance: usize) -> Swept
         close_pairs: 0,
         pair_overlap_length: 0.0,
         peak_close_neighbors: 0,
-        minimum_positive: infinity(),
+        minimum_positive: no_gap(),
         previous: coordinate,
         left: allowance,
     };

@@ -14,7 +14,7 @@ use bitset::insert;
 use bitset::remove;
 use floats::float_of_key;
 
-// The Rust's variables, and how many visits are left. The least gap is a float, an infinity where there is none: copies of an enum stalled at each event.
+// The Rust's variables, and how many visits are left. The least gap is a NaN where there is none yet.
 pub(crate) struct Sweeping {
     pub congested_active: usize,
     pub congested_length: f64,

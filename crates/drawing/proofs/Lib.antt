@@ -7,4 +7,5 @@ pub mod ColumnLaws
 pub mod ListOrders
 pub mod Fit
 pub mod GapLaws
+pub mod LeastFloatLaws
 pub mod Examples

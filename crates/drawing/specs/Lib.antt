@@ -8,3 +8,4 @@ pub mod Gaps
 pub mod Held
 -- what only contracts of inner functions cite
 pub mod Lengths
+pub mod LeastFloats

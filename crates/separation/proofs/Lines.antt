@@ -19,7 +19,7 @@ use Rattle.laws.specs.Sort.{Sorted}
 use Rattle.laws.proofs.Tests.{clash, and-left, and-right, and-both, le-or-lt, or-elim, or-left, or-right}
 use Rattle.laws.proofs.ListLaws.{mem-map, map-mem, some-mem, mem-some}
 use Rattle.laws.proofs.RowLaws.{row-more}
-use Rattle.laws.proofs.Differents.{mem-distinct, distinct-rising}
+use Rattle.laws.proofs.Differents.{distinct-mem, mem-distinct, distinct-rising}
 use Rattle.rows.specs.Rows.{Row, words, rowsInOrder}
 use Rattle.separation.specs.Lines.{lines, index, levels}
 use Rattle.separation.specs.Searches.{otherIn}
@@ -66,6 +66,10 @@ lines-rising l s = distinct-rising (map (λ (r : Row). r .line) l) (lines-in-ord
 pub line-mem : (r : Row) (l : List Row) → Mem r l → Mem (r .line) (lines l)
 unfolding lines
 line-mem r l m = mem-distinct (r .line) (map (λ (t : Row). t .line) l) (map-mem (λ (t : Row). t .line) l r m)
+
+pub line-of-row : (p : ℕ) (l : List Row) → Mem p (lines l) → (r : Row) × Mem r l × (p ≡ r .line)
+unfolding lines
+line-of-row p l m = mem-map (λ (t : Row). t .line) l p (distinct-mem p (map (λ (t : Row). t .line) l) m)
 
 -- ---- the index of a value among rising ones
 pub index-past : (q p : ℕ) (l : List ℕ) → q < p → index (q ∷ l) p ≡ suc (index l p)

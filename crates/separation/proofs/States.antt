@@ -12,57 +12,83 @@ use Rattle.drawing.specs.declared.refusal.Refusal.the-variants.{WorkLimitExceed
 use Rattle.drawing.specs.declared.gap.Gap.{Gap}
 use Rattle.drawing.specs.declared.gap.Gap.the-variants.{Present}
 use Rattle.drawing.specs.Gaps.{lesserGap}
+use Rattle.drawing.specs.LeastFloats.{Number, gapOfFloat, leastWith}
+use Rattle.drawing.proofs.LeastFloatLaws.{none-absent, least-joined}
 use Rattle.separation.specs.declared.report.SeparationAnswer.the-variants.{Report, Refused}
 use Rattle.separation.specs.declared.state.Sweeping.{Sweeping}
-use Rattle.separation.specs.declared.state.Swept.{Swept}
-use Rattle.separation.specs.declared.state.Swept.the-variants.{Went, Spent}
+use Rattle.separation.specs.declared.state.Handled.{Handled}
+use Rattle.separation.specs.declared.state.Handled.the-variants.{Went, Spent}
+use Rattle.separation.specs.declared.found.Found.{Found}
+use Rattle.separation.specs.declared.found.Swept.{Swept}
+use Rattle.separation.specs.declared.found.Swept.the-variants.{Went as Done, Spent as Over}
 use Rattle.separation.specs.Figures.{Figures}
-use Rattle.separation.specs.Walk.{lesserFigures, ownLine}
+use Rattle.separation.specs.Walk.{nothing, lesserFigures, ownLine}
 use Rattle.separation.specs.Answer.{accepted}
-use Rattle.separation.specs.States.{metBy, sweptOf, withGap, Answers, tooFew}
+use Rattle.separation.specs.States.{metBy, atStart, outcomeOf, foundBy, sweptOf, withGap, Answers, tooFew}
 use Rattle.separation.proofs.Summaries.{both}
 
--- ---- what the code's answer says of a run
-pub went-is : (o : Outcome Figures) (t : Sweeping) → Went t ≡ sweptOf o → o ≡ left (metBy t) (t .left)
+-- ---- what the code's answer says of a run while the sweep runs
+pub went-on : (r : Handled) (t : Sweeping) (o : Outcome Figures) → r ≡ Went t → outcomeOf r ≡ o → o ≡ left (metBy t) (t .left)
+unfolding outcomeOf
+went-on r t o e h = sym h ∙ ap outcomeOf e
+
+pub stopped : (r : Handled) (o : Outcome Figures) → r ≡ Spent → outcomeOf r ≡ o → o ≡ spent
+unfolding outcomeOf
+stopped r o e h = sym h ∙ ap outcomeOf e
+
+pub stops : (o : Outcome Figures) → o ≡ spent → outcomeOf Spent ≡ o
+unfolding outcomeOf
+stops o e = sym e
+
+pub goes : (t : Sweeping) (o : Outcome Figures) → o ≡ left (metBy t) (t .left) → outcomeOf (Went t) ≡ o
+unfolding outcomeOf
+goes t o e = sym e
+
+-- ---- and of a whole sweep
+pub went-is : (o : Outcome Figures) (t : Found) → Done t ≡ sweptOf o → o ≡ left (foundBy t) (t .left)
 unfolding sweptOf
 went-is spent t e = cc
 went-is (left f m) t e = cc
 
-pub spent-is : (o : Outcome Figures) → Spent ≡ sweptOf o → o ≡ spent
+pub spent-is : (o : Outcome Figures) → Over ≡ sweptOf o → o ≡ spent
 unfolding sweptOf
 spent-is spent e = refl
 spent-is (left f m) e = cc
 
+-- ---- before the first event
+pub start-met : (allowance : ℕ) → metBy (atStart allowance) ≡ nothing
+start-met allowance = λ i. record { least = none-absent i; leastNonzero = none-absent i }
+
 -- ---- another net on the own line
-zero-is : ofBits binary64 0 ≡ plusZero
-unfolding ofBits
+zero-is : gapOfFloat (ofBits binary64 0) ≡ Present plusZero
+unfolding ofBits gapOfFloat
 zero-is = refl
 
-pub own-found : (own : Bool) (f : Figures) → own ≡ true → record { least = Present (ofBits binary64 0); leastNonzero = f .leastNonzero } ≡ ownLine own f
+pub own-found : (own : Bool) (f : Figures) → own ≡ true → record { least = gapOfFloat (ofBits binary64 0); leastNonzero = f .leastNonzero } ≡ ownLine own f
 own-found own f e = rw (e, zero-is) refl
 
 pub own-not : (own : Bool) (f : Figures) → own ≡ false → f ≡ ownLine own f
 own-not own f e = rw e
 
 -- ---- a gap joins both figures
-pub gap-joins : (st : Sweeping) (there here d : Float) (a b : Gap) → d ≡ absOf (sub binary64 there here) → a ≡ lesserGap (st .minimum) (Present d) → b ≡ lesserGap (st .«minimum_positive») (Present d) → record { least = a; leastNonzero = b } ≡ withGap (gapOf there here) (metBy st)
+pub gap-joins : (st : Sweeping) (there here d a b : Float) → d ≡ absOf (sub binary64 there here) → a ≡ leastWith (st .minimum) d → b ≡ leastWith (st .«minimum_positive») d → Number (gapOf there here) → record { least = gapOfFloat a; leastNonzero = gapOfFloat b } ≡ withGap (gapOf there here) (metBy st)
 unfolding lesserFigures gapOf
-gap-joins st there here d a b g x y = λ i. record {
-  least = (x ∙ ap (λ (z : Float). lesserGap (st .minimum) (Present z)) g) i;
-  leastNonzero = (y ∙ ap (λ (z : Float). lesserGap (st .«minimum_positive») (Present z)) g) i;
-}
+gap-joins st there here d a b g x y num = λ i. record { least = joins (st .minimum) a x i; leastNonzero = joins (st .«minimum_positive») b y i }
+  where
+    joins : (least z : Float) → z ≡ leastWith least d → gapOfFloat z ≡ lesserGap (gapOfFloat least) (Present (absOf (sub binary64 there here)))
+    joins least z e = ap gapOfFloat (e ∙ ap (leastWith least) g) ∙ least-joined least (absOf (sub binary64 there here)) num
 
 -- ---- the lesser of each figure
-pub lesser-of : (a b : Sweeping) (x y : Gap) → x ≡ lesserGap (a .minimum) (b .minimum) → y ≡ lesserGap (a .«minimum_positive») (b .«minimum_positive») → record { least = x; leastNonzero = y } ≡ lesserFigures (metBy a) (metBy b)
+pub lesser-of : (a b : Found) (x y : Gap) → x ≡ lesserGap (a .minimum) (b .minimum) → y ≡ lesserGap (a .«minimum_positive») (b .«minimum_positive») → record { least = x; leastNonzero = y } ≡ lesserFigures (foundBy a) (foundBy b)
 unfolding lesserFigures
 lesser-of a b x y e f = λ i. record { least = e i; leastNonzero = f i }
 
 -- ---- the answer
-pub answers-spent : (r : Swept) (allowance : ℕ) → r ≡ Spent → Answers r allowance (Refused WorkLimitExceeded)
+pub answers-spent : (r : Swept) (allowance : ℕ) → r ≡ Over → Answers r allowance (Refused WorkLimitExceeded)
 unfolding reply
 answers-spent r allowance h o e = sym (rw (spent-is o (sym h ∙ e)))
 
-pub answers-went : (r : Swept) (allowance : ℕ) (t : Sweeping) (v : ℕ) → r ≡ Went t → v ≡ allowance - t .left → Answers r allowance (Report (record { minimum = t .minimum; «minimum_positive» = t .«minimum_positive»; visits = v }))
+pub answers-went : (r : Swept) (allowance : ℕ) (t : Found) (v : ℕ) → r ≡ Done t → v ≡ allowance - t .left → Answers r allowance (Report (record { minimum = t .minimum; «minimum_positive» = t .«minimum_positive»; visits = v }))
 unfolding reply
 answers-went r allowance t v h k o e =
     let z : Report (record { minimum = t .minimum; «minimum_positive» = t .«minimum_positive»; visits = allowance - t .left }) ≡ reply accepted (Refused WorkLimitExceeded) allowance o = sym (rw (went-is o t (sym h ∙ e))) in

@@ -1,20 +1,20 @@
 // The answer of a call whose checks passed, from where its walk ended.
 ghost use Rattle.separation.specs.States.{Answers};
+use crate::found::Swept;
 use crate::report::ParallelSeparation;
 use crate::report::SeparationAnswer;
-use crate::state::Swept;
 use drawing::Refusal;
 use drawing::visits_used;
 
 pub fn answer_of(swept: Swept, allowance: usize) -> SeparationAnswer
     ensures { λ r. ⌜ Answers swept allowance r ⌝ }
 {
-    let Swept::Went(state) = swept else {
+    let Swept::Went(found) = swept else {
         return SeparationAnswer::Refused(Refusal::WorkLimitExceeded);
     };
-    let minimum = state.minimum;
-    let positive = state.minimum_positive;
-    let visits = visits_used(allowance, state.left);
+    let minimum = found.minimum;
+    let positive = found.minimum_positive;
+    let visits = visits_used(allowance, found.left);
     SeparationAnswer::Report(ParallelSeparation {
         minimum: minimum,
         minimum_positive: positive,

@@ -18,11 +18,11 @@ use Rattle.rows.proofs.LentRows.{rows-count, rows-few, rows-behind, rows-kept}
 use Rattle.separation.specs.Lines.{lines}
 use Rattle.separation.specs.Walk.{sweep, along}
 use Rattle.separation.proofs.Allowances.{along-few, along-more}
-use Rattle.separation.specs.declared.state.Swept.{Swept}
-use Rattle.separation.specs.declared.state.Swept.the-variants.{Went}
+use Rattle.separation.specs.declared.found.Swept.{Swept}
+use Rattle.separation.specs.declared.found.Swept.the-variants.{Went}
 use Rattle.separation_call.specs.Prepared.{Prepared}
 use Rattle.separation.specs.States.{sweptOf}
-use Rattle.separation_call.specs.Sweeping.{AtTables, AtRows, AtColumns}
+use Rattle.separation_call.specs.Sweeping.{Gapped, AtTables, AtRows, AtColumns}
 
 -- e is what the words behind the first 16 for each segment became when the rows were ordered there
 module _ (s e : List ℕ) (o n : ℕ) (c : SegmentColumns) (a : AtColumns (length s) o c)
@@ -83,9 +83,9 @@ module _ (s e : List ℕ) (o n : ℕ) (c : SegmentColumns) (a : AtColumns (lengt
           let r = a .room in
           let p = a .few in
           let k = count in
-          record { l = l; size = sym count; some = omega arith; few = omega arith; count = tables .1; prepared = tables .0; sorted = oriented-sorted o (segments c); proper = a .proper; room = omega (arith, long) }
+          record { l = l; size = sym count; some = omega arith; few = omega arith; count = tables .1; prepared = tables .0; sorted = oriented-sorted o (segments c); proper = a .proper; gaps = a .gaps; room = omega (arith, long) }
 
       pub more-swept : (allowance : ℕ) (r : Swept) → 2 ≤ n
-          → ((l : List Row) → length l ≡ n → many ≡ length (lines l) → Prepared l u → Sorted rowsInOrder l → ((x : Row) → Mem x l → (x .net < 2 ^ 32) × (x .start < x .end)) → r ≡ sweptOf (within allowance (sweep l)))
+          → ((l : List Row) → length l ≡ n → many ≡ length (lines l) → Prepared l u → Sorted rowsInOrder l → ((x : Row) → Mem x l → (x .net < 2 ^ 32) × (x .start < x .end)) → Gapped (lines l) → r ≡ sweptOf (within allowance (sweep l)))
           → r ≡ sweptOf (within allowance (along l))
-      more-swept allowance r h f = f l (sym count) (tables .1) (tables .0) (oriented-sorted o (segments c)) (a .proper) ∙ ap (λ z. sweptOf (within allowance z)) (sym (along-more l (omega (arith, count))))
+      more-swept allowance r h f = f l (sym count) (tables .1) (tables .0) (oriented-sorted o (segments c)) (a .proper) (a .gaps) ∙ ap (λ z. sweptOf (within allowance z)) (sym (along-more l (omega (arith, count))))

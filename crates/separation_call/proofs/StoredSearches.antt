@@ -9,14 +9,16 @@ use native.Mathlib.Nat.{pow-succ'}
 use native.Mathlib.Omega.{arith}
 use lib.Dec.{ltb}
 use lib.Pow.{pow-pos}
-use Rattle.laws.specs.Charged.{Charged}
+use Rattle.laws.specs.Charged.{Charged, free, visit}
 use Rattle.laws.specs.Allowance.{Outcome, spent, left, within}
+use Rattle.laws.proofs.Runs.{within-free, visit-spent, visit-paid}
+use Rattle.separation.specs.declared.search.OtherNet.the-variants.{Known, Spent as Unpaid}
 use Rattle.separation.specs.declared.search.Search.{Search}
 use Rattle.separation.specs.declared.search.Search.the-variants.{Found, Empty, Spent}
 use Rattle.separation.specs.Searches.{leaf, node, rightmost, leftmost, searchOf}
 use Rattle.separation.specs.Summaries.{hasOther}
 use Rattle.separation.proofs.Allowances.{answer-spent, answer-found, answer-empty, leaf-spent, leaf-found, empty-paid, node-spent, first-spent, first-found, first-empty}
-use Rattle.separation_call.specs.ActiveTree.{summaryAt}
+use Rattle.separation_call.specs.ActiveTree.{summaryAt, otherNetOf}
 
 -- ---- an answer tells what the run came to
 pub was-spent : (o : Outcome (Option ℕ)) → Spent ≡ searchOf o → o ≡ spent
@@ -41,6 +43,17 @@ was-empty (left none r) m e = cc
 pub paid-before : (m : ℕ) → (m ≡ 0 → ⊥) → m ≡ suc (m - 1)
 paid-before m p = omega arith
 
+-- ---- `has_other_at` costs one visit
+module _ (m : ℕ) (b : Bool) where
+  pub other-unpaid : m ≡ 0 → Unpaid ≡ otherNetOf (within m (visit (free b)))
+  unfolding otherNetOf
+  other-unpaid e = sym (rw e (ap otherNetOf (visit-spent (free b))))
+
+  pub other-known : (m ≡ 0 → ⊥) → (other : Bool) → other ≡ b → Known other (m - 1) ≡ otherNetOf (within m (visit (free b)))
+  unfolding otherNetOf
+  other-known p other e = ap (λ (t : Bool). Known t (m - 1)) e ∙ sym (ap otherNetOf (ap (λ (z : ℕ). within z (visit (free b))) (paid-before m p) ∙ visit-paid (m - 1) (free b) ∙ within-free (m - 1) b))
+
+-- ---- a search goes on
 paid : (m : ℕ) → (m ≡ 0 → ⊥) → (run : Charged (Option ℕ)) (r : Search) → r ≡ searchOf (within (suc (m - 1)) run) → r ≡ searchOf (within m run)
 paid m p run r e = e ∙ ap (λ (z : ℕ). searchOf (within z run)) (sym (paid-before m p))
 

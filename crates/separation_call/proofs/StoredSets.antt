@@ -16,22 +16,22 @@ use Rattle.separation.specs.declared.summary.NetSummary.{NetSummary}
 use Rattle.separation.specs.Searches.{setRun}
 use Rattle.separation.specs.Summaries.{hasOther, summaryOfWord}
 use Rattle.separation.proofs.Allowances.{set-spent, set-last, set-more}
-use Rattle.separation.specs.declared.search.Charge.the-variants.{Paid, Short}
+use Rattle.separation.specs.declared.search.Charge.the-variants.{Paid, Spent}
 use Rattle.separation_call.specs.ActiveTree.{summaryAt, chargeOf, Leaves, Renewed}
 use Rattle.separation_call.proofs.StoredSearches.{paid-before}
 use Rattle.separation_call.proofs.Trees.{Merging, merging-begins, merging-goes-on, merging-ends}
 
 -- ---- what a charge tells
-charge-short : chargeOf spent ≡ Short
+charge-spent : chargeOf spent ≡ Spent
 unfolding chargeOf
-charge-short = refl
+charge-spent = refl
 
 charge-paid : (m : ℕ) → chargeOf (left tt m) ≡ Paid m
 unfolding chargeOf
 charge-paid m = refl
 
-pub short-not-paid : (m : ℕ) → Short ≡ Paid m → ⊥
-short-not-paid m e = let z : _≡_ {A = ℕ} 0 1 = cc in omega arith
+pub spent-not-paid : (m : ℕ) → Spent ≡ Paid m → ⊥
+spent-not-paid m e = let z : _≡_ {A = ℕ} 0 1 = cc in omega arith
 
 -- a power tells its exponent
 same-height : (g h : ℕ) → 2 ^ g ≡ 2 ^ h → g ≡ h
@@ -66,8 +66,8 @@ pub record Setting (leaves m : ℕ) (start : List ℕ) (first : ℕ) (t : List �
   pub merging : (ls : List ℕ) (new : List Row) → Merging ls new (summaryAt start) height first → Merging ls new (summaryAt t) height c
 
 -- nothing is left at the leaf
-pub set-stops : (m : ℕ) → m ≡ 0 → (H : ℕ) → Short ≡ chargeOf (within m (setRun H))
-set-stops m z H = rw (z, set-spent H) (sym charge-short)
+pub set-stops : (m : ℕ) → m ≡ 0 → (H : ℕ) → Spent ≡ chargeOf (within m (setRun H))
+set-stops m z H = rw (z, set-spent H) (sym charge-spent)
 
 -- the leaf is paid and written
 pub setting-begins : (leaves m : ℕ) (t : List ℕ) (i w : ℕ) → Leaves t leaves → i < leaves → (m ≡ 0 → ⊥) → Setting leaves m (set t (leaves + i) w) ((leaves + i) / 2) (set t (leaves + i) w) (m - 1) ((leaves + i) / 2)
@@ -88,11 +88,11 @@ module _ {leaves m : ℕ} {start : List ℕ} {first : ℕ} {t : List ℕ} {rest 
   same H e = same-height (s .height) H (sym (s .count) ∙ e)
 
   -- nothing is left at a node above the leaf
-  pub setting-stops : (c ≡ 0 → ⊥) → rest ≡ 0 → (H : ℕ) → leaves ≡ 2 ^ H → Short ≡ chargeOf (within m (setRun H))
+  pub setting-stops : (c ≡ 0 → ⊥) → rest ≡ 0 → (H : ℕ) → leaves ≡ 2 ^ H → Spent ≡ chargeOf (within m (setRun H))
   setting-stops n z H e =
       let w = way-on (s .above) c n (s .way) in
       let spends : within m (setRun H) ≡ spent = rw (sym (same H e)) (s .charged ∙ rw (z, w .1) (set-more 0 (w .0) ∙ set-spent (w .0))) in
-      rw spends (sym charge-short)
+      rw spends (sym charge-spent)
 
   -- a node is paid and merged anew
   pub setting-goes-on : (c ≡ 0 → ⊥) → (rest ≡ 0 → ⊥) → (w : ℕ) → ((n : ℕ) → hasOther (summaryOfWord w) n ≡ (hasOther (summaryAt t (2 * c)) n || hasOther (summaryAt t (2 * c + 1)) n)) → Setting leaves m start first (set t c w) (rest - 1) (c / 2)

@@ -23,11 +23,13 @@ use Rattle.separation.specs.Walk.{nothing, Sweep, remove, startsAt, endsAt, ste
 use Rattle.separation.proofs.Allowances.{sweep-within}
 use Rattle.separation.proofs.Sweeps.{State, begin, after-start, after-end, is-active}
 use Rattle.separation.specs.declared.state.Sweeping.{Sweeping}
-use Rattle.separation.specs.declared.state.Swept.{Swept}
-use Rattle.separation.specs.declared.state.Swept.the-variants.{Went, Spent}
-use Rattle.separation.specs.States.{metBy, sweptOf}
+use Rattle.separation.specs.declared.state.Handled.{Handled}
+use Rattle.separation.specs.declared.state.Handled.the-variants.{Went, Spent}
+use Rattle.separation.specs.declared.found.Found.{Found}
+use Rattle.separation.specs.declared.found.Swept.the-variants.{Went as Done, Spent as Over}
+use Rattle.separation.specs.States.{metBy, atStart, outcomeOf, foundIn, sweptOf}
 use Rattle.separation_call.specs.Sweeping.{Ready, AtStart, AtEnd, AtEvent, AtFirst, figuresOf, Begins, Finishes, Handles}
-use Rattle.separation.proofs.States.{went-is, spent-is}
+use Rattle.separation.proofs.States.{went-on, stopped, start-met}
 use Rattle.separation_call.proofs.SweepRun.{front-word, start-active, end-active}
 
 -- ---- an event by its number
@@ -52,10 +54,10 @@ module _ (s : List ℕ) (n leaves e : ℕ) where
   pub event-starts : AtEvent s n leaves e → n ≤ e → AtStart s n leaves (e - n)
   event-starts a h = record { l = a .l; F = a .F; H = a .H; b = a .b; active = a .active; size = a .size; count = a .count; ready = a .ready; inside = let g = a .inside in omega arith; early = a .early }
 
-  module _ (t : List ℕ) (st : Sweeping) (r : Swept) where
+  module _ (t : List ℕ) (st : Sweeping) (r : Handled) where
     -- a step that is known by its event
     abbrev Step : List Row → List ℕ → ℕ → ℕ → Charged Sweep → Type 0
-    Step l F H b c = (r ≡ sweptOf (figuresOf (within (st .left) c))) × ((to : Sweeping) → r ≡ Went to → Ready l F H (b + 1) (c .value .active) t)
+    Step l F H b c = (outcomeOf r ≡ figuresOf (within (st .left) c)) × ((to : Sweeping) → r ≡ Went to → Ready l F H (b + 1) (c .value .active) t)
 
     pub handles-end : e < n → Finishes s t n leaves e st r → Handles s t n leaves e st r
     handles-end h f l F H b active size count ready there =
@@ -92,14 +94,14 @@ module _ (l : List Row) (F : List ℕ) (H allowance : ℕ) where
     pub below : q ≤ 2 * length l
     pub onwards : Onwards (step (lines l) H) whole (drop q (events l)) (record { active = active; met = metBy st }) (st .left)
 
-  pub going-none : (st : Sweeping) (s : List ℕ) → Ready l F H 0 [] s → ((r : Row) → Mem r l → r .start < r .end) → metBy st ≡ nothing → st .left ≡ allowance → Going st s 0
-  going-none st s ready proper e k = record {
+  pub going-none : (st : Sweeping) (s : List ℕ) → Ready l F H 0 [] s → ((r : Row) → Mem r l → r .start < r .end) → st ≡ atStart allowance → Going st s 0
+  going-none st s ready proper e = record {
     active = [];
     ready = ready;
     proper = proper;
     state = begin l;
     below = omega arith;
-    onwards = record { come = λ i. within (k i) (runs (step (lines l) H) (record { active = []; met = e i }) (events l)) };
+    onwards = record { come = λ i. within (e i .left) (runs (step (lines l) H) (record { active = []; met = (ap metBy e ∙ start-met allowance) i }) (events l)) };
   }
 
   module _ (st : Sweeping) (s : List ℕ) (q : ℕ) (g : Going st s q) where
@@ -151,16 +153,16 @@ module _ (l : List Row) (F : List ℕ) (H allowance : ℕ) where
             subst (λ (z : List Row). State l z (drop (q + 1) (events l))) (sym a) (after-start l (g .proper) (g .active) j (rowFrom l j) (drop (q + 1) (events l)) (subst (λ (z : Event). State l (g .active) (z ∷ drop (q + 1) (events l))) e now-state))
       ]
 
-      module _ (r : Swept) (t : List ℕ) (e : r ≡ sweptOf (figuresOf (within (st .left) c))) (k : (to : Sweeping) → r ≡ Went to → Ready l F H (q + 1) (c .value .active) t) where
-        pub going-stops : r ≡ Spent → Spent ≡ sweptOf all
+      module _ (r : Handled) (t : List ℕ) (e : outcomeOf r ≡ figuresOf (within (st .left) c)) (k : (to : Sweeping) → r ≡ Went to → Ready l F H (q + 1) (c .value .active) t) where
+        pub going-stops : r ≡ Spent → Over ≡ sweptOf all
         unfolding sweptOf
         going-stops x =
-            let z = read-spent (λ (a : Sweep). a .met) (st .left) c (spent-is (figuresOf (within (st .left) c)) (sym x ∙ e)) in
+            let z = read-spent (λ (a : Sweep). a .met) (st .left) c (stopped r (figuresOf (within (st .left) c)) x e) in
             sym (ap sweptOf (ap figuresOf (loop-stops (g .onwards) next-is z) ∙ onward-spent (λ t m. left (t .met) m)))
 
         pub going-next : (to : Sweeping) → r ≡ Went to → Going to t (q + 1)
         going-next to x =
-            let z = read-left (λ (a : Sweep). a .met) (st .left) c (metBy to) (to .left) (went-is (figuresOf (within (st .left) c)) to (sym x ∙ e)) in
+            let z = read-left (λ (a : Sweep). a .met) (st .left) c (metBy to) (to .left) (went-on r to (figuresOf (within (st .left) c)) x e) in
             record {
               active = c .value .active;
               ready = k to x;
@@ -170,11 +172,11 @@ module _ (l : List Row) (F : List ℕ) (H allowance : ℕ) where
               onwards = loop-next (g .onwards) next-is (z .0 ∙ (λ i. left (record { active = c .value .active; met = z .1 i }) (to .left)));
             }
 
-    pub going-all : 2 * length l ≤ q → Went st ≡ sweptOf all
+    pub going-all : 2 * length l ≤ q → (f : Found) → f ≡ foundIn st → Done f ≡ sweptOf all
     unfolding sweptOf
-    going-all h =
+    going-all h f k =
         let e = told-none 0 (eventFrom l) (2 * length l) F enough (events l) (g .ready .prepared .ordered) q h in
-        sym (ap sweptOf (ap figuresOf (loop-ends (g .onwards) e) ∙ onward-left (record { active = g .active; met = metBy st }) (st .left) (λ t m. left (t .met) m)))
+        ap Done k ∙ sym (ap sweptOf (ap figuresOf (loop-ends (g .onwards) e) ∙ onward-left (record { active = g .active; met = metBy st }) (st .left) (λ t m. left (t .met) m)))
 
   -- all events are the sweep
   pub swept-all : H ≡ levels (length (lines l)) → sweptOf all ≡ sweptOf (within allowance (sweep l))
@@ -213,12 +215,12 @@ module _ (n leaves allowance : ℕ) (s₀ : List ℕ) where
         there = λ k. ends-active l (x .1) (x .2) allowance st s q o h (omega arith);
       })
 
-  module _ (st : Sweeping) (s : List ℕ) (q : ℕ) (g : Runs st s q) (less : q < 2 * n) (number : ℕ) (read : number ≡ getD s q 0) (r : Swept) (t : List ℕ) (f : Handles s t n leaves number st r) where
+  module _ (st : Sweeping) (s : List ℕ) (q : ℕ) (g : Runs st s q) (less : q < 2 * n) (number : ℕ) (read : number ≡ getD s q 0) (r : Handled) (t : List ℕ) (f : Handles s t n leaves number st r) where
     module _ (l : List Row) (F : List ℕ) (H : ℕ) (size : length l ≡ n) (count : leaves ≡ 2 ^ H) (o : Going l F H allowance st s q) where
       less-rows : q < 2 * length l
       less-rows = omega arith
 
-      handled : let c = step (lines l) H (record { active = o .active; met = metBy st }) (eventFrom l (getD s q 0)) in (r ≡ sweptOf (figuresOf (within (st .left) c))) × ((to : Sweeping) → r ≡ Went to → Ready l F H (q + 1) (c .value .active) t)
+      handled : let c = step (lines l) H (record { active = o .active; met = metBy st }) (eventFrom l (getD s q 0)) in (outcomeOf r ≡ figuresOf (within (st .left) c)) × ((to : Sweeping) → r ≡ Went to → Ready l F H (q + 1) (c .value .active) t)
       handled = subst (λ (k : ℕ). Handles s t n leaves k st r) read f l F H q (o .active) size count (o .ready) (λ k. ends-active l F H allowance st s q o less-rows (omega arith))
 
     pub run-next : (to : Sweeping) → r ≡ Went to → Runs to t (q + 1)
@@ -227,11 +229,11 @@ module _ (n leaves allowance : ℕ) (s₀ : List ℕ) where
         let k = handled l F H size count o in
         going-next l F H allowance st s q o (less-rows l F H size count o) r t (k .0) (k .1) to e
 
-    pub run-stops : r ≡ Spent → (l : List Row) (F : List ℕ) (H : ℕ) → length l ≡ n → leaves ≡ 2 ^ H → Ready l F H 0 [] s₀ → ((a : Row) → Mem a l → a .start < a .end) → H ≡ levels (length (lines l)) → Spent ≡ sweptOf (within allowance (sweep l))
+    pub run-stops : r ≡ Spent → (l : List Row) (F : List ℕ) (H : ℕ) → length l ≡ n → leaves ≡ 2 ^ H → Ready l F H 0 [] s₀ → ((a : Row) → Mem a l → a .start < a .end) → H ≡ levels (length (lines l)) → Over ≡ sweptOf (within allowance (sweep l))
     run-stops e l F H size count ready proper h =
         let o = g l F H size count ready proper in
         let k = handled l F H size count o in
         going-stops l F H allowance st s q o (less-rows l F H size count o) r t (k .0) (k .1) e ∙ swept-all l F H allowance h
 
-  pub run-all : (st : Sweeping) (s : List ℕ) (q : ℕ) → Runs st s q → 2 * n ≤ q → (l : List Row) (F : List ℕ) (H : ℕ) → length l ≡ n → leaves ≡ 2 ^ H → Ready l F H 0 [] s₀ → ((a : Row) → Mem a l → a .start < a .end) → H ≡ levels (length (lines l)) → Went st ≡ sweptOf (within allowance (sweep l))
-  run-all st s q g less l F H size count ready proper h = going-all l F H allowance st s q (g l F H size count ready proper) (omega arith) ∙ swept-all l F H allowance h
+  pub run-all : (st : Sweeping) (s : List ℕ) (q : ℕ) → Runs st s q → 2 * n ≤ q → (f : Found) → f ≡ foundIn st → (l : List Row) (F : List ℕ) (H : ℕ) → length l ≡ n → leaves ≡ 2 ^ H → Ready l F H 0 [] s₀ → ((a : Row) → Mem a l → a .start < a .end) → H ≡ levels (length (lines l)) → Done f ≡ sweptOf (within allowance (sweep l))
+  run-all st s q g less f k l F H size count ready proper h = going-all l F H allowance st s q (g l F H size count ready proper) (omega arith) f k ∙ swept-all l F H allowance h

@@ -24,14 +24,14 @@ use Rattle.separation.proofs.Lines.{lines-rising, line-mem, index-lt, at-index}
 use Rattle.separation.proofs.Allowances.{end-within}
 use Rattle.separation.proofs.ActiveRows.{remove-mem}
 use Rattle.separation.specs.declared.state.Sweeping.{Sweeping}
-use Rattle.separation.specs.declared.state.Swept.{Swept}
-use Rattle.separation.specs.declared.state.Swept.the-variants.{Went, Spent}
+use Rattle.separation.specs.declared.state.Handled.{Handled}
+use Rattle.separation.specs.declared.state.Handled.the-variants.{Went, Spent}
 use Rattle.separation_call.specs.ActiveTree.{summaryAt, Leaves, Covers}
-use Rattle.separation.specs.States.{metBy, sweptOf}
+use Rattle.separation.specs.States.{metBy, outcomeOf}
 use Rattle.separation_call.specs.Sweeping.{Lookable, Lined, Looks, Working, At, Enterable, Leavable, Pays, Entered, TakenOut, Ready, AtStart, figuresOf, Begins, Finishes}
 use Rattle.separation_call.proofs.ActiveNets.{countable, endable}
 use Rattle.separation_call.proofs.LineNumbering.{lines-few}
-use Rattle.separation.proofs.States.{went-is, spent-is}
+use Rattle.separation.proofs.States.{went-on, stopped, stops}
 
 -- ---- what the scratch holds
 module _ (l : List Row) (F : List ℕ) (H b : ℕ) (active : List Row) (s : List ℕ) (ready : Ready l F H b active s) where
@@ -83,6 +83,7 @@ module _ (l : List Row) (F : List ℕ) (H b : ℕ) (active : List Row) (s : List
       there = omega (arith, line-word, line-small);
       value = ap (λ (i : ℕ). getD ls i 0) line-word ∙ at-index ls (rowFrom l j .line) (lines-rising l (ready .sorted)) (line-mem (rowFrom l j) l row-in);
       of = sym net-word;
+      gaps = ready .gaps;
     }
 
   fixed-values : take (length ls) (drop (6 * n) s) ≡ ls
@@ -144,9 +145,10 @@ module _ (l : List Row) (F : List ℕ) (H b : ℕ) (active : List Row) (s : List
       few = ready .few;
       room = omega (arith, ready .room);
       from = within-rows;
+      gaps = ready .gaps;
     }
 
-    module _ (leaves j : ℕ) (count : leaves ≡ 2 ^ H) (inside : j < n) (r : Swept) (to : Sweeping) (went : r ≡ Went to) where
+    module _ (leaves j : ℕ) (count : leaves ≡ 2 ^ H) (inside : j < n) (r : Handled) (to : Sweeping) (went : r ≡ Went to) where
       lent-work : Working n b ls H lineOf netOf slotOf active (take (length s - 9 * n) (drop (9 * n) s))
       lent-work = subst (Working n b ls H lineOf netOf slotOf active) (sym (tail-lent (9 * n) s)) (ready .working)
 
@@ -184,21 +186,19 @@ module _ (ls : List ℕ) (H : ℕ) (active : List Row) (st : Sweeping) (x : Row)
   unfolding endsAt
   end-active = refl
 
-  module _ (swept : Swept) (looked : swept ≡ sweptOf (within (st .left) (looking ls H active (metBy st) x))) where
-    start-stops : swept ≡ Spent → Spent ≡ sweptOf (figuresOf (within (st .left) (startsAt ls H here x)))
-    unfolding sweptOf
+  module _ (looked-at : Handled) (looked : outcomeOf looked-at ≡ within (st .left) (looking ls H active (metBy st) x)) where
+    start-stops : looked-at ≡ Spent → outcomeOf Spent ≡ figuresOf (within (st .left) (startsAt ls H here x))
     start-stops e =
-        let z : onward (within (st .left) (looking ls H active (metBy st) x)) (λ f r. onward (within r (setRun H)) (λ done r. left f r)) ≡ spent = rw (spent-is (within (st .left) (looking ls H active (metBy st) x)) (sym e ∙ looked)) (onward-spent (λ f r. onward (within r (setRun H)) (λ done r. left f r))) in
-        sym (ap sweptOf (start-figures ∙ z))
+        let z : onward (within (st .left) (looking ls H active (metBy st) x)) (λ f r. onward (within r (setRun H)) (λ done r. left f r)) ≡ spent = rw (stopped looked-at (within (st .left) (looking ls H active (metBy st) x)) e looked) (onward-spent (λ f r. onward (within r (setRun H)) (λ done r. left f r))) in
+        stops _ (start-figures ∙ z)
 
-    start-goes : (seen : Sweeping) (r : Swept) → swept ≡ Went seen → r ≡ sweptOf (onward (within (seen .left) (setRun H)) (λ done m. left (metBy seen) m)) → r ≡ sweptOf (figuresOf (within (st .left) (startsAt ls H here x)))
+    start-goes : (seen : Sweeping) (r : Handled) → looked-at ≡ Went seen → outcomeOf r ≡ onward (within (seen .left) (setRun H)) (λ done m. left (metBy seen) m) → outcomeOf r ≡ figuresOf (within (st .left) (startsAt ls H here x))
     start-goes seen r e g =
-        let z : onward (within (st .left) (looking ls H active (metBy st) x)) (λ f r. onward (within r (setRun H)) (λ done r. left f r)) ≡ onward (within (seen .left) (setRun H)) (λ done m. left (metBy seen) m) = rw (went-is (within (st .left) (looking ls H active (metBy st) x)) seen (sym e ∙ looked)) (onward-left (metBy seen) (seen .left) (λ f r. onward (within r (setRun H)) (λ done r. left f r))) in
-        g ∙ ap sweptOf (sym (start-figures ∙ z))
+        let z : onward (within (st .left) (looking ls H active (metBy st) x)) (λ f r. onward (within r (setRun H)) (λ done r. left f r)) ≡ onward (within (seen .left) (setRun H)) (λ done m. left (metBy seen) m) = rw (went-on looked-at seen (within (st .left) (looking ls H active (metBy st) x)) e looked) (onward-left (metBy seen) (seen .left) (λ f r. onward (within r (setRun H)) (λ done r. left f r))) in
+        g ∙ sym (start-figures ∙ z)
 
-  end-goes : (r : Swept) → r ≡ sweptOf (onward (within (st .left) (setRun H)) (λ done m. left (metBy st) m)) → r ≡ sweptOf (figuresOf (within (st .left) (endsAt H here x)))
-  end-goes r g =
-      g ∙ ap sweptOf (sym (ap figuresOf (end-within H (st .left) here x) ∙ flatten active st x (within (st .left) (setRun H))))
+  end-goes : (r : Handled) → outcomeOf r ≡ onward (within (st .left) (setRun H)) (λ done m. left (metBy st) m) → outcomeOf r ≡ figuresOf (within (st .left) (endsAt H here x))
+  end-goes r g = g ∙ sym (ap figuresOf (end-within H (st .left) here x) ∙ flatten active st x (within (st .left) (setRun H)))
 
 never : (to : Sweeping) → Spent ≡ Went to → ⊥
 never to e = let z : _≡_ {A = ℕ} 0 1 = cc in omega arith
@@ -213,13 +213,13 @@ back-length a s e h k =
     let g = ap length (tail-back a s e h) ∙ length-append (take a s) e in
     omega (arith, length-take-le a s h, ap length (tail-lent a s), length-drop a s)
 
-abbrev LookedAt : ℕ → List ℕ → ℕ → ℕ → Sweeping → Swept → Type 0
-LookedAt n s leaves j st swept = Looks (tail (12 * n) s) (tail (6 * n) s) leaves (getD s (4 * n + j) 0) (getD s (5 * n + j) 0) st swept
+abbrev LookedAt : ℕ → List ℕ → ℕ → ℕ → Sweeping → Handled → Type 0
+LookedAt n s leaves j st looked-at = Looks (tail (12 * n) s) (tail (6 * n) s) leaves (getD s (4 * n + j) 0) (getD s (5 * n + j) 0) st looked-at
 
 module _ (s : List ℕ) (leaves j : ℕ) (st : Sweeping) where
   module _ (l : List Row) (F : List ℕ) (H b : ℕ) (active : List Row) (count : leaves ≡ 2 ^ H) (ready : Ready l F H b active s) where
-    look-is : (swept : Swept) → j < length l → LookedAt (length l) s leaves j st swept → swept ≡ sweptOf (within (st .left) (looking (lines l) H active (metBy st) (rowFrom l j)))
-    look-is swept h f =
+    look-is : (looked-at : Handled) → j < length l → LookedAt (length l) s leaves j st looked-at → outcomeOf looked-at ≡ within (st .left) (looking (lines l) H active (metBy st) (rowFrom l j))
+    look-is looked-at h f =
         let n = length l in
         f (lines l) H active (rowFrom l j) count
         (subst (λ (t : List ℕ). Covers (lines l) active (summaryAt t) H) (tree-from l F H b active s ready ∙ sym (tail-lent (12 * n) s)) (ready .working .covers))
@@ -230,25 +230,25 @@ module _ (s : List ℕ) (leaves j : ℕ) (st : Sweeping) where
     first-of a h (inr m) = ready .from a m
 
   -- the look was not paid for
-  pub begins-not : (n : ℕ) (swept : Swept) (t : List ℕ) → j < n → LookedAt n s leaves j st swept → swept ≡ Spent → Begins s t n leaves j st Spent
-  begins-not n swept t h f e l F H b active size count ready =
-      let looked = subst (λ (m : ℕ). j < m → LookedAt m s leaves j st swept → swept ≡ sweptOf (within (st .left) (looking (lines l) H active (metBy st) (rowFrom l j)))) size (look-is l F H b active count ready swept) h f in
-      (start-stops (lines l) H active st (rowFrom l j) swept looked e, λ to g. absurd (never to g))
+  pub begins-not : (n : ℕ) (looked-at : Handled) (t : List ℕ) → j < n → LookedAt n s leaves j st looked-at → looked-at ≡ Spent → Begins s t n leaves j st Spent
+  begins-not n looked-at t h f e l F H b active size count ready =
+      let looked = subst (λ (m : ℕ). j < m → LookedAt m s leaves j st looked-at → outcomeOf looked-at ≡ within (st .left) (looking (lines l) H active (metBy st) (rowFrom l j))) size (look-is l F H b active count ready looked-at) h f in
+      (start-stops (lines l) H active st (rowFrom l j) looked-at looked e, λ to g. absurd (never to g))
 
-  pub begins : (n : ℕ) (swept r : Swept) (seen : Sweeping) (e : List ℕ) → j < n → LookedAt n s leaves j st swept → swept ≡ Went seen → Pays leaves seen r
+  pub begins : (n : ℕ) (looked-at r : Handled) (seen : Sweeping) (e : List ℕ) → j < n → LookedAt n s leaves j st looked-at → looked-at ≡ Went seen → Pays leaves seen r
       → Entered n leaves (getD s (7 * n + j) 0) (getD s (4 * n + j) 0) (getD s (5 * n + j) 0) (tail (9 * n) s) e r → length e ≡ length (tail (9 * n) s)
       → Begins s (putMid (9 * n) (length s - 9 * n) s e) n leaves j st r
-  begins n swept r seen e h f went pays entered long l F H b active size count ready =
+  begins n looked-at r seen e h f went pays entered long l F H b active size count ready =
       subst Then size (λ h f entered long. (
-        start-goes (lines l) H active st (rowFrom l j) swept (look-is l F H b active count ready swept h f) seen r went (pays H count),
+        start-goes (lines l) H active st (rowFrom l j) looked-at (look-is l F H b active count ready looked-at h f) seen r went (pays H count),
         λ to g. after-enter l F H b active s ready (putMid (9 * length l) (length s - 9 * length l) s e) e refl (back-length (9 * length l) s e (omega (arith, ready .room)) long) (rowFrom l j ∷ active) (λ a m. first-of l F H b active count ready a h m) leaves j count h r to g refl entered,
       )) h f entered long
     where
       Then : ℕ → Type 0
-      Then n = j < n → LookedAt n s leaves j st swept → Entered n leaves (getD s (7 * n + j) 0) (getD s (4 * n + j) 0) (getD s (5 * n + j) 0) (tail (9 * n) s) e r → length e ≡ length (tail (9 * n) s)
-          → (r ≡ sweptOf (figuresOf (within (st .left) (startsAt (lines l) H (record { active = active; met = metBy st }) (rowFrom l j))))) × ((to : Sweeping) → r ≡ Went to → Ready l F H (b + 1) (rowFrom l j ∷ active) (putMid (9 * n) (length s - 9 * n) s e))
+      Then n = j < n → LookedAt n s leaves j st looked-at → Entered n leaves (getD s (7 * n + j) 0) (getD s (4 * n + j) 0) (getD s (5 * n + j) 0) (tail (9 * n) s) e r → length e ≡ length (tail (9 * n) s)
+          → (outcomeOf r ≡ figuresOf (within (st .left) (startsAt (lines l) H (record { active = active; met = metBy st }) (rowFrom l j)))) × ((to : Sweeping) → r ≡ Went to → Ready l F H (b + 1) (rowFrom l j ∷ active) (putMid (9 * n) (length s - 9 * n) s e))
 
-  pub finishes : (n : ℕ) (r : Swept) (e : List ℕ) → j < n → Pays leaves st r
+  pub finishes : (n : ℕ) (r : Handled) (e : List ℕ) → j < n → Pays leaves st r
       → TakenOut n leaves (getD s (7 * n + j) 0) (getD s (4 * n + j) 0) (getD s (5 * n + j) 0) (tail (9 * n) s) e r → length e ≡ length (tail (9 * n) s)
       → Finishes s (putMid (9 * n) (length s - 9 * n) s e) n leaves j st r
   finishes n r e h pays taken long l F H b active size count ready there =
@@ -259,7 +259,7 @@ module _ (s : List ℕ) (leaves j : ℕ) (st : Sweeping) where
     where
       Then : ℕ → Type 0
       Then n = j < n → TakenOut n leaves (getD s (7 * n + j) 0) (getD s (4 * n + j) 0) (getD s (5 * n + j) 0) (tail (9 * n) s) e r → length e ≡ length (tail (9 * n) s)
-          → (r ≡ sweptOf (figuresOf (within (st .left) (endsAt H (record { active = active; met = metBy st }) (rowFrom l j))))) × ((to : Sweeping) → r ≡ Went to → Ready l F H (b + 1) (remove (rowFrom l j) active) (putMid (9 * n) (length s - 9 * n) s e))
+          → (outcomeOf r ≡ figuresOf (within (st .left) (endsAt H (record { active = active; met = metBy st }) (rowFrom l j)))) × ((to : Sweeping) → r ≡ Went to → Ready l F H (b + 1) (remove (rowFrom l j) active) (putMid (9 * n) (length s - 9 * n) s e))
 
 -- ---- what the calls ask for
 module _ (s : List ℕ) (n leaves j : ℕ) (a : AtStart s n leaves j) where

@@ -3,7 +3,7 @@ use mathlib.Core.Path.{_≡_, refl, sym, ap, _∙_}
 use mathlib.Core.Bool.{Bool, true, false, _&&_}
 use mathlib.Core.List.{List}
 use mathlib.Core.Option.{Option, none, some}
-use Prim.Native.Nat.{ℕ, zero, suc, _+_, _-_, _*_, _^_, _≤_, _<_}
+use Prim.Native.Nat.{ℕ, zero, suc, _+_, _*_, _^_, _≤_, _<_}
 use native.Mathlib.Nat.{pow-succ'}
 use native.Mathlib.Omega.{arith}
 use lib.Dec.{ltb}
@@ -12,9 +12,11 @@ use lib.ListN.{length, getD, take}
 use lib.Seq.{getD-take}
 use Rattle.laws.specs.Charged.{Charged, free, visit, after}
 use Rattle.laws.specs.Allowance.{Outcome, spent, left, within, onward}
-use Rattle.laws.proofs.Runs.{within-free, within-after, within-left, visit-spent, visit-paid, onward-spent, onward-left}
+use Rattle.laws.proofs.Places.{at-mem}
+use Rattle.laws.proofs.Runs.{within-free, within-after, within-left, onward-spent, onward-left}
 use Rattle.floats.specs.Values.{gapOf}
 use Rattle.floats.specs.TotalOrder.{floatAt}
+use Rattle.drawing.specs.LeastFloats.{Number}
 use Rattle.rows.specs.Rows.{Row}
 use Rattle.separation.specs.declared.search.Search.{Search}
 use Rattle.separation.specs.declared.search.Search.the-variants.{Found, Empty, Spent as Over}
@@ -25,38 +27,38 @@ use Rattle.separation.specs.Summaries.{hasOther}
 use Rattle.separation.specs.Walk.{ownLine, otherLine, looking}
 use Rattle.separation.proofs.Lines.{other→, other-widen}
 use Rattle.separation.proofs.Searches.{Best, In, Below, From, right-best, left-best}
-use Rattle.separation.proofs.States.{went-is, spent-is}
+use Rattle.separation.proofs.States.{went-on, stopped, stops, goes}
+use Rattle.separation.specs.declared.search.OtherNet.{OtherNet}
+use Rattle.separation.specs.declared.search.OtherNet.the-variants.{Known, Spent as Unpaid}
 use Rattle.separation.specs.declared.search.Charge.{Charge}
-use Rattle.separation.specs.declared.search.Charge.the-variants.{Paid, Short}
+use Rattle.separation.specs.declared.search.Charge.the-variants.{Paid, Spent as Unset}
 use Rattle.separation.specs.declared.state.Sweeping.{Sweeping}
-use Rattle.separation.specs.declared.state.Swept.{Swept}
-use Rattle.separation.specs.declared.state.Swept.the-variants.{Went, Spent}
-use Rattle.separation_call.specs.ActiveTree.{summaryAt, chargeOf, Covers}
-use Rattle.separation.specs.States.{metBy, sweptOf, withGap, chargedTo}
-use Rattle.separation_call.specs.Sweeping.{WithinLines, joined, Lined}
+use Rattle.separation.specs.declared.state.Handled.{Handled}
+use Rattle.separation.specs.declared.state.Handled.the-variants.{Went, Spent}
+use Rattle.separation_call.specs.ActiveTree.{summaryAt, otherNetOf, chargeOf, Covers}
+use Rattle.separation.specs.States.{metBy, outcomeOf, withGap, chargedTo}
+use Rattle.separation_call.specs.Sweeping.{WithinLines, Gapped, joined, Lined}
 use Rattle.separation_call.proofs.StoredSearches.{was-spent, was-found, was-empty}
 use Rattle.separation_call.proofs.Trees.{stored-right, stored-left}
 
 -- ---- a search's answer joined to the figures
 module _ (ls : List ℕ) (line : ℕ) (st : Sweeping) (o : Outcome (Option ℕ)) (search : Search) (e : search ≡ searchOf o) where
-  pub joined-spent : search ≡ Over → Spent ≡ sweptOf (joined ls (getD ls line 0) (metBy st) o)
-  unfolding sweptOf
-  joined-spent h = sym (rw (was-spent o (sym h ∙ e)) (ap sweptOf (onward-spent _)))
+  pub joined-spent : search ≡ Over → outcomeOf Spent ≡ joined ls (getD ls line 0) (metBy st) o
+  joined-spent h = stops _ (rw (was-spent o (sym h ∙ e)) (onward-spent _))
 
-  pub joined-empty : (m : ℕ) → search ≡ Empty m → Went (record { minimum = st .minimum; «minimum_positive» = st .«minimum_positive»; left = m }) ≡ sweptOf (joined ls (getD ls line 0) (metBy st) o)
-  unfolding sweptOf
-  joined-empty m h = sym (rw (was-empty o m (sym h ∙ e)) (ap sweptOf (onward-left none m _)))
+  pub joined-empty : (m : ℕ) → search ≡ Empty m → outcomeOf (Went (record { minimum = st .minimum; «minimum_positive» = st .«minimum_positive»; left = m })) ≡ joined ls (getD ls line 0) (metBy st) o
+  joined-empty m h = goes _ _ (rw (was-empty o m (sym h ∙ e)) (onward-left none m _))
 
-  pub joined-found : (fixed : List ℕ) (i m : ℕ) (there here : Float) (t : Sweeping) → search ≡ Found i m → take (length ls) fixed ≡ ls → WithinLines search line (length ls)
-      → there ≡ floatAt (getD fixed i 0) → here ≡ floatAt (getD fixed line 0) → metBy t ≡ withGap (gapOf there here) (metBy st) → t .left ≡ m
-      → Went t ≡ sweptOf (joined ls (getD ls line 0) (metBy st) o)
-  unfolding sweptOf
-  joined-found fixed i m there here t h f w p q g k =
+  pub joined-found : (fixed : List ℕ) (i m : ℕ) (there here : Float) (t : Sweeping) → search ≡ Found i m → take (length ls) fixed ≡ ls → WithinLines search line (length ls) → Gapped ls
+      → there ≡ floatAt (getD fixed i 0) → here ≡ floatAt (getD fixed line 0) → (Number (gapOf there here) → metBy t ≡ withGap (gapOf there here) (metBy st)) → t .left ≡ m
+      → outcomeOf (Went t) ≡ joined ls (getD ls line 0) (metBy st) o
+  joined-found fixed i m there here t h f w gaps p q g k =
       let at : (k : ℕ) → k < length ls → getD fixed k 0 ≡ getD ls k 0 = λ k b. sym (getD-take (length ls) fixed k 0 b) ∙ ap (λ (l : List ℕ). getD l k 0) f in
       let far : there ≡ floatAt (getD ls i 0) = p ∙ ap floatAt (at i (w .found i m h)) in
       let near : here ≡ floatAt (getD ls line 0) = q ∙ ap floatAt (at line (w .own)) in
-      let met : metBy t ≡ withGap (gapOf (floatAt (getD ls i 0)) (floatAt (getD ls line 0))) (metBy st) = g ∙ (λ j. withGap (gapOf (far j) (near j)) (metBy st)) in
-      (λ j. sweptOf (left (met j) (k j))) ∙ sym (rw (was-found o i m (sym h ∙ e)) (ap sweptOf (onward-left (some i) m _)))
+      let number : Number (gapOf there here) = rw (far, near) (gaps (getD ls i 0) (getD ls line 0) (at-mem ls i 0 (w .found i m h)) (at-mem ls line 0 (w .own))) in
+      let met : metBy t ≡ withGap (gapOf (floatAt (getD ls i 0)) (floatAt (getD ls line 0))) (metBy st) = g number ∙ (λ j. withGap (gapOf (far j) (near j)) (metBy st)) in
+      goes t _ (rw (was-found o i m (sym h ∙ e)) (onward-left (some i) m _) ∙ (λ j. left (sym met j) (sym k j)))
 
 -- ---- where a search finds something
 found-leaf : (t : Bool) (s i : ℕ) → leaf t s .value ≡ some i → i ≡ s
@@ -99,6 +101,17 @@ module _ (leaves line n left : ℕ) (search : Search) (has : ℕ → ℕ → ℕ
   pub left-within : search ≡ searchOf (within left (leftmost has q H 1 0)) → WithinLines search line n
   left-within e = record { own = omega arith; found = λ i m h. omega (arith, left-inside has q H 1 0 i (found-value left i m (leftmost has q H 1 0) search e h)) }
 
+-- ---- what `has_other_at` answers
+was-unpaid : (o : Outcome Bool) → Unpaid ≡ otherNetOf o → o ≡ spent
+unfolding otherNetOf
+was-unpaid spent e = refl
+was-unpaid (left b m) e = cc
+
+was-known : (o : Outcome Bool) (b : Bool) (m : ℕ) → Known b m ≡ otherNetOf o → o ≡ left b m
+unfolding otherNetOf
+was-known spent b m e = cc
+was-known (left c n) b m e = cc
+
 -- ---- what a start looks at, within an allowance
 module _ (ls : List ℕ) (h : ℕ) (active : List Row) (f : Figures) (x : Row) where
   abbrev place : ℕ
@@ -120,23 +133,23 @@ module _ (ls : List ℕ) (h : ℕ) (active : List Row) (f : Figures) (x : Row) w
   then-joined : (m : ℕ) (c : Charged (Option ℕ)) (g : Figures) → within m (after c (λ v. free (otherLine ls (x .line) v g))) ≡ joined ls (x .line) g (within m c)
   then-joined m c g = within-after m c (λ v. free (otherLine ls (x .line) v g)) ∙ (λ i. onward (within m c) (λ v r. within-free r (otherLine ls (x .line) v g) i))
 
-  pub looking-spent : within 0 (looking ls h active f x) ≡ spent
+  pub looking-spent : (m : ℕ) → within m (visit (free own)) ≡ spent → within m (looking ls h active f x) ≡ spent
   unfolding looking
-  looking-spent = within-after 0 (visit (free own)) below ∙ rw (visit-spent (free own)) (onward-spent (λ b r. within r (below b)))
+  looking-spent m e = within-after m (visit (free own)) below ∙ rw e (onward-spent (λ b r. within r (below b)))
 
   onward-joined : (o : Outcome (Option ℕ)) (g : Figures) (k : Figures → ℕ → Outcome Figures) → onward o (λ v r. k (otherLine ls (x .line) v g) r) ≡ onward (joined ls (x .line) g o) k
   unfolding onward
   onward-joined spent g k = refl
   onward-joined (left v m) g k = refl
 
-  pub looking-paid : (m : ℕ) → within (suc m) (looking ls h active f x) ≡ onward (joined ls (x .line) (ownLine own f) (within m (rightmost (λ k. has) place h 1 0))) (λ g r. joined ls (x .line) g (within r (leftmost (λ k. has) (suc place) h 1 0)))
+  pub looking-paid : (n m : ℕ) (b : Bool) → within n (visit (free own)) ≡ left b m → within n (looking ls h active f x) ≡ onward (joined ls (x .line) (ownLine b f) (within m (rightmost (λ k. has) place h 1 0))) (λ g r. joined ls (x .line) g (within r (leftmost (λ k. has) (suc place) h 1 0)))
   unfolding looking
-  looking-paid m =
-      within-after (suc m) (visit (free own)) below
-      ∙ rw (visit-paid m (free own), within-free m own) (onward-left own m (λ b r. within r (below b)))
-      ∙ within-after m (rightmost (λ k. has) place h 1 0) (λ v. above (otherLine ls (x .line) v (ownLine own f)))
-      ∙ (λ i. onward (within m (rightmost (λ k. has) place h 1 0)) (λ v r. then-joined r (leftmost (λ k. has) (suc place) h 1 0) (otherLine ls (x .line) v (ownLine own f)) i))
-      ∙ onward-joined (within m (rightmost (λ k. has) place h 1 0)) (ownLine own f) (λ g r. joined ls (x .line) g (within r (leftmost (λ k. has) (suc place) h 1 0)))
+  looking-paid n m b e =
+      within-after n (visit (free own)) below
+      ∙ rw e (onward-left b m (λ b r. within r (below b)))
+      ∙ within-after m (rightmost (λ k. has) place h 1 0) (λ v. above (otherLine ls (x .line) v (ownLine b f)))
+      ∙ (λ i. onward (within m (rightmost (λ k. has) place h 1 0)) (λ v r. then-joined r (leftmost (λ k. has) (suc place) h 1 0) (otherLine ls (x .line) v (ownLine b f)) i))
+      ∙ onward-joined (within m (rightmost (λ k. has) place h 1 0)) (ownLine b f) (λ g r. joined ls (x .line) g (within r (leftmost (λ k. has) (suc place) h 1 0)))
 
 -- ---- `look`: the own line, the search below, the search above
 module _ (tree fixed : List ℕ) (leaves line net : ℕ) (st : Sweeping) (ls : List ℕ) (H : ℕ) (active : List Row) (x : Row)
@@ -156,13 +169,13 @@ module _ (tree fixed : List ℕ) (leaves line net : ℕ) (st : Sweeping) (ls : L
       rw (e, sym (lined .of)) (stored-left ls active (summaryAt tree) H covers (x .net) (suc (index ls (x .line))))
 
   -- the leaf of the own line
-  own-stored : (b : Bool) → b ≡ hasOther (summaryAt tree (leaves + line)) net → b ≡ otherIn ls active (x .net) (index ls (x .line)) (suc (index ls (x .line)))
-  own-stored b e =
+  own-stored : hasOther (summaryAt tree (leaves + line)) net ≡ otherIn ls active (x .net) (index ls (x .line)) (suc (index ls (x .line)))
+  own-stored =
       let room : line + 1 ≤ 2 ^ H = omega (arith, lined .there, lined .enough) in
       let number : (2 ^ H + line) * 1 ≡ 2 ^ H + line = omega arith in
       let c = covers 0 (2 ^ H + line) line (record { number = number; room = room }) (x .net) in
       let s : line + 1 ≡ suc (index ls (x .line)) = omega (arith, lined .place) in
-      e ∙ (λ i. hasOther (summaryAt tree (count i + line)) (sym (lined .of) i)) ∙ c ∙ (λ i. otherIn ls active (x .net) (sym (lined .place) i) (s i))
+      (λ i. hasOther (summaryAt tree (count i + line)) (sym (lined .of) i)) ∙ c ∙ (λ i. otherIn ls active (x .net) (sym (lined .place) i) (s i))
 
   -- what a search finds is a line
   a-line : (i : ℕ) → otherIn ls active (x .net) i (i + 1) ≡ true → i < length ls
@@ -191,53 +204,52 @@ module _ (tree fixed : List ℕ) (leaves line net : ℕ) (st : Sweeping) (ls : L
   }
 
   -- the answer of `with_search`, for a search's answer
-  abbrev Joins : Sweeping → Search → Swept → Type 0
-  Joins t search r = (ls : List ℕ) (o : Outcome (Option ℕ)) → search ≡ searchOf o → take (length ls) fixed ≡ ls → WithinLines search line (length ls) → r ≡ sweptOf (joined ls (getD ls line 0) (metBy t) o)
+  abbrev Joins : Sweeping → Search → Handled → Type 0
+  Joins t search r = (ls : List ℕ) (o : Outcome (Option ℕ)) → search ≡ searchOf o → take (length ls) fixed ≡ ls → WithinLines search line (length ls) → Gapped ls → outcomeOf r ≡ joined ls (getD ls line 0) (metBy t) o
 
-  pub look-none : st .left ≡ 0 → Spent ≡ sweptOf (within (st .left) (looking ls H active (metBy st) x))
-  unfolding sweptOf
-  look-none z = sym (rw z (ap sweptOf (looking-spent ls H active (metBy st) x)))
+  -- `has_other_at` was answered
+  module _ (at : OtherNet) (told : at ≡ otherNetOf (within (st .left) (visit (free (hasOther (summaryAt tree (leaves + line)) net))))) where
+    own-run : within (st .left) (visit (free (hasOther (summaryAt tree (leaves + line)) net))) ≡ within (st .left) (visit (free (otherIn ls active (x .net) (index ls (x .line)) (suc (index ls (x .line))))))
+    own-run = ap (λ (b : Bool). within (st .left) (visit (free b))) own-stored
 
-  module _ (seen : Bool) (begun : Sweeping) (search : Search) (swept : Swept) (o : seen ≡ hasOther (summaryAt tree (leaves + line)) net) (b : metBy begun ≡ ownLine seen (metBy st)) (paid : st .left ≡ 0 → ⊥) (d : begun .left ≡ st .left - 1)
-      (s : (K : ℕ) → leaves ≡ 2 ^ K → search ≡ searchOf (within (begun .left) (rightmost stored line K 1 0))) (j : Joins begun search swept) where
-    abbrev first : Outcome Figures
-    first = joined ls (x .line) (ownLine (otherIn ls active (x .net) (index ls (x .line)) (suc (index ls (x .line)))) (metBy st)) (within (begun .left) (rightmost others (index ls (x .line)) H 1 0))
+    pub look-none : at ≡ Unpaid → outcomeOf Spent ≡ within (st .left) (looking ls H active (metBy st) x)
+    look-none e = stops _ (looking-spent ls H active (metBy st) x (st .left) (sym own-run ∙ was-unpaid _ (sym e ∙ told)))
 
-    abbrev second : Figures → ℕ → Outcome Figures
-    second g r = joined ls (x .line) g (within r (leftmost others (suc (index ls (x .line))) H 1 0))
+    module _ (own : Bool) (begun : Sweeping) (rest : ℕ) (known : at ≡ Known own rest) (search : Search) (handled : Handled) (b : metBy begun ≡ ownLine own (metBy st)) (d : begun .left ≡ rest)
+        (s : (K : ℕ) → leaves ≡ 2 ^ K → search ≡ searchOf (within (begun .left) (rightmost stored line K 1 0))) (j : Joins begun search handled) where
+      abbrev first : Outcome Figures
+      first = joined ls (x .line) (ownLine own (metBy st)) (within (begun .left) (rightmost others (index ls (x .line)) H 1 0))
 
-    first-is : swept ≡ sweptOf first
-    first-is =
-        j ls (within (begun .left) (rightmost stored line H 1 0)) (s H count) values (right-lines (begun .left) search (s H count))
-        ∙ (λ i. sweptOf (joined ls (lined .value i) ((b ∙ ap (λ (z : Bool). ownLine z (metBy st)) (own-stored seen o)) i) (within (begun .left) (right-stored i))))
+      abbrev second : Figures → ℕ → Outcome Figures
+      second g r = joined ls (x .line) g (within r (leftmost others (suc (index ls (x .line))) H 1 0))
 
-    whole : within (st .left) (looking ls H active (metBy st) x) ≡ onward first second
-    whole =
-        let e : st .left ≡ suc (begun .left) = omega arith in
-        rw e (looking-paid ls H active (metBy st) x (begun .left))
+      first-is : outcomeOf handled ≡ first
+      first-is =
+          j ls (within (begun .left) (rightmost stored line H 1 0)) (s H count) values (right-lines (begun .left) search (s H count)) (lined .gaps)
+          ∙ (λ i. joined ls (lined .value i) (b i) (within (begun .left) (right-stored i)))
 
-    pub look-stops : swept ≡ Spent → Spent ≡ sweptOf (within (st .left) (looking ls H active (metBy st) x))
-    unfolding sweptOf
-    look-stops e =
-        let z : onward first second ≡ spent = rw (spent-is first (sym e ∙ first-is)) (onward-spent second) in
-        sym (ap sweptOf (whole ∙ z))
+      whole : within (st .left) (looking ls H active (metBy st) x) ≡ onward first second
+      whole = looking-paid ls H active (metBy st) x (st .left) (begun .left) own (sym own-run ∙ was-known _ own rest (sym known ∙ told) ∙ ap (left own) (sym d))
 
-    pub look-on : (half : Sweeping) (above : Search) (r : Swept) → swept ≡ Went half → ((K : ℕ) → leaves ≡ 2 ^ K → above ≡ searchOf (within (half .left) (leftmost stored (line + 1) K 1 0))) → Joins half above r
-        → r ≡ sweptOf (within (st .left) (looking ls H active (metBy st) x))
-    look-on half above r e t k =
-        k ls (within (half .left) (leftmost stored (line + 1) H 1 0)) (t H count) values (left-lines (half .left) above (t H count))
-        ∙ (λ i. sweptOf (joined ls (lined .value i) (metBy half) (within (half .left) (left-stored i))))
-        ∙ ap sweptOf (sym (whole ∙ rw (went-is first half (sym e ∙ first-is)) (onward-left (metBy half) (half .left) second)))
+      pub look-stops : handled ≡ Spent → outcomeOf Spent ≡ within (st .left) (looking ls H active (metBy st) x)
+      look-stops e = stops _ (whole ∙ rw (stopped handled first e first-is) (onward-spent second))
+
+      pub look-on : (half : Sweeping) (above : Search) (r : Handled) → handled ≡ Went half → ((K : ℕ) → leaves ≡ 2 ^ K → above ≡ searchOf (within (half .left) (leftmost stored (line + 1) K 1 0))) → Joins half above r
+          → outcomeOf r ≡ within (st .left) (looking ls H active (metBy st) x)
+      look-on half above r e t k =
+          k ls (within (half .left) (leftmost stored (line + 1) H 1 0)) (t H count) values (left-lines (half .left) above (t H count)) (lined .gaps)
+          ∙ (λ i. joined ls (lined .value i) (metBy half) (within (half .left) (left-stored i)))
+          ∙ sym (whole ∙ rw (went-on handled half first e first-is) (onward-left (metBy half) (half .left) second))
 
 -- ---- a `set` that was charged
-charged-of : (st : Sweeping) (o : Outcome (Unit {0})) → chargedTo st (chargeOf o) ≡ sweptOf (onward o (λ done m. left (metBy st) m))
-unfolding chargeOf onward sweptOf
+charged-of : (st : Sweeping) (o : Outcome (Unit {0})) → outcomeOf (chargedTo st (chargeOf o)) ≡ onward o (λ done m. left (metBy st) m)
+unfolding chargeOf onward outcomeOf
 charged-of st spent = refl
 charged-of st (left u m) = refl
 
-pub charge-pays : (st : Sweeping) (H : ℕ) (charge : Charge) → charge ≡ chargeOf (within (st .left) (setRun H)) → chargedTo st charge ≡ sweptOf (onward (within (st .left) (setRun H)) (λ done m. left (metBy st) m))
-charge-pays st H charge e = ap (chargedTo st) e ∙ charged-of st (within (st .left) (setRun H))
+pub charge-pays : (st : Sweeping) (H : ℕ) (charge : Charge) → charge ≡ chargeOf (within (st .left) (setRun H)) → outcomeOf (chargedTo st charge) ≡ onward (within (st .left) (setRun H)) (λ done m. left (metBy st) m)
+charge-pays st H charge e = ap (λ (c : Charge). outcomeOf (chargedTo st c)) e ∙ charged-of st (within (st .left) (setRun H))
 
 pub charge-paid : (st to : Sweeping) (charge : Charge) → Went to ≡ chargedTo st charge → (m : ℕ) × (charge ≡ Paid m)
 charge-paid st to (Paid m) e = (m, refl)
-charge-paid st to Short e = absurd (let z : _≡_ {A = ℕ} 0 1 = cc in omega arith)
+charge-paid st to Unset e = absurd (let z : _≡_ {A = ℕ} 0 1 = cc in omega arith)

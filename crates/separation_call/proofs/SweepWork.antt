@@ -15,11 +15,11 @@ use Rattle.separation.specs.Walk.{remove}
 use Rattle.separation.specs.declared.search.Charge.{Charge}
 use Rattle.separation.specs.declared.search.Charge.the-variants.{Paid}
 use Rattle.separation.specs.declared.state.Sweeping.{Sweeping}
-use Rattle.separation.specs.declared.state.Swept.{Swept}
-use Rattle.separation.specs.declared.state.Swept.the-variants.{Went}
+use Rattle.separation.specs.declared.state.Handled.{Handled}
+use Rattle.separation.specs.declared.state.Handled.the-variants.{Went}
 use Rattle.separation_call.specs.ActiveTree.{summaryAt, chargeOf, Leaves, Decides, Covers, SameOff, Renewed}
 use Rattle.separation_call.specs.ActiveNets.{Slots, Counted, Starts, Ends}
-use Rattle.separation.specs.States.{chargedTo}
+use Rattle.separation.specs.States.{outcomeOf, chargedTo}
 use Rattle.separation_call.specs.Sweeping.{Working, Pays, Entered, TakenOut}
 use Rattle.separation_call.proofs.Trees.{start-off, end-off}
 use Rattle.separation_call.proofs.ActiveNets.{counted-frame}
@@ -49,9 +49,9 @@ module _ (n leaves line : ℕ) (w u e v : List ℕ) (summary : NetSummary) (rest
   }
 
   -- the `set` was charged, and what it answers is handed on
-  module _ (st : Sweeping) (charge : Charge) (r : Swept) (told : r ≡ chargedTo st charge) (renews : (H m : ℕ) → leaves ≡ 2 ^ H → charge ≡ Paid m → Renewed (take (length u - 3 * n) (drop (3 * n) u)) e H line summary) where
+  module _ (st : Sweeping) (charge : Charge) (r : Handled) (told : r ≡ chargedTo st charge) (renews : (H m : ℕ) → leaves ≡ 2 ^ H → charge ≡ Paid m → Renewed (take (length u - 3 * n) (drop (3 * n) u)) e H line summary) where
     pub pays : ((H : ℕ) → leaves ≡ 2 ^ H → charge ≡ chargeOf (within (st .left) (setRun H))) → Pays leaves st r
-    pays f H k = told ∙ charge-pays st H charge (f H k)
+    pays f H k = ap outcomeOf told ∙ charge-pays st H charge (f H k)
 
     renewed-on : (H : ℕ) (to : Sweeping) → leaves ≡ 2 ^ H → r ≡ Went to → Renewed (take (length u - 3 * n) (drop (3 * n) u)) e H line summary
     renewed-on H to k g = let p = charge-paid st to charge (sym g ∙ told) in renews H (p .0) k (p .1)

@@ -24,12 +24,12 @@ use Rattle.separation.specs.Lines.{lines, levels}
 use Rattle.separation.specs.Walk.{sweep}
 use Rattle.separation.specs.Summaries.{summaryOfWord}
 use Rattle.separation.proofs.Lines.{levels-enough, levels-least}
-use Rattle.separation.specs.declared.state.Swept.{Swept}
+use Rattle.separation.specs.declared.found.Swept.{Swept}
 use Rattle.separation_call.specs.ActiveTree.{summaryAt}
 use Rattle.separation_call.specs.Prepared.{Prepared}
 use Rattle.separation_call.specs.Numbered.{Numbered, LinesNumbered, Slottable, SlotsAssigned}
 use Rattle.separation.specs.States.{sweptOf}
-use Rattle.separation_call.specs.Sweeping.{Ready, AtFirst, AtTables, AtRows}
+use Rattle.separation_call.specs.Sweeping.{Gapped, Ready, AtFirst, AtTables, AtRows}
 use Rattle.separation_call.proofs.Trees.{nothing-covers}
 use Rattle.separation_call.proofs.ActiveNets.{counted-none}
 use Rattle.separation_call.proofs.LineNumbering.{lines-few, lines-some, places-below}
@@ -143,8 +143,8 @@ module _ (l : List Row) (s e : List ℕ) (leaves : ℕ) (count : leaves ≡ 2 ^ 
   zero-behind : (i : ℕ) → i < end - 9 * m → getD (drop (9 * m) t) i 0 ≡ 0
   zero-behind i h = getD-drop (9 * m) t i 0 ∙ zero-at i h
 
-  ready-first : Prepared l s → Sorted rowsInOrder l → ((r : Row) → Mem r l → r .net < 2 ^ 32) → m ≤ 4096 → Ready l s (levels (length (lines l))) 0 [] t
-  ready-first prepared sorted nets few = record {
+  ready-first : Prepared l s → Sorted rowsInOrder l → ((r : Row) → Mem r l → r .net < 2 ^ 32) → Gapped (lines l) → m ≤ 4096 → Ready l s (levels (length (lines l))) 0 [] t
+  ready-first prepared sorted nets gaps few = record {
     front = take-put (9 * m) (end - 9 * m) s e (omega arith);
     prepared = prepared;
     sorted = sorted;
@@ -158,6 +158,7 @@ module _ (l : List Row) (s e : List ℕ) (leaves : ℕ) (count : leaves ≡ 2 ^ 
     few = few;
     room = omega (arith, same-length);
     from = λ a x. absurd x;
+    gaps = gaps;
   }
 
 -- ---- what the calls ask for, and what the sweep gives
@@ -174,12 +175,12 @@ module _ (s : List ℕ) (n many : ℕ) where
         (omega arith, omega arith)
 
     module _ (e : List ℕ) (clear : e ≡ replicate {A = ℕ} (length (midOf (9 * n) (12 * n + 2 * leaves - 9 * n) s)) 0) where
-      cleared : (l : List Row) → length l ≡ n → many ≡ length (lines l) → Prepared l s → Sorted rowsInOrder l → ((r : Row) → Mem r l → r .net < 2 ^ 32) → 1 ≤ n → n ≤ 4096 → 20 * n ≤ length s
+      cleared : (l : List Row) → length l ≡ n → many ≡ length (lines l) → Prepared l s → Sorted rowsInOrder l → ((r : Row) → Mem r l → r .net < 2 ^ 32) → Gapped (lines l) → 1 ≤ n → n ≤ 4096 → 20 * n ≤ length s
           → Ready l s (levels many) 0 [] (putMid (9 * n) (12 * n + 2 * leaves - 9 * n) s e)
-      cleared l size k prepared sorted nets =
+      cleared l size k prepared sorted nets gaps =
           subst (λ (h : ℕ). 1 ≤ n → n ≤ 4096 → 20 * n ≤ length s → Ready l s (levels h) 0 [] (putMid (9 * n) (12 * n + 2 * leaves - 9 * n) s e)) (sym k)
           (subst (λ (m : ℕ). e ≡ replicate {A = ℕ} (length (midOf (9 * m) (12 * m + 2 * leaves - 9 * m) s)) 0 → 1 ≤ m → m ≤ 4096 → 20 * m ≤ length s → Ready l s (levels (length (lines l))) 0 [] (putMid (9 * m) (12 * m + 2 * leaves - 9 * m) s e)) size
-          (λ c some few room. ready-first l s e leaves (count ∙ ap (λ (h : ℕ). 2 ^ levels h) k) some room c prepared sorted nets few) clear)
+          (λ c some few room. ready-first l s e leaves (count ∙ ap (λ (h : ℕ). 2 ^ levels h) k) some room c prepared sorted nets gaps few) clear)
 
       pub tables-first : AtTables s n many → AtFirst (putMid (9 * n) (12 * n + 2 * leaves - 9 * n) s e) n leaves
       tables-first a = record {
@@ -188,11 +189,11 @@ module _ (s : List ℕ) (n many : ℕ) where
         H = levels many;
         size = a .size;
         count = count;
-        ready = cleared (a .l) (a .size) (a .count) (a .prepared) (a .sorted) (λ r m. a .proper r m .0) (a .some) (a .few) (a .room);
+        ready = cleared (a .l) (a .size) (a .count) (a .prepared) (a .sorted) (λ r m. a .proper r m .0) (a .gaps) (a .some) (a .few) (a .room);
         proper = λ r m. a .proper r m .1;
       }
 
       pub tables-swept : AtTables s n many → (allowance : ℕ) (r : Swept)
           → ((l : List Row) (F : List ℕ) (H : ℕ) → length l ≡ n → leaves ≡ 2 ^ H → Ready l F H 0 [] (putMid (9 * n) (12 * n + 2 * leaves - 9 * n) s e) → ((a : Row) → Mem a l → a .start < a .end) → H ≡ levels (length (lines l)) → r ≡ sweptOf (within allowance (sweep l)))
-          → (l : List Row) → length l ≡ n → many ≡ length (lines l) → Prepared l s → Sorted rowsInOrder l → ((a : Row) → Mem a l → (a .net < 2 ^ 32) × (a .start < a .end)) → r ≡ sweptOf (within allowance (sweep l))
-      tables-swept a allowance r f l size k prepared sorted proper = f l s (levels many) size count (cleared l size k prepared sorted (λ r m. proper r m .0) (a .some) (a .few) (a .room)) (λ r m. proper r m .1) (ap levels k)
+          → (l : List Row) → length l ≡ n → many ≡ length (lines l) → Prepared l s → Sorted rowsInOrder l → ((a : Row) → Mem a l → (a .net < 2 ^ 32) × (a .start < a .end)) → Gapped (lines l) → r ≡ sweptOf (within allowance (sweep l))
+      tables-swept a allowance r f l size k prepared sorted proper gaps = f l s (levels many) size count (cleared l size k prepared sorted (λ r m. proper r m .0) gaps (a .some) (a .few) (a .room)) (λ r m. proper r m .1) (ap levels k)

@@ -23,18 +23,21 @@ use Rattle.separation.specs.declared.report.SeparationAnswer.{SeparationAnswer}
 use Rattle.separation.specs.declared.report.SeparationAnswer.the-variants.{Refused}
 use Rattle.separation.specs.Conditions.{separationConditions}
 use Rattle.separation.specs.Figures.{Figures}
+use Rattle.separation.specs.Lines.{lines}
 use Rattle.separation.specs.Walk.{lesserFigures, along, walkAll}
 use Rattle.separation.specs.Answer.{accepted, separationAnswer}
 use Rattle.separation.proofs.Checked.{separation-passes}
-use Rattle.separation.proofs.Fit.{Fit, row-rises}
+use Rattle.separation.proofs.Lines.{line-of-row}
+use Rattle.separation.proofs.Places.{Placed, at-good}
+use Rattle.separation.proofs.Fit.{Fit, row-rises, row-placed}
 use Rattle.separation.proofs.Costs.{walk-least}
 use Rattle.separation.proofs.Allowances.{walk-within}
 use Rattle.separation.proofs.Answers.{passed-fit, walk-settles}
-use Rattle.separation.specs.declared.state.Sweeping.{Sweeping}
-use Rattle.separation.specs.declared.state.Swept.{Swept}
-use Rattle.separation.specs.declared.state.Swept.the-variants.{Went, Spent}
-use Rattle.separation.specs.States.{metBy, sweptOf, Answers, tooFew}
-use Rattle.separation_call.specs.Sweeping.{AtColumns}
+use Rattle.separation.specs.declared.found.Found.{Found}
+use Rattle.separation.specs.declared.found.Swept.{Swept}
+use Rattle.separation.specs.declared.found.Swept.the-variants.{Went, Spent}
+use Rattle.separation.specs.States.{foundBy, sweptOf, Answers, tooFew}
+use Rattle.separation_call.specs.Sweeping.{Gapped, AtColumns}
 use Rattle.separation.proofs.States.{went-is, spent-is, too-few-means}
 
 -- ---- what the checks tell
@@ -51,8 +54,18 @@ module _ (c : SegmentColumns) (words : ℕ) (passed : firstOf (separationConditi
         subst (λ (x : Row). (x .net < 2 ^ 32) × (x .start < x .end)) (sym (g .is))
         (row-net s (all-mem (λ (t : Segment). t .net < 2 ^ 32) (segments c) nets s (g .there)), row-rises s (all-mem Fit (segments c) (passed-fit c words passed held) s (g .there)))
 
+    -- every line is the place of a finite coordinate
+    lines-placed : (o p : ℕ) → Mem p (lines (oriented o (segments c))) → Placed p
+    lines-placed o p m =
+        let r = line-of-row p (oriented o (segments c)) m in
+        let g = mem-oriented o (segments c) (r .0) (r .1) in
+        subst Placed (sym (r .2 ∙ ap (λ (x : Row). x .line) (g .is))) (row-placed (g .segment) (all-mem Fit (segments c) (passed-fit c words passed held) (g .segment) (g .there)))
+
+    gapped : (o : ℕ) → Gapped (lines (oriented o (segments c)))
+    gapped o p q m k = at-good (p, q) (lines-placed o p m) (lines-placed o q k) .num .1
+
     pub at-columns : (o : ℕ) → AtColumns words o c
-    at-columns o = let p = separation-passes c words passed in record { agree = p .agree; few = p .few-segments; room = p .room; proper = proper o }
+    at-columns o = let p = separation-passes c words passed in record { agree = p .agree; few = p .few-segments; room = p .room; proper = proper o; gaps = gapped o }
 
 -- ---- too few visits, whatever the walk finds
 pub too-few : (c : SegmentColumns) → SegmentsAgree c → (m n : ℕ) (t : Bool) → n ≡ segmentsToSweep (c .orientation) → t ≡ tooFew m n → t ≡ true → Spent ≡ sweptOf (within m (walkAll (segments c)))
@@ -70,20 +83,20 @@ module _ (l : List Segment) (m : ℕ) (first : Swept) (one : first ≡ sweptOf (
       let z : onward (within m (along (oriented 1 l))) second ≡ spent = rw (spent-is (within m (along (oriented 1 l))) (sym e ∙ one)) (onward-spent second) in
       sym (ap sweptOf (walk-within m l ∙ z))
 
-  module _ (across : Sweeping) (went : first ≡ Went across) (next : Swept) (other : next ≡ sweptOf (within (across .left) (along (oriented 0 l)))) where
-    on : within m (walkAll l) ≡ second (metBy across) (across .left)
-    on = walk-within m l ∙ rw (went-is (within m (along (oriented 1 l))) across (sym went ∙ one)) (onward-left (metBy across) (across .left) second)
+  module _ (across : Found) (went : first ≡ Went across) (next : Swept) (other : next ≡ sweptOf (within (across .left) (along (oriented 0 l)))) where
+    on : within m (walkAll l) ≡ second (foundBy across) (across .left)
+    on = walk-within m l ∙ rw (went-is (within m (along (oriented 1 l))) across (sym went ∙ one)) (onward-left (foundBy across) (across .left) second)
 
     pub walk-stops-later : next ≡ Spent → Spent ≡ sweptOf (within m (walkAll l))
     unfolding sweptOf
     walk-stops-later e =
-        let z : second (metBy across) (across .left) ≡ spent = rw (spent-is (within (across .left) (along (oriented 0 l))) (sym e ∙ other)) (onward-spent (λ g r. left (lesserFigures (metBy across) g) r)) in
+        let z : second (foundBy across) (across .left) ≡ spent = rw (spent-is (within (across .left) (along (oriented 0 l))) (sym e ∙ other)) (onward-spent (λ g r. left (lesserFigures (foundBy across) g) r)) in
         sym (ap sweptOf (on ∙ z))
 
-    pub walk-both : (down r : Sweeping) → next ≡ Went down → metBy r ≡ lesserFigures (metBy across) (metBy down) → r .left ≡ down .left → Went r ≡ sweptOf (within m (walkAll l))
+    pub walk-both : (down r : Found) → next ≡ Went down → foundBy r ≡ lesserFigures (foundBy across) (foundBy down) → r .left ≡ down .left → Went r ≡ sweptOf (within m (walkAll l))
     unfolding sweptOf
     walk-both down r e f k =
-        let z : second (metBy across) (across .left) ≡ left (lesserFigures (metBy across) (metBy down)) (down .left) = rw (went-is (within (across .left) (along (oriented 0 l))) down (sym e ∙ other)) (onward-left (metBy down) (down .left) (λ g r. left (lesserFigures (metBy across) g) r)) in
+        let z : second (foundBy across) (across .left) ≡ left (lesserFigures (foundBy across) (foundBy down)) (down .left) = rw (went-is (within (across .left) (along (oriented 0 l))) down (sym e ∙ other)) (onward-left (foundBy down) (down .left) (λ g r. left (lesserFigures (foundBy across) g) r)) in
         (λ i. sweptOf (left (f i) (k i))) ∙ sym (ap sweptOf (on ∙ z))
 
 -- ---- the answer

@@ -2,6 +2,7 @@
 -- The tree over 2 to the power H leaves takes twice as many words; node k's summary is word k, word 0 stays unused.
 use mathlib.Core.Path.{_≡_}
 use mathlib.Core.Logic.{_⊎_}
+use mathlib.Core.Bool.{Bool}
 use mathlib.Core.List.{List}
 use Prim.Native.Nat.{ℕ, _+_, _*_, _^_, _≤_, _<_}
 use lib.ListN.{length, getD}
@@ -10,16 +11,23 @@ use Rattle.rows.specs.Rows.{Row}
 use Rattle.separation.specs.declared.summary.NetSummary.{NetSummary}
 use Rattle.separation.specs.Searches.{otherIn}
 use Rattle.separation.specs.Summaries.{hasOther, summaryOfWord}
+use Rattle.separation.specs.declared.search.OtherNet.{OtherNet}
+use Rattle.separation.specs.declared.search.OtherNet.the-variants.{Known, Spent}
 use Rattle.separation.specs.declared.search.Charge.{Charge}
-use Rattle.separation.specs.declared.search.Charge.the-variants.{Paid, Short}
+use Rattle.separation.specs.declared.search.Charge.the-variants.{Paid, Spent as Unpaid}
 
 -- node k's summary
 abbrev pub summaryAt : List ℕ → ℕ → NetSummary
 summaryAt t k = summaryOfWord (getD t k 0)
 
+-- what `has_other_at` within an allowance comes to
+unfoldable pub otherNetOf : Outcome Bool → OtherNet
+otherNetOf spent = Spent
+otherNetOf (left b m) = Known b m
+
 -- what a `set` within an allowance comes to
 unfoldable pub chargeOf : Outcome (Unit {0}) → Charge
-chargeOf spent = Short
+chargeOf spent = Unpaid
 chargeOf (left u m) = Paid m
 
 -- ---- the nodes of a tree of H levels: node k over h levels, whose first leaf is s

@@ -8,23 +8,30 @@ use lib.ListN.{length, getD, take, drop}
 use Rattle.laws.specs.Lists.{Mem}
 use Rattle.laws.specs.Sort.{Sorted}
 use Rattle.laws.specs.Allowance.{Outcome, left, within, onward}
+use Rattle.floats.specs.Values.{gapOf}
+use Rattle.floats.specs.TotalOrder.{floatAt}
 use Rattle.drawing.specs.Entries.{SegmentColumns, segments}
 use Rattle.drawing.specs.Lengths.{SegmentsAgree}
+use Rattle.drawing.specs.LeastFloats.{Number}
 use Rattle.rows.specs.Rows.{Row, rowsInOrder, oriented}
 use Rattle.rows.specs.Tables.{rowFrom, eventFrom, RowsOrdered}
 use Rattle.separation.specs.declared.search.Search.{Search}
 use Rattle.separation.specs.declared.search.Search.the-variants.{Found}
 use Rattle.separation.specs.Figures.{Figures}
-use Rattle.separation.specs.States.{metBy, sweptOf}
+use Rattle.separation.specs.States.{metBy, outcomeOf}
 use Rattle.separation.specs.Lines.{lines, index}
 use Rattle.separation.specs.Searches.{setRun}
 use Rattle.separation.specs.Walk.{Sweep, remove, otherLine, looking, startsAt, endsAt, step}
 use Rattle.separation.specs.declared.state.Sweeping.{Sweeping}
-use Rattle.separation.specs.declared.state.Swept.{Swept}
-use Rattle.separation.specs.declared.state.Swept.the-variants.{Went}
+use Rattle.separation.specs.declared.state.Handled.{Handled}
+use Rattle.separation.specs.declared.state.Handled.the-variants.{Went}
 use Rattle.separation_call.specs.ActiveTree.{summaryAt, Leaves, Covers}
 use Rattle.separation_call.specs.ActiveNets.{Slots, Counted, Countable, Endable}
 use Rattle.separation_call.specs.Prepared.{Prepared}
+
+-- the gap of two of the lines is a number: their coordinates are finite
+abbrev pub Gapped : List ℕ → Type 0
+Gapped ls = (p q : ℕ) → Mem p ls → Mem q ls → Number (gapOf (floatAt p) (floatAt q))
 
 -- ---- a search's answer
 -- the line, and the one that a search found, are among n
@@ -51,11 +58,12 @@ pub record Lined (ls : List ℕ) (H : ℕ) (active : List Row) (x : Row) (line n
   pub there : line < length ls
   pub value : getD ls line 0 ≡ x .line
   pub of : x .net ≡ net
+  pub gaps : Gapped ls
 
-abbrev pub Looks : List ℕ → List ℕ → ℕ → ℕ → ℕ → Sweeping → Swept → Type 0
+abbrev pub Looks : List ℕ → List ℕ → ℕ → ℕ → ℕ → Sweeping → Handled → Type 0
 Looks tree fixed leaves line net state r =
     (ls : List ℕ) (H : ℕ) (active : List Row) (x : Row) → leaves ≡ 2 ^ H → Covers ls active (summaryAt tree) H → take (length ls) fixed ≡ ls → Lined ls H active x line net
-    → r ≡ sweptOf (within (state .left) (looking ls H active (metBy state) x))
+    → outcomeOf r ≡ within (state .left) (looking ls H active (metBy state) x)
 
 -- ---- the words that the sweep changes
 pub record Working (n b : ℕ) (ls : List ℕ) (H : ℕ) (lineOf netOf slotOf : ℕ → ℕ) (active : List Row) (w : List ℕ) : Type 0 where
@@ -83,16 +91,16 @@ pub record Leavable (n leaves slot line net : ℕ) (w : List ℕ) : Type 0 where
   pub inside : line < leaves
 
 -- a `set` is paid from what is left, and the figures stay
-abbrev pub Pays : ℕ → Sweeping → Swept → Type 0
-Pays leaves state r = (H : ℕ) → leaves ≡ 2 ^ H → r ≡ sweptOf (onward (within (state .left) (setRun H)) (λ done m. left (metBy state) m))
+abbrev pub Pays : ℕ → Sweeping → Handled → Type 0
+Pays leaves state r = (H : ℕ) → leaves ≡ 2 ^ H → outcomeOf r ≡ onward (within (state .left) (setRun H)) (λ done m. left (metBy state) m)
 
 -- a segment is entered, or taken out: where the `set` was paid the words w became v
-abbrev pub Entered : ℕ → ℕ → ℕ → ℕ → ℕ → List ℕ → List ℕ → Swept → Type 0
+abbrev pub Entered : ℕ → ℕ → ℕ → ℕ → ℕ → List ℕ → List ℕ → Handled → Type 0
 Entered n leaves slot line net w v r =
     (b : ℕ) (ls : List ℕ) (H : ℕ) (lineOf netOf slotOf : ℕ → ℕ) (active : List Row) (x : Row) (j : ℕ) (to : Sweeping) → leaves ≡ 2 ^ H → At n ls lineOf netOf slotOf x j slot line net
     → Working n b ls H lineOf netOf slotOf active w → r ≡ Went to → Working n (b + 1) ls H lineOf netOf slotOf (x ∷ active) v
 
-abbrev pub TakenOut : ℕ → ℕ → ℕ → ℕ → ℕ → List ℕ → List ℕ → Swept → Type 0
+abbrev pub TakenOut : ℕ → ℕ → ℕ → ℕ → ℕ → List ℕ → List ℕ → Handled → Type 0
 TakenOut n leaves slot line net w v r =
     (b : ℕ) (ls : List ℕ) (H : ℕ) (lineOf netOf slotOf : ℕ → ℕ) (active : List Row) (x : Row) (j : ℕ) (to : Sweeping) → leaves ≡ 2 ^ H → At n ls lineOf netOf slotOf x j slot line net
     → Working n b ls H lineOf netOf slotOf active w → Mem x active → r ≡ Went to → Working n (b + 1) ls H lineOf netOf slotOf (remove x active) v
@@ -109,6 +117,7 @@ pub record Ready (l : List Row) (F : List ℕ) (H b : ℕ) (active : List Row) (
   pub few : length l ≤ 4096
   pub room : 20 * length l ≤ length s
   pub from : (a : Row) → Mem a active → Mem a l
+  pub gaps : Gapped (lines l)
 
 -- segment j may start, and may end
 pub record AtStart (s : List ℕ) (n leaves j : ℕ) : Type 0 where
@@ -132,16 +141,16 @@ abbrev pub figuresOf : Outcome Sweep → Outcome Figures
 figuresOf o = onward o (λ t m. left (t .met) m)
 
 -- what a start makes of the scratch s, which becomes t, and of the state
-abbrev pub Begins : List ℕ → List ℕ → ℕ → ℕ → ℕ → Sweeping → Swept → Type 0
+abbrev pub Begins : List ℕ → List ℕ → ℕ → ℕ → ℕ → Sweeping → Handled → Type 0
 Begins s t n leaves j state r =
     (l : List Row) (F : List ℕ) (H b : ℕ) (active : List Row) → length l ≡ n → leaves ≡ 2 ^ H → Ready l F H b active s
-    → (r ≡ sweptOf (figuresOf (within (state .left) (startsAt (lines l) H (record { active = active; met = metBy state }) (rowFrom l j)))))
+    → (outcomeOf r ≡ figuresOf (within (state .left) (startsAt (lines l) H (record { active = active; met = metBy state }) (rowFrom l j))))
     × ((to : Sweeping) → r ≡ Went to → Ready l F H (b + 1) (rowFrom l j ∷ active) t)
 
-abbrev pub Finishes : List ℕ → List ℕ → ℕ → ℕ → ℕ → Sweeping → Swept → Type 0
+abbrev pub Finishes : List ℕ → List ℕ → ℕ → ℕ → ℕ → Sweeping → Handled → Type 0
 Finishes s t n leaves j state r =
     (l : List Row) (F : List ℕ) (H b : ℕ) (active : List Row) → length l ≡ n → leaves ≡ 2 ^ H → Ready l F H b active s → Mem (rowFrom l j) active
-    → (r ≡ sweptOf (figuresOf (within (state .left) (endsAt H (record { active = active; met = metBy state }) (rowFrom l j)))))
+    → (outcomeOf r ≡ figuresOf (within (state .left) (endsAt H (record { active = active; met = metBy state }) (rowFrom l j))))
     × ((to : Sweeping) → r ≡ Went to → Ready l F H (b + 1) (remove (rowFrom l j) active) t)
 
 -- an event of a number below 2 n; a segment that ends is active
@@ -158,11 +167,11 @@ pub record AtEvent (s : List ℕ) (n leaves e : ℕ) : Type 0 where
   pub early : b < 8192
   pub there : e < n → Mem (rowFrom l e) active
 
-abbrev pub Handles : List ℕ → List ℕ → ℕ → ℕ → ℕ → Sweeping → Swept → Type 0
+abbrev pub Handles : List ℕ → List ℕ → ℕ → ℕ → ℕ → Sweeping → Handled → Type 0
 Handles s t n leaves e state r =
     (l : List Row) (F : List ℕ) (H b : ℕ) (active : List Row) → length l ≡ n → leaves ≡ 2 ^ H → Ready l F H b active s → (e < n → Mem (rowFrom l e) active)
     → let c = step (lines l) H (record { active = active; met = metBy state }) (eventFrom l e) in
-    (r ≡ sweptOf (figuresOf (within (state .left) c))) × ((to : Sweeping) → r ≡ Went to → Ready l F H (b + 1) (c .value .active) t)
+    (outcomeOf r ≡ figuresOf (within (state .left) c)) × ((to : Sweeping) → r ≡ Went to → Ready l F H (b + 1) (c .value .active) t)
 
 -- the sweep may begin: no event is handled yet
 pub record AtFirst (s : List ℕ) (n leaves : ℕ) : Type 0 where
@@ -184,6 +193,7 @@ pub record AtTables (s : List ℕ) (n many : ℕ) : Type 0 where
   pub prepared : Prepared l s
   pub sorted : Sorted rowsInOrder l
   pub proper : (r : Row) → Mem r l → (r .net < 2 ^ 32) × (r .start < r .end)
+  pub gaps : Gapped (lines l)
   pub room : 20 * n ≤ length s
 
 -- the rows are in order, and their tables can be made in front of them
@@ -204,3 +214,4 @@ pub record AtColumns (words wanted : ℕ) (c : SegmentColumns) : Type 0 where
   pub few : length (c .net) ≤ 4096
   pub room : 32 * length (c .net) + 64 ≤ words
   pub proper : (r : Row) → Mem r (oriented wanted (segments c)) → (r .net < 2 ^ 32) × (r .start < r .end)
+  pub gaps : Gapped (lines (oriented wanted (segments c)))

@@ -13,7 +13,7 @@ ghost use Rattle.separation.specs.Lines.{lines};
 ghost use Rattle.separation.specs.Walk as Walk;
 ghost use Rattle.separation_call.specs.Prepared.{Prepared};
 ghost use Rattle.separation.specs.States.{sweptOf};
-ghost use Rattle.separation_call.specs.Sweeping.{AtTables, AtRows, AtColumns};
+ghost use Rattle.separation_call.specs.Sweeping.{Gapped, AtTables, AtRows, AtColumns};
 use crate::line_numbers::number_lines;
 use crate::run::run_events;
 use crate::slots::assign_slots;
@@ -23,7 +23,7 @@ use drawing::clear;
 use rows::order_events;
 use rows::order_rows;
 use rows::spread_rows;
-use separation::Sweeping;
+use separation::Found;
 use separation::Swept;
 
 // The tables of n rows whose places in order stand from word `from` on, their table `table` words further on. The answer is the number of lines.
@@ -41,7 +41,7 @@ fn make_tables(s: &mut [u64], n: usize, from: usize, table: usize) -> usize
 // The words behind the tables are cleared: no segment is active yet. Then the sweep runs.
 fn sweep_tables(s: &mut [u64], n: usize, many: usize, allowance: usize) -> Swept
     requires { ⌜ AtTables (now s) n many ⌝ }
-    ensures { λ r. ⌜ ((l : List Row) → length l ≡ n → many ≡ length (lines l) → Prepared l (now (s .entry)) → Sorted rowsInOrder l → ((a : Row) → Mem a l → (a .net < 2 ^ 32) × (a .start < a .end)) → r ≡ sweptOf (within allowance (Walk.sweep l))) ⌝ }
+    ensures { λ r. ⌜ ((l : List Row) → length l ≡ n → many ≡ length (lines l) → Prepared l (now (s .entry)) → Sorted rowsInOrder l → ((a : Row) → Mem a l → (a .net < 2 ^ 32) × (a .start < a .end)) → Gapped (lines l) → r ≡ sweptOf (within allowance (Walk.sweep l))) ⌝ }
 {
     let leaves = leaf_count(many);
     let end = 12 * n + 2 * leaves;
@@ -67,7 +67,7 @@ pub(crate) fn sweep_along(
     let from = 16 * total;
     let n = order_rows(&mut s[from..], wanted, net, orientation, fixed, start, end);
     if n < 2 {
-        return Swept::Went(Sweeping {
+        return Swept::Went(Found {
             minimum: Gap::Absent,
             minimum_positive: Gap::Absent,
             left: allowance,

@@ -5,7 +5,7 @@ ghost use lib.ListN.{length, drop};
 ghost use Rattle.separation_call.specs.ActiveNets.{summaryOfLine, Countable, Endable, Starts, Ends};
 use separation::NetSummary;
 
-// The summary of the nets that are active on a line. Where there is one, the sum is that net, so that the remainder leaves it as it is.
+// The summary of the nets that are active on a line. Where there is one, the sum is that net, which is below 2^32: the remainder leaves it as it is, and the cast loses nothing.
 fn line_summary(c: &[u64], n: usize, line: usize) -> NetSummary
     requires { ⌜ (3 * n ≤ length (now c)) × (line < n) ⌝ }
     ensures { λ r. ⌜ r ≡ summaryOfLine (now (c .entry)) n line ⌝ }

@@ -9,42 +9,17 @@ ghost use Rattle.rows.specs.Rows.{Row};
 ghost use Rattle.separation.specs.Lines.{lines, levels};
 ghost use Rattle.separation.specs.Walk.{sweep};
 ghost use Rattle.separation.specs.States.{sweptOf};
-ghost use Rattle.separation_call.specs.Sweeping.{Ready, AtStart, AtEnd, AtEvent, AtFirst, Begins, Finishes, Handles};
-use crate::sweep::enter;
-use crate::sweep::leave;
-use crate::sweep::look;
-use drawing::Gap;
+ghost use Rattle.separation_call.specs.Sweeping.{Ready, AtEvent, AtFirst, Handles};
+use crate::sweep::end_event;
+use crate::sweep::start_event;
+use separation::Handled;
 use separation::Sweeping;
 use separation::Swept;
-
-// Segment j starts.
-fn start_event(s: &mut [u64], n: usize, leaves: usize, j: usize, state: Sweeping) -> Swept
-    requires { ⌜ AtStart (now s) n leaves j ⌝ }
-    ensures { λ r. ⌜ Begins (now (s .entry)) (now (s .exit)) n leaves j state r ⌝ }
-{
-    let line = s[4 * n + j] as usize;
-    let net = s[5 * n + j] as u32;
-    let slot = s[7 * n + j] as usize;
-    let swept = look(&s[12 * n..], leaves, &s[6 * n..], line, net, state);
-    let Swept::Went(seen) = swept else {
-        return Swept::Spent;
-    };
-    enter(&mut s[9 * n..], n, leaves, slot, line, net, seen)
-}
-
-// Segment j ends.
-fn end_event(s: &mut [u64], n: usize, leaves: usize, j: usize, state: Sweeping) -> Swept
-    requires { ⌜ AtEnd (now s) n leaves j ⌝ }
-    ensures { λ r. ⌜ Finishes (now (s .entry)) (now (s .exit)) n leaves j state r ⌝ }
-{
-    let line = s[4 * n + j] as usize;
-    let net = s[5 * n + j] as u32;
-    let slot = s[7 * n + j] as usize;
-    leave(&mut s[9 * n..], n, leaves, slot, line, net, state)
-}
+use separation::at_start;
+use separation::found_in;
 
 // Event e: below n it is the end of segment e, else the start of segment e - n.
-fn handle_event(s: &mut [u64], n: usize, leaves: usize, e: usize, state: Sweeping) -> Swept
+fn handle_event(s: &mut [u64], n: usize, leaves: usize, e: usize, state: Sweeping) -> Handled
     requires { ⌜ AtEvent (now s) n leaves e ⌝ }
     ensures { λ r. ⌜ Handles (now (s .entry)) (now (s .exit)) n leaves e state r ⌝ }
 {
@@ -62,25 +37,21 @@ fn event_at(s: &[u64], q: usize) -> usize
     s[q] as usize
 }
 
-// The events in order, from no active segment and absent figures.
+// The events in order, from no active segment and no gap yet.
 pub(crate) fn run_events(s: &mut [u64], n: usize, leaves: usize, allowance: usize) -> Swept
     requires { ⌜ AtFirst (now s) n leaves ⌝ }
     ensures { λ r. ⌜ ((l : List Row) (F : List ℕ) (H : ℕ) → length l ≡ n → leaves ≡ 2 ^ H → Ready l F H 0 [] (now (s .entry)) → ((a : Row) → Mem a l → a .start < a .end) → H ≡ levels (length (lines l)) → r ≡ sweptOf (within allowance (sweep l))) ⌝ }
 {
-    let mut state = Sweeping {
-        minimum: Gap::Absent,
-        minimum_positive: Gap::Absent,
-        left: allowance,
-    };
+    let mut state = at_start(allowance);
     let mut q = 0;
     while q < 2 * n {
         let e = event_at(&s[..], q);
-        let swept = handle_event(s, n, leaves, e, state);
-        let Swept::Went(next) = swept else {
+        let handled = handle_event(s, n, leaves, e, state);
+        let Handled::Went(next) = handled else {
             return Swept::Spent;
         };
         state = next;
         q += 1;
     }
-    Swept::Went(state)
+    Swept::Went(found_in(state))
 }

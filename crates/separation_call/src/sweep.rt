@@ -1,4 +1,4 @@
-// The sweep over one orientation's events, within what is left of the allowance.
+// One event of the sweep over an orientation's segments, within what is left of the allowance.
 ghost use mathlib.Core.Path.{_≡_};
 ghost use mathlib.Core.List.{List};
 ghost use mathlib.Core.Option.{Option};
@@ -6,8 +6,8 @@ ghost use Prim.Native.Nat.{ℕ, _+_, _*_};
 ghost use lib.ListN.{length, getD, take};
 ghost use Rattle.laws.specs.Allowance.{Outcome};
 ghost use Rattle.separation.specs.Searches.{searchOf};
-ghost use Rattle.separation.specs.States.{metBy, sweptOf};
-ghost use Rattle.separation_call.specs.Sweeping.{WithinLines, joined, Lookable, Looks, Enterable, Leavable, Pays, Entered, TakenOut};
+ghost use Rattle.separation.specs.States.{metBy, outcomeOf};
+ghost use Rattle.separation_call.specs.Sweeping.{WithinLines, Gapped, joined, Lookable, Looks, Enterable, Leavable, Pays, Entered, TakenOut, AtStart, AtEnd, Begins, Finishes};
 use crate::nets::end_net;
 use crate::nets::start_net;
 use crate::tree::has_other_at;
@@ -15,63 +15,62 @@ use crate::tree::leftmost_other;
 use crate::tree::rightmost_other;
 use crate::tree::set;
 use floats::float_of_key;
+use separation::Handled;
+use separation::OtherNet;
 use separation::Search;
 use separation::Sweeping;
-use separation::Swept;
 use separation::after_charge;
 use separation::with_other_line;
 use separation::with_own_line;
 
 // What a search found joins the figures: the gap of the segment's line and of the line that was found.
-fn with_search(fixed: &[u64], line: usize, search: Search, state: Sweeping) -> Swept
+fn with_search(fixed: &[u64], line: usize, search: Search, state: Sweeping) -> Handled
     requires { ⌜ WithinLines search line (length (now fixed)) ⌝ }
-    ensures { λ r. ⌜ ((ls : List ℕ) (o : Outcome (Option ℕ)) → search ≡ searchOf o → take (length ls) (now (fixed .entry)) ≡ ls → WithinLines search line (length ls) → r ≡ sweptOf (joined ls (getD ls line 0) (metBy state) o)) ⌝ }
+    ensures { λ r. ⌜ ((ls : List ℕ) (o : Outcome (Option ℕ)) → search ≡ searchOf o → take (length ls) (now (fixed .entry)) ≡ ls → WithinLines search line (length ls) → Gapped ls → outcomeOf r ≡ joined ls (getD ls line 0) (metBy state) o) ⌝ }
 {
     let Search::Found(place, rest) = search else {
         let Search::Empty(left) = search else {
-            return Swept::Spent;
+            return Handled::Spent;
         };
-        let minimum = state.minimum;
-        let positive = state.minimum_positive;
-        return Swept::Went(Sweeping {
-            minimum: minimum,
-            minimum_positive: positive,
+        return Handled::Went(Sweeping {
+            minimum: state.minimum,
+            minimum_positive: state.minimum_positive,
             left: left,
         });
     };
     let there = float_of_key(fixed[place]);
     let here = float_of_key(fixed[line]);
-    Swept::Went(with_other_line(there, here, rest, state))
+    Handled::Went(with_other_line(there, here, rest, state))
 }
 
 // What a start looks at: whether another net is on its own line, and the nearest line with another net on either side.
-pub(crate) fn look(
+fn look(
     tree: &[u64],
     leaves: usize,
     fixed: &[u64],
     line: usize,
     net: u32,
     state: Sweeping,
-) -> Swept
+) -> Handled
     requires { ⌜ Lookable (now tree) (now fixed) leaves line ⌝ }
     ensures { λ r. ⌜ Looks (now (tree .entry)) (now (fixed .entry)) leaves line net state r ⌝ }
 {
-    if state.left == 0 {
-        return Swept::Spent;
-    }
-    let own = has_other_at(tree, leaves, line, net);
-    let begun = with_own_line(own, state.left - 1, state);
+    let at = has_other_at(tree, leaves, line, net, state.left);
+    let OtherNet::Known(own, rest) = at else {
+        return Handled::Spent;
+    };
+    let begun = with_own_line(own, rest, state);
     let below = rightmost_other(tree, leaves, line, net, begun.left);
-    let swept = with_search(fixed, line, below, begun);
-    let Swept::Went(half) = swept else {
-        return Swept::Spent;
+    let handled = with_search(fixed, line, below, begun);
+    let Handled::Went(half) = handled else {
+        return Handled::Spent;
     };
     let above = leftmost_other(tree, leaves, line + 1, net, half.left);
     with_search(fixed, line, above, half)
 }
 
 // A segment starts: its net is counted, and its line's summary is set. `work` holds the counts and behind them the tree.
-pub(crate) fn enter(
+fn enter(
     work: &mut [u64],
     n: usize,
     leaves: usize,
@@ -79,7 +78,7 @@ pub(crate) fn enter(
     line: usize,
     net: u32,
     state: Sweeping,
-) -> Swept
+) -> Handled
     requires { ⌜ Enterable n leaves slot line net (now work) ⌝ }
     ensures { λ r. ⌜ Pays leaves state r ⌝ }
     ensures { λ r. ⌜ Entered n leaves slot line net (now (work .entry)) (now (work .exit)) r ⌝ }
@@ -90,7 +89,7 @@ pub(crate) fn enter(
 }
 
 // A segment ends: one less of its net, and its line's summary is set.
-pub(crate) fn leave(
+fn leave(
     work: &mut [u64],
     n: usize,
     leaves: usize,
@@ -98,7 +97,7 @@ pub(crate) fn leave(
     line: usize,
     net: u32,
     state: Sweeping,
-) -> Swept
+) -> Handled
     requires { ⌜ Leavable n leaves slot line net (now work) ⌝ }
     ensures { λ r. ⌜ Pays leaves state r ⌝ }
     ensures { λ r. ⌜ TakenOut n leaves slot line net (now (work .entry)) (now (work .exit)) r ⌝ }
@@ -106,4 +105,42 @@ pub(crate) fn leave(
     let summary = end_net(work, n, slot, line, net);
     let charge = set(&mut work[3 * n..], leaves, line, summary, state.left);
     after_charge(charge, state)
+}
+
+// Segment j starts: event n + j.
+pub(crate) fn start_event(
+    s: &mut [u64],
+    n: usize,
+    leaves: usize,
+    j: usize,
+    state: Sweeping,
+) -> Handled
+    requires { ⌜ AtStart (now s) n leaves j ⌝ }
+    ensures { λ r. ⌜ Begins (now (s .entry)) (now (s .exit)) n leaves j state r ⌝ }
+{
+    let line = s[4 * n + j] as usize;
+    let net = s[5 * n + j] as u32;
+    let slot = s[7 * n + j] as usize;
+    let handled = look(&s[12 * n..], leaves, &s[6 * n..], line, net, state);
+    let Handled::Went(seen) = handled else {
+        return Handled::Spent;
+    };
+    enter(&mut s[9 * n..], n, leaves, slot, line, net, seen)
+}
+
+// Segment j ends: event j.
+pub(crate) fn end_event(
+    s: &mut [u64],
+    n: usize,
+    leaves: usize,
+    j: usize,
+    state: Sweeping,
+) -> Handled
+    requires { ⌜ AtEnd (now s) n leaves j ⌝ }
+    ensures { λ r. ⌜ Finishes (now (s .entry)) (now (s .exit)) n leaves j state r ⌝ }
+{
+    let line = s[4 * n + j] as usize;
+    let net = s[5 * n + j] as u32;
+    let slot = s[7 * n + j] as usize;
+    leave(&mut s[9 * n..], n, leaves, slot, line, net, state)
 }

@@ -2,13 +2,15 @@
 ghost use mathlib.Core.Path.{_≡_};
 ghost use Prim.Native.Nat.{ℕ, _+_, _*_, _^_, _≤_, _<_};
 ghost use lib.ListN.{length};
+ghost use Rattle.laws.specs.Charged.{free, visit};
 ghost use Rattle.laws.specs.Allowance.{within};
 ghost use Rattle.separation.specs.Lines.{levels};
 ghost use Rattle.separation.specs.Searches.{rightmost, leftmost, setRun, searchOf};
 ghost use Rattle.separation.specs.Summaries.{hasOther};
-ghost use Rattle.separation_call.specs.ActiveTree.{summaryAt, chargeOf, Leaves, Below, Renewed};
+ghost use Rattle.separation_call.specs.ActiveTree.{summaryAt, otherNetOf, chargeOf, Leaves, Below, Renewed};
 use separation::Charge;
 use separation::NetSummary;
+use separation::OtherNet;
 use separation::Search;
 use separation::merged_word;
 use separation::summary_of_word;
@@ -34,13 +36,23 @@ fn other_below(tree: &[u64], node: usize, excluded: u32) -> bool
     summary.has_other(excluded)
 }
 
-// The same of one line. The caller pays the visit.
-pub(crate) fn has_other_at(tree: &[u64], leaves: usize, index: usize, excluded: u32) -> bool
+// The same of one line, for one visit.
+pub(crate) fn has_other_at(
+    tree: &[u64],
+    leaves: usize,
+    index: usize,
+    excluded: u32,
+    left: usize,
+) -> OtherNet
     requires { ⌜ Leaves (now tree) leaves ⌝ }
     requires { ⌜ index < leaves ⌝ }
-    ensures { λ r. ⌜ r ≡ hasOther (summaryAt (now (tree .entry)) (leaves + index)) excluded ⌝ }
+    ensures { λ r. ⌜ r ≡ otherNetOf (within left (visit (free (hasOther (summaryAt (now (tree .entry)) (leaves + index)) excluded)))) ⌝ }
 {
-    other_below(tree, leaves + index, excluded)
+    if left == 0 {
+        return OtherNet::Spent;
+    }
+    let other = other_below(tree, leaves + index, excluded);
+    OtherNet::Known(other, left - 1)
 }
 
 // The last line below `query_end` with another active net, among those from `start` up to `end`, which stand below the node.
@@ -159,7 +171,7 @@ pub(crate) fn set(
     ensures { λ r. ⌜ ((H m : ℕ) → leaves ≡ 2 ^ H → r ≡ Charge.Paid m → Renewed (now (tree .entry)) (now (tree .exit)) H index summary) ⌝ }
 {
     if left == 0 {
-        return Charge::Short;
+        return Charge::Spent;
     }
     let mut rest = left - 1;
     let leaf = leaves + index;
@@ -167,7 +179,7 @@ pub(crate) fn set(
     let mut cursor = leaf / 2;
     while cursor != 0 {
         if rest == 0 {
-            return Charge::Short;
+            return Charge::Spent;
         }
         rest -= 1;
         tree[cursor] = merged_word(tree[2 * cursor], tree[2 * cursor + 1]);

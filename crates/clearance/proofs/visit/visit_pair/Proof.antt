@@ -20,10 +20,10 @@ wrapping-add-usize-requires : tie.Need-wrapping-add-usize-requires
 wrapping-add-usize-requires c κs = search needs
 
 returns-3 : tie.Need-returns-3
-returns-3 c num room = let q = c .before .before .before in visit-below _ _ _ _ (q .before .before .if1 .left) (q .if2 .left) (c .before .if3 .taken) room _ (c .wrapping-add-usize .ensures) _ (c .before .before .least-with .ensures num)
+returns-3 c num room = let q = c .before .before .before in visit-below _ _ _ _ (q .before .before .if1 .left) (q .if2 .left) (c .before .if3 .taken) room _ (c .wrapping-add-usize .ensures) _ (c .before .before .least-with .ensures) num
 
 returns-4 : tie.Need-returns-4
-returns-4 c num room = let q = c .before .before in visit-clear _ _ _ _ (q .before .before .if1 .left) (q .if2 .left) (c .if3 .left) _ (c .before .least-with .ensures num)
+returns-4 c num room = let q = c .before .before in visit-clear _ _ _ _ (q .before .before .if1 .left) (q .if2 .left) (c .if3 .left) _ (c .before .least-with .ensures) num
 
 pub visit-pair-spec : {M : Type 1} → statement M
 visit-pair-spec = tie.close (tie.spec returns sub-left returns-2 least-with-requires wrapping-add-usize-requires returns-3 returns-4)

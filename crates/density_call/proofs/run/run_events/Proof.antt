@@ -32,11 +32,11 @@ slice-read-float-of-key c = let h = first-small _ _ (c .before .before .before .
 float-of-key-requires : tie.Need-float-of-key-requires Inv-loop μ-loop
 float-of-key-requires c κs = search needs
 
-infinity-requires : tie.Need-infinity-requires Inv-loop μ-loop
-infinity-requires c κs = search needs
+no-gap-requires : tie.Need-no-gap-requires Inv-loop μ-loop
+no-gap-requires c κs = search needs
 
 loop-holds : tie.Need-loop-holds Inv-loop μ-loop
-loop-holds c = (refl, λ a. going-first _ _ _ a _ _ (c .before .float-of-key .ensures) (c .infinity .ensures))
+loop-holds c = (refl, λ a. going-first _ _ _ a _ _ (c .before .float-of-key .ensures) (c .no-gap .ensures))
 
 mul-loop : tie.Need-mul-loop Inv-loop μ-loop
 mul-loop c = search needs
@@ -92,7 +92,7 @@ run-events-spec =
     mul-float-of-key-2
     slice-read-float-of-key
     float-of-key-requires
-    infinity-requires
+    no-gap-requires
     loop-holds
     mul-loop
     mul-e

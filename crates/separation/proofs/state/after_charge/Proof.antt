@@ -14,18 +14,8 @@ enum-told c = search needs
 returns : tie.Need-returns
 returns c = search needs
 
-anew-requires : tie.Need-anew-requires
-anew-requires c κs = search needs
-
-anew-requires-2 : tie.Need-anew-requires-2
-anew-requires-2 c κs = search needs
-
 returns-2 : tie.Need-returns-2
-returns-2 c =
-    let q = c .before .before in
-    rw (c .before .anew .ensures, c .anew2 .ensures) (ap (chargedTo (q .before .before .before .args .state)) (sym (q .before .charge .given .1)))
+returns-2 c = ap (chargedTo (c .before .before .before .args .state)) (sym (c .before .charge .given .1))
 
 pub after-charge-spec : {M : Type 1} → statement M
-after-charge-spec =
-    tie.close
-    (tie.spec enum-known-charge enum-told returns anew-requires anew-requires-2 returns-2)
+after-charge-spec = tie.close (tie.spec enum-known-charge enum-told returns returns-2)

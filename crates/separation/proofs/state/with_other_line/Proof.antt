@@ -8,14 +8,14 @@ use Rattle.separation.proofs.state.with_other_line.Tie as tie
 absolute-requires : tie.Need-absolute-requires
 absolute-requires c κs = search needs
 
-minimum-option-requires : tie.Need-minimum-option-requires
-minimum-option-requires c κs = search needs
+least-with-requires : tie.Need-least-with-requires
+least-with-requires c κs = search needs
 
-minimum-option-requires-2 : tie.Need-minimum-option-requires-2
-minimum-option-requires-2 c κs = search needs
+least-with-requires-2 : tie.Need-least-with-requires-2
+least-with-requires-2 c κs = search needs
 
 returns : tie.Need-returns
-returns c = (gap-joins (c .before .before .before .args .state) _ _ _ _ _ (c .before .before .absolute .ensures) (c .before .minimum-option .ensures) (c .minimum-option2 .ensures), refl)
+returns c = (gap-joins (c .before .before .before .args .state) _ _ _ _ _ (c .before .before .absolute .ensures) (c .before .least-with .ensures) (c .least-with2 .ensures), refl)
 
 pub with-other-line-spec : {M : Type 1} → statement M
-with-other-line-spec = tie.close (tie.spec absolute-requires minimum-option-requires minimum-option-requires-2 returns)
+with-other-line-spec = tie.close (tie.spec absolute-requires least-with-requires least-with-requires-2 returns)

@@ -27,10 +27,10 @@ enum-known-search-2 : tie.Need-enum-known-search-2
 enum-known-search-2 c = search needs
 
 returns : tie.Need-returns
-returns c = λ ls o e f w. joined-spent ls _ (c .before .before .before .args .state) o _ e (neither _ (c .before .match .keys2) (c .match2 .keys2))
+returns c = λ ls o e f w gaps. joined-spent ls _ (c .before .before .before .args .state) o _ e (neither _ (c .before .match .keys2) (c .match2 .keys2))
 
 returns-2 : tie.Need-returns-2
-returns-2 c = λ ls o e f w. joined-empty ls _ (c .before .before .before .before .before .args .state) o _ e _ (c .before .search2 .given .1)
+returns-2 c = λ ls o e f w gaps. joined-empty ls _ (c .before .before .before .before .before .args .state) o _ e _ (c .before .search2 .given .1)
 
 mul-float-of-key : tie.Need-mul-float-of-key
 mul-float-of-key c = let h = c .before .before .before .before .pre .found _ _ (c .before .search .given .1) in search (needs, h)
@@ -54,7 +54,7 @@ with-other-line-requires : tie.Need-with-other-line-requires
 with-other-line-requires c κs = search needs
 
 returns-3 : tie.Need-returns-3
-returns-3 c = λ ls o e f w. joined-found ls _ (c .before .before .before .before .before .before .before .before .before .args .state) o _ e (now (c .before .before .before .before .before .before .before .before .before .args .fixed)) _ _ _ _ _ (c .before .before .before .before .before .before .search .given .1) f w (c .before .before .before .float-of-key .ensures) (c .before .float-of-key2 .ensures) (c .with-other-line .ensures .0) (c .with-other-line .ensures .1)
+returns-3 c = λ ls o e f w gaps. joined-found ls _ (c .before .before .before .before .before .before .before .before .before .args .state) o _ e (now (c .before .before .before .before .before .before .before .before .before .args .fixed)) _ _ _ _ _ (c .before .before .before .before .before .before .search .given .1) f w gaps (c .before .before .before .float-of-key .ensures) (c .before .float-of-key2 .ensures) (c .with-other-line .ensures .0) (c .with-other-line .ensures .1)
 
 pub with-search-spec : {M : Type 1} → statement M
 with-search-spec =

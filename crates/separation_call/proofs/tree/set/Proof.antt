@@ -2,7 +2,7 @@
 use mathlib.Core.Path.{_∙_}
 use lib.ListN.{length-set}
 use borrow.Author.Needs.{needs}
-use Rattle.separation_call.proofs.StoredSets.{Setting, short-not-paid, set-stops, setting-begins, setting-stops, setting-goes-on, setting-pays, setting-renews}
+use Rattle.separation_call.proofs.StoredSets.{Setting, spent-not-paid, set-stops, setting-begins, setting-stops, setting-goes-on, setting-pays, setting-renews}
 use Rattle.separation_call.proofs.tree.set.Statement.{statement}
 use Rattle.separation_call.proofs.tree.set.Tie as tie
 
@@ -13,7 +13,7 @@ abbrev μ-loop : tie.MeasureT-loop
 μ-loop tree₀ leaves index left rest₀ leaf cursor₀ tree rest cursor = cursor
 
 returns : tie.Need-returns Inv-loop μ-loop
-returns c = (λ H e. set-stops _ (c .if1 .taken) H, λ H m e x. absurd (short-not-paid m x))
+returns c = (λ H e. set-stops _ (c .if1 .taken) H, λ H m e x. absurd (spent-not-paid m x))
 
 sub-rest : tie.Need-sub-rest Inv-loop μ-loop
 sub-rest c = search needs
@@ -37,7 +37,7 @@ same-length : tie.Need-same-length Inv-loop μ-loop
 same-length c = c .before .before .loop .inv .kept ∙ simp length-set
 
 returns-2 : tie.Need-returns-2 Inv-loop μ-loop
-returns-2 c = (λ H e. setting-stops (c .before .before .loop .inv) (c .before .loop-test .taken) (c .if2 .taken) H e, λ H m e x. absurd (short-not-paid m x))
+returns-2 c = (λ H e. setting-stops (c .before .before .loop .inv) (c .before .loop-test .taken) (c .if2 .taken) H e, λ H m e x. absurd (spent-not-paid m x))
 
 sub-rest-2 : tie.Need-sub-rest-2 Inv-loop μ-loop
 sub-rest-2 c = search needs

@@ -1,9 +1,9 @@
--- `separation_call::run::start_event` meets its contract: a look, and then the segment is entered. Assumes nothing.
+-- `separation_call::sweep::start_event` meets its contract: a look, and then the segment is entered. Assumes nothing.
 use borrow.Author.Needs.{needs}
 use Rattle.separation_call.proofs.SweepRun.{start-net-small, start-lookable, start-enterable, begins-not, begins}
 use denote.Ref.{now}
-use Rattle.separation_call.proofs.run.start_event.Statement.{statement}
-use Rattle.separation_call.proofs.run.start_event.Tie as tie
+use Rattle.separation_call.proofs.sweep.start_event.Statement.{statement}
+use Rattle.separation_call.proofs.sweep.start_event.Tie as tie
 
 mul-line : tie.Need-mul-line
 mul-line c = search needs
@@ -77,8 +77,8 @@ part-look-end-2 c = search needs
 look-requires : tie.Need-look-requires
 look-requires c κs = start-lookable _ _ _ _ (c .before .before .before .before .before .before .before .pre)
 
-enum-known-swept : tie.Need-enum-known-swept
-enum-known-swept c = search needs
+enum-known-handled : tie.Need-enum-known-handled
+enum-known-handled c = search needs
 
 enum-told : tie.Need-enum-told
 enum-told c = search needs
@@ -111,7 +111,7 @@ same-length-2 : tie.Need-same-length-2
 same-length-2 c = search needs
 
 returns-2 : tie.Need-returns-2
-returns-2 c = let b = c .before .before .before .before .before .before .before .before .before .before .before .before .before .before .before in let a = b .args in begins (now (a .s)) _ _ (a .state) (a .n) _ _ _ (c .before .before .enter .last .0) (b .pre .inside) (c .before .before .before .before .before .before .before .look .ensures) (c .before .before .before .before .before .swept .given .1) (c .before .before .enter .ensures .0) (c .before .before .enter .ensures .1) (c .before .before .enter .kept .0)
+returns-2 c = let b = c .before .before .before .before .before .before .before .before .before .before .before .before .before .before .before in let a = b .args in begins (now (a .s)) _ _ (a .state) (a .n) _ _ _ (c .before .before .enter .last .0) (b .pre .inside) (c .before .before .before .before .before .before .before .look .ensures) (c .before .before .before .before .before .handled .given .1) (c .before .before .enter .ensures .0) (c .before .before .enter .ensures .1) (c .before .before .enter .kept .0)
 
 pub start-event-spec : {M : Type 1} → statement M
 start-event-spec =
@@ -141,7 +141,7 @@ start-event-spec =
     part-look-start-2
     part-look-end-2
     look-requires
-    enum-known-swept
+    enum-known-handled
     enum-told
     same-length
     returns

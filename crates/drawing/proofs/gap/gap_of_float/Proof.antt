@@ -1,6 +1,7 @@
-use Rattle.clearance.proofs.LeastFloats.{gap-absent, gap-present}
-use Rattle.clearance.proofs.answer.gap_of_float.Statement.{statement}
-use Rattle.clearance.proofs.answer.gap_of_float.Tie as tie
+-- `drawing::gap::gap_of_float` meets its contract. Assumes nothing.
+use Rattle.drawing.proofs.LeastFloatLaws.{gap-absent, gap-present}
+use Rattle.drawing.proofs.gap.gap_of_float.Statement.{statement}
+use Rattle.drawing.proofs.gap.gap_of_float.Tie as tie
 
 returns : tie.Need-returns
 returns c = gap-absent (c .before .args .least) (c .if1 .taken)

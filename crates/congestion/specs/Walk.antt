@@ -159,12 +159,12 @@ abbrev pub begin : List Item → State
 begin l = record { rows = map (λ i. record { item = i; active = false; neighbors = 0 }) l; congestedActive = 0; closePairs = 0; previous = firstAt (inOrder (events l)); congestedLength = 0; pairOverlapLength = 0; peakCloseNeighbors = 0; minimumPositive = none }
 
 -- `congested_length_for_orientation`
-unfoldable pub oriented : ℕ → List Wire → Charged State
-oriented c l = let i = numbered 0 l in runs (step c) (begin i) (inOrder (events i))
+unfoldable pub sweep : ℕ → List Wire → Charged State
+sweep c l = let i = numbered 0 l in runs (step c) (begin i) (inOrder (events i))
 
 -- the same `if oriented.len() >= 2`: else nothing is done
 unfoldable pub along : ℕ → List Wire → Charged State
-along c l = cond (ltb (length l) 2) (free (begin [])) (oriented c l)
+along c l = cond (ltb (length l) 2) (free (begin [])) (sweep c l)
 
 -- the wires of one orientation
 abbrev pub only : Bool → List Wire → List Wire

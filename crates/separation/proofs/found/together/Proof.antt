@@ -1,9 +1,9 @@
--- `separation::state::together` meets its contract: the lesser of each figure. Assumes nothing.
+-- `separation::found::together` meets its contract: the lesser of each figure. Assumes nothing.
 use borrow.Author.Needs.{needs}
 use Rattle.separation.proofs.States.{lesser-of}
 use mathlib.Core.Path.{refl}
-use Rattle.separation.proofs.state.together.Statement.{statement}
-use Rattle.separation.proofs.state.together.Tie as tie
+use Rattle.separation.proofs.found.together.Statement.{statement}
+use Rattle.separation.proofs.found.together.Tie as tie
 
 minimum-option-requires : tie.Need-minimum-option-requires
 minimum-option-requires c κs = search needs

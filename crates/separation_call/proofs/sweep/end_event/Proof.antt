@@ -1,9 +1,9 @@
--- `separation_call::run::end_event` meets its contract: the segment is taken out. Assumes nothing.
+-- `separation_call::sweep::end_event` meets its contract: the segment is taken out. Assumes nothing.
 use borrow.Author.Needs.{needs}
 use Rattle.separation_call.proofs.SweepRun.{start-net-small, end-leavable, finishes}
 use denote.Ref.{now}
-use Rattle.separation_call.proofs.run.end_event.Statement.{statement}
-use Rattle.separation_call.proofs.run.end_event.Tie as tie
+use Rattle.separation_call.proofs.sweep.end_event.Statement.{statement}
+use Rattle.separation_call.proofs.sweep.end_event.Tie as tie
 
 mul-line : tie.Need-mul-line
 mul-line c = search needs

@@ -1,0 +1,37 @@
+// What a sweep found, and what both sweeps found together.
+ghost use mathlib.Core.Path.{_≡_};
+ghost use Rattle.separation.specs.Walk.{lesserFigures};
+ghost use Rattle.separation.specs.States.{foundBy};
+use drawing::Gap;
+use drawing::minimum_option;
+
+// The figures of one orientation, and how many visits are left.
+pub struct Found {
+    pub minimum: Gap,
+    pub minimum_positive: Gap,
+    pub left: usize,
+}
+
+// What the sweep found, or that the allowance is spent.
+pub enum Swept {
+    Went(Found),
+    Spent,
+}
+
+// The lesser of each figure, with what the second sweep left.
+pub fn together(across: Found, down: Found) -> Found
+    ensures { λ r. ⌜ foundBy r ≡ lesserFigures (foundBy across) (foundBy down) ⌝ }
+    ensures { λ r. ⌜ r .left ≡ down .left ⌝ }
+{
+    let one = across.minimum;
+    let other = down.minimum;
+    let minimum = minimum_option(one, other);
+    let one_positive = across.minimum_positive;
+    let other_positive = down.minimum_positive;
+    let positive = minimum_option(one_positive, other_positive);
+    Found {
+        minimum: minimum,
+        minimum_positive: positive,
+        left: down.left,
+    }
+}
