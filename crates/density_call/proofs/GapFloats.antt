@@ -1,20 +1,23 @@
 -- A least gap of 64ths kept as a float, a NaN where there is none yet. Assumes nothing.
 use mathlib.Core.Path.{_≡_, refl, sym, ap, ap₂, _∙_, subst}
+use mathlib.Core.Logic.{inl, inr}
 use mathlib.Core.Option.{Option, none, some}
 use mathlib.Core.Bool.{Bool, true, false, not, cond}
-use Prim.Native.Nat.{ℕ, _^_, _<_}
+use Prim.Native.Nat.{ℕ, _^_, _≤_, _<_}
+use native.Mathlib.Omega.{arith}
+use borrow.Author.Tests.{lt-ltb, le-ltb}
 use lib.Dec.{ltb, eqb}
-use lib.Ieee.{Float, nan, inf, fin, isNan, lt, le}
+use lib.Ieee.{Float, nan, inf, fin, isNan, lt}
 use lib.Ieee.Exact.{HasValue}
 use Rattle.laws.specs.Least.{lesser}
-use Rattle.laws.proofs.Tests.{cond-true, cond-false}
+use Rattle.laws.proofs.Tests.{le-or-lt, same-or-not, cond-true, cond-false}
 use Rattle.laws.proofs.Folds.{idr}
 use Rattle.floats.specs.Values.{plusZero, lesserOf, gapOf}
 use Rattle.floats.specs.Grid.{unit, ofUnits}
 use Rattle.floats.specs.TotalOrder.{floatAt}
 use Rattle.floats.proofs.Units.{of-units-value}
-use Rattle.drawing.specs.LeastFloats.{Number, gapOfFloat, leastWith}
-use Rattle.drawing.proofs.LeastFloatLaws.{none-absent, number-present, least-lesser}
+use Rattle.drawing.specs.LeastFloats.{Number, gapOfFloat}
+use Rattle.drawing.proofs.LeastFloatLaws.{none-absent, number-present}
 use Rattle.congestion.specs.Figures.{apart}
 use Rattle.congestion.specs.Walk.{nonzero, gapOfUnits}
 use Rattle.congestion.specs.Keys.{Key, Held}
@@ -43,18 +46,31 @@ gap-again none h = none-absent
 gap-again (some n) h = number-present (ofUnits n) (units-number n h)
 
 -- ---- a gap joins it
-least-float : (o : Option ℕ) (a : ℕ) → Held o → a < 2 ^ 53 → leastWith (leastFloat o) (ofUnits a) ≡ leastFloat (lesser ltb o (some a))
-unfolding leastWith le lesserOf lesser
-least-float none a h k = refl
-least-float (some n) a h k = least-lesser (ofUnits n) (ofUnits a) (units-number n h) (units-number a k) ∙ ap (λ (t : Bool). cond t (ofUnits a) (ofUnits n)) (lt-units a n k h) ∙ go (ltb a n)
+lesser-float : (o : Option ℕ) (a : ℕ) → Held o → a < 2 ^ 53 → lesserOf (ofUnits a) (leastFloat o) ≡ leastFloat (lesser ltb o (some a))
+unfolding lesserOf lt lesser
+lesser-float none a h k = refl
+lesser-float (some n) a h k = ap (λ (t : Bool). cond t (ofUnits n) (ofUnits a)) (lt-units n a h k) ∙ either (ltb n a) ∙ ap ofUnits (turned n a)
   where
-    go : (t : Bool) → cond t (ofUnits a) (ofUnits n) ≡ ofUnits (cond t a n)
-    go true = refl
-    go false = refl
+    either : (t : Bool) → cond t (ofUnits n) (ofUnits a) ≡ ofUnits (cond t n a)
+    either true = refl
+    either false = refl
+
+    -- the lesser of two numbers, whichever is asked first
+    turned : (n a : ℕ) → cond (ltb n a) n a ≡ cond (ltb a n) a n
+    turned n a = elim (le-or-lt a n) [
+      | inr h ↦ rw (lt-ltb n a h, le-ltb a n (omega arith))
+      | inl h ↦ elim (same-or-not a n) [
+        | inl e ↦ rw (le-ltb n a h, le-ltb a n (omega arith)) e
+        | inr d ↦ rw (le-ltb n a h, lt-ltb a n (less d h))
+      ]
+    ]
+      where
+        less : (a ≡ n → ⊥) → a ≤ n → a < n
+        less d h = omega arith
 
 joined-units : (o : Option ℕ) (b : Bool) (a : ℕ) (g : Float) → Held o → a < 2 ^ 53 → g ≡ ofUnits a → lt plusZero g ≡ not b → (withGap (leastFloat o) g ≡ leastFloat (lesser ltb o (nonzero b a))) × Held (lesser ltb o (nonzero b a))
-joined-units o true a g h k e z = (cond-false (lt plusZero g) (leastWith (leastFloat o) g) (leastFloat o) z ∙ sym (ap leastFloat (lesser-none o)), subst Held (sym (lesser-none o)) h)
-joined-units o false a g h k e z = (cond-true (lt plusZero g) (leastWith (leastFloat o) g) (leastFloat o) z ∙ ap (leastWith (leastFloat o)) e ∙ least-float o a h k, held-lesser o (some a) h k)
+joined-units o true a g h k e z = (cond-false (lt plusZero g) (lesserOf g (leastFloat o)) (leastFloat o) z ∙ sym (ap leastFloat (lesser-none o)), subst Held (sym (lesser-none o)) h)
+joined-units o false a g h k e z = (cond-true (lt plusZero g) (lesserOf g (leastFloat o)) (leastFloat o) z ∙ ap (λ (z : Float). lesserOf z (leastFloat o)) e ∙ lesser-float o a h k, held-lesser o (some a) h k)
 
 pub keys-join : (o : Option ℕ) (w w' u u' : ℕ) → Held o → Key w u → Key w' u' → (withGap (leastFloat o) (gapOf (floatAt w) (floatAt w')) ≡ leastFloat (lesser ltb o (nonzero (eqb u' u) (apart u' u)))) × Held (lesser ltb o (nonzero (eqb u' u) (apart u' u)))
 keys-join o w w' u u' h k k' =

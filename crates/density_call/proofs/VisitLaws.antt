@@ -11,9 +11,8 @@ use lib.ListN.{getD, set}
 use borrow.Author.Tests.{eq-eqb, ne-eqb}
 use Rattle.laws.specs.Lists.{bit}
 use Rattle.laws.proofs.Tests.{same-or-not, cond-true, cond-false}
-use Rattle.floats.specs.Values.{plusZero, absOf, gapOf}
+use Rattle.floats.specs.Values.{plusZero, lesserOf, absOf, gapOf}
 use Rattle.floats.specs.TotalOrder.{floatAt}
-use Rattle.drawing.specs.LeastFloats.{leastWith}
 use Rattle.density_call.specs.declared.meet.Meeting.{Meeting}
 use Rattle.density_call.specs.Meeting.{turning, withGap, countAfter, highestAfter, withNeighbor, paid, Countable, Visitable, Visits}
 
@@ -25,11 +24,11 @@ no-more n b e = let z : n ≡ n + 0 = omega arith in z ∙ ap (λ (z : Bool). n 
 
 -- ---- gaps
 module _ (least gap : Float) where
-  pub gap-joins : (r : Float) → lt plusZero gap ≡ true → r ≡ leastWith least gap → r ≡ withGap least gap
-  gap-joins r b e = e ∙ sym (cond-true (lt plusZero gap) (leastWith least gap) least b)
+  pub gap-joins : (r : Float) → lt plusZero gap ≡ true → r ≡ lesserOf gap least → r ≡ withGap least gap
+  gap-joins r b e = e ∙ sym (cond-true (lt plusZero gap) (lesserOf gap least) least b)
 
   pub gap-passed : lt plusZero gap ≡ false → least ≡ withGap least gap
-  gap-passed b = sym (cond-false (lt plusZero gap) (leastWith least gap) least b)
+  gap-passed b = sym (cond-false (lt plusZero gap) (lesserOf gap least) least b)
 
 -- ---- a neighbor
 -- the count changes between 0 and 1 where the lesser of the counts before and after is 0

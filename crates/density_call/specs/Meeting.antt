@@ -9,10 +9,9 @@ use lib.Ieee.{Float, nan, lt}
 use lib.ListN.{length, getD, take, drop, set}
 use Rattle.laws.specs.Lists.{Mem, bit, fold, count}
 use Rattle.laws.specs.Least.{lesser}
-use Rattle.floats.specs.Values.{plusZero, gapOf}
+use Rattle.floats.specs.Values.{plusZero, lesserOf, gapOf}
 use Rattle.floats.specs.TotalOrder.{floatAt}
 use Rattle.floats.specs.Grid.{ofUnits}
-use Rattle.drawing.specs.LeastFloats.{leastWith}
 use Rattle.density_call.specs.declared.meet.Meeting.{Meeting}
 use Rattle.density_call.specs.declared.meet.Met.{Met}
 use Rattle.density_call.specs.declared.meet.Met.the-variants.{Went, Spent}
@@ -81,9 +80,9 @@ Meets starts s t n j least allowance r =
     × (rowsFrom L (drop (8 * n) t) ≡ map (λ x. moved starts (neighbor c (itemAt L j .wire) x) x) (st .rows)))
 
 -- ---- its loop
--- a gap joins the least one where it is above 0
+-- a gap joins the least one where it is above 0; a NaN, which stands for none, is below nothing
 abbrev pub withGap : Float → Float → Float
-withGap least gap = cond (lt plusZero gap) (leastWith least gap) least
+withGap least gap = cond (lt plusZero gap) (lesserOf gap least) least
 
 -- a neighbor of the count k at that gap: its new count, the greatest count so far, and the meeting with it
 abbrev pub countAfter : Bool → ℕ → ℕ

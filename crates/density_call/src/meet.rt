@@ -9,9 +9,9 @@ use crate::counts::greater;
 use bitset::Last;
 use bitset::last_below;
 use bitset::rest_below;
-use drawing::least_with;
 use floats::absolute;
 use floats::float_of_key;
+use floats::lesser;
 
 // How many of the wires met are of another net; how many of these become congested or cease to be; the greatest count among them; the least gap so far; how many visits are left.
 // The least gap is a NaN where there is none yet (`no_gap`). These figures are copied at each visit: with an enum, whose copies wait for the stores that made it, they took two thirds of the loop's time.
@@ -29,12 +29,13 @@ pub(crate) enum Met {
     Spent,
 }
 
-// The gap to a neighbor joins the least gap where it is above 0.
+// The gap to a neighbor joins the least gap where it is above 0: it is taken unless the least gap is below it, and a NaN is below nothing.
+// Of two equal gaps either will do here, and `lesser` is one instruction; `least_with`, which keeps the old one, takes three, and the loop took 6 to 8% longer.
 fn with_gap(least: f64, gap: f64) -> f64
     ensures { λ r. ⌜ r ≡ withGap least gap ⌝ }
 {
     if 0.0 < gap {
-        return least_with(least, gap);
+        return lesser(gap, least);
     }
     least
 }
