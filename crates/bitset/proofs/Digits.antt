@@ -11,7 +11,7 @@ use lib.Count.{leadingZeros, leading-top}
 use lib.Dec.{eqb}
 use lib.Pow.{pow-pos, pow-mono, pow-add, shr-lt, shr-shr, shl-exact, field, mod-mod-pow}
 use Rattle.laws.proofs.Tests.{le-or-lt}
-use Rattle.bitset.specs.Members.{bitAt}
+use Rattle.bitset.specs.Inner.Members.{bitAt}
 
 -- ---- x with 2 ^ k added, where bit k is not set
 module _ (x k : ℕ) where

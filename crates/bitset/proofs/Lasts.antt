@@ -10,7 +10,7 @@ use lib.Dec.{leb}
 use Rattle.laws.proofs.Tests.{clash, le-or-lt}
 use Rattle.bitset.specs.declared.Last.{Last}
 use Rattle.bitset.specs.declared.Last.the-variants.{Found, Empty}
-use Rattle.bitset.specs.Members.{member, restBelow, lastBelow}
+use Rattle.bitset.specs.Inner.Members.{member, restBelow, lastBelow}
 
 -- no member from a on and below b
 abbrev pub NoneIn : List ℕ → ℕ → ℕ → Type 0

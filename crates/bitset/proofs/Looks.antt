@@ -7,7 +7,7 @@ use native.Mathlib.Omega.{arith}
 use lib.ListN.{length, getD}
 use Rattle.laws.proofs.Tests.{le-or-lt}
 use Rattle.bitset.specs.declared.Last.the-variants.{Found, Empty}
-use Rattle.bitset.specs.Members.{bitAt, member, restBelow, wordsWith, lastWith}
+use Rattle.bitset.specs.Inner.Members.{bitAt, member, restBelow, wordsWith, lastWith}
 use Rattle.bitset.proofs.Digits.{bit-zero, shift-one, top-on, top-last, top-below, cut-top}
 use Rattle.bitset.proofs.Lasts.{NoneIn, last-none, last-is}
 use Rattle.bitset.proofs.Rests.{by-word, with-length, with-word, with-rest}

@@ -9,7 +9,7 @@ use lib.ListN.{length, getD, take, length-take, length-append, List·getD-append
 use lib.Pow.{pow-pos, mod-mod-pow}
 use lib.Seq.{getD-take, getD-append-seam}
 use Rattle.laws.proofs.Tests.{le-or-lt}
-use Rattle.bitset.specs.Members.{bitAt, member, restBelow, lastBelow, wordsWith, lastWith}
+use Rattle.bitset.specs.Inner.Members.{bitAt, member, restBelow, lastBelow, wordsWith, lastWith}
 use Rattle.bitset.proofs.Digits.{bit-cut, bit-high, shift-one}
 use Rattle.bitset.proofs.Sets.{member-beyond}
 use Rattle.bitset.proofs.Lasts.{NoneIn, last-same}

@@ -10,7 +10,7 @@ use lib.Dec.{eqb}
 use lib.ListN.{length, getD, set, replicate, length-set, length-replicate, getD-replicate, List·getD-eq-default}
 use lib.Seq.{getD-set-same, getD-set-other, set-out}
 use Rattle.laws.proofs.Tests.{decide, or-elim, or-left, or-right, le-or-lt, same-or-not}
-use Rattle.bitset.specs.Members.{bitAt, member, inserted, removed}
+use Rattle.bitset.specs.Inner.Members.{bitAt, member, inserted, removed}
 use Rattle.bitset.proofs.Digits.{bit-zero, bit-set, bit-set-other, bit-clear, bit-clear-other}
 
 member-bit : (w : List ℕ) (p : ℕ) {b : Bool} → member w p ≡ b → bitAt (getD w (p / 64) 0) (p % 64) ≡ b

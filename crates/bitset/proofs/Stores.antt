@@ -4,7 +4,7 @@ use mathlib.Core.List.{List}
 use Prim.Native.Nat.{ℕ, _+_, _-_, _*_, _/_, _%_, _^_, _≤_, _<_}
 use native.Mathlib.Omega.{arith}
 use lib.ListN.{getD, set}
-use Rattle.bitset.specs.Members.{member, inserted, removed}
+use Rattle.bitset.specs.Inner.Members.{member, inserted, removed}
 use Rattle.bitset.proofs.Digits.{more-fits, power-le, bit-on, bit-off, shift-one}
 
 module _ (w : List ℕ) (place : ℕ) where

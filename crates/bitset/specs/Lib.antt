@@ -1,2 +1,2 @@
--- The definitions that the contracts cite.
-pub mod Members
+-- No promise rests on a definition of this crate.
+pub mod Inner

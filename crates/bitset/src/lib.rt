@@ -2,7 +2,7 @@
 // Places beyond the words are never members: putting one in or taking one out leaves the words as they are.
 ghost use mathlib.Core.Path.{_≡_};
 ghost use Prim.Native.Nat.{_+_, _/_, _^_, _≤_, _<_, min};
-ghost use Rattle.bitset.specs.Members.{member, inserted, removed, restBelow, lastWith};
+ghost use Rattle.bitset.specs.Inner.Members.{member, inserted, removed, restBelow, lastWith};
 
 // The greatest member of a range, with the rest below it (see `rest_below`), or that the range has none.
 pub enum Last {

@@ -19,7 +19,7 @@ use Rattle.drawing.specs.Entries.{Segment, Node}
 use Rattle.drawing.proofs.Fit.{FitSegment, FitNode, Line, line-of, across-of, down-of}
 use Rattle.boxes.specs.declared.aabb.Aabb.{Aabb}
 use Rattle.boxes.specs.Boxes.{fromNode, fromSegment, nodeBox, segmentBox, union, axisGap, distance}
-use Rattle.boxes.specs.Fitting.{Span, Inside, FitBox, Within}
+use Rattle.boxes.specs.Inner.Fitting.{Span, Inside, FitBox, Within}
 use Rattle.boxes.proofs.Growth.{grows}
 
 -- the place of a float in the order of the values

@@ -18,7 +18,7 @@ use Rattle.drawing.specs.Entries.{Node}
 use Rattle.drawing.proofs.Fit.{FitNode, across-of, down-of}
 use Rattle.boxes.specs.declared.aabb.Aabb.{Aabb}
 use Rattle.boxes.specs.Boxes.{fromNode, nodeBox, union}
-use Rattle.boxes.specs.Fitting.{Span, FitBox}
+use Rattle.boxes.specs.Inner.Fitting.{Span, FitBox}
 use Rattle.boxes.proofs.BoxLaws.{span-at, fit-node, fit-union}
 
 -- no -0: where the value is not below zero the sign is plus

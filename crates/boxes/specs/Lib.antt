@@ -1,3 +1,4 @@
+-- The definitions, a file for each notion.
 pub mod Boxes
--- what only private contracts and proofs cite
-pub mod Fitting
+-- what only contracts of inner functions and proofs cite
+pub mod Inner

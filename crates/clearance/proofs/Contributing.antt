@@ -2,7 +2,7 @@
 use mathlib.Core.Path.{_≡_, refl}
 use mathlib.Core.Bool.{Bool, true, false, not}
 use lib.Ieee.{Float, lt, le}
-use Rattle.drawing.specs.LeastFloats.{Number, gapOfFloat}
+use Rattle.drawing.specs.Inner.LeastFloats.{Number, gapOfFloat}
 use Rattle.drawing.proofs.LeastFloatLaws.{by-least}
 use Rattle.clearance.specs.Walk.{contributes}
 

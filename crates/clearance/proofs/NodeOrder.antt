@@ -28,7 +28,7 @@ use Rattle.drawing.proofs.ListOrders.{nodes-in-order-perm}
 use Rattle.boxes.specs.declared.aabb.Aabb.{Aabb}
 use Rattle.clearance.specs.Tree.{IndexedNode, indexed, indexedRow, indexedInOrder, horizontalWider, hull, build, treeOf}
 use Rattle.drawing.proofs.Fit.{FitNode}
-use Rattle.boxes.specs.Fitting.{Span, Inside}
+use Rattle.boxes.specs.Inner.Fitting.{Span, Inside}
 use Rattle.boxes.proofs.BoxLaws.{at, low-at, high-at, Alike}
 use Rattle.boxes.proofs.Spans.{Whole, whole-node, whole-union, width-good, height-good}
 use Rattle.clearance.proofs.TreeLaws.{FitIndexed, around-alike, around-perm, hull-around}

@@ -7,13 +7,13 @@ use native.Mathlib.Omega.{arith}
 use lib.Ieee.{Float, lt}
 use Rattle.laws.specs.Lists.{bit}
 use Rattle.laws.specs.Charged.{free, visit}
-use Rattle.laws.specs.Allowance.{left, within, reply}
+use Rattle.laws.specs.Inner.Allowance.{left, within, reply}
 use Rattle.laws.proofs.Runs.{within-free, visit-spent, visit-paid}
 use Rattle.drawing.specs.declared.gap.Gap.{Gap}
 use Rattle.drawing.specs.declared.gap.Gap.the-variants.{Present}
 use Rattle.drawing.specs.declared.refusal.Refusal.the-variants.{WorkLimitExceeded}
 use Rattle.drawing.specs.Gaps.{lesserGap}
-use Rattle.drawing.specs.LeastFloats.{Number, gapOfFloat, leastWith}
+use Rattle.drawing.specs.Inner.LeastFloats.{Number, gapOfFloat, leastWith}
 use Rattle.drawing.proofs.LeastFloatLaws.{least-joined}
 use Rattle.clearance.specs.declared.report.ClearanceAnswer.the-variants.{Report, Refused}
 use Rattle.clearance.specs.declared.visit.Walking.{Walking}
@@ -23,7 +23,7 @@ use Rattle.clearance.specs.declared.halves.Subtree.{Subtree}
 use Rattle.clearance.specs.Figures.{Figures}
 use Rattle.clearance.specs.Walk.{withPair}
 use Rattle.clearance.specs.Answer.{accepted}
-use Rattle.clearance.specs.State.{soFar, outcomeOf, nearerFirst, Answers}
+use Rattle.clearance.specs.Inner.State.{soFar, outcomeOf, nearerFirst, Answers}
 
 -- ---- the visit of a pair, as the code answers it
 pub visit-stopped : (m : ℕ) (g : Figures) → m ≡ 0 → outcomeOf Spent ≡ within m (visit (free g))

@@ -21,7 +21,7 @@ use Rattle.boxes.specs.declared.aabb.Aabb.{Aabb}
 use Rattle.boxes.specs.Boxes.{union}
 use Rattle.clearance.specs.Tree.{IndexedNode, indexed, indexedRow, indexedInOrder, horizontalWider, hull, Tree, bare, leaf, branch, boundsOf, build, treeOf}
 use Rattle.drawing.proofs.Fit.{FitNode}
-use Rattle.boxes.specs.Fitting.{Span, FitBox, Within}
+use Rattle.boxes.specs.Inner.Fitting.{Span, FitBox, Within}
 use Rattle.boxes.proofs.BoxLaws.{le-self, within-self, within-trans, fit-node, fit-union, union-first, union-second, union-least, Alike}
 
 abbrev pub FitIndexed : IndexedNode → Type 0

@@ -5,7 +5,7 @@ use Prim.Native.Nat.{ℕ}
 use lib.Ieee.{Float}
 use Rattle.laws.specs.Lists.{All}
 use Rattle.laws.specs.Charged.{settle}
-use Rattle.laws.specs.Allowance.{within, reply}
+use Rattle.laws.specs.Inner.Allowance.{within, reply}
 use Rattle.laws.proofs.Runs.{settle-within}
 use Rattle.drawing.specs.declared.refusal.Refusal.the-variants.{WorkLimitExceeded}
 use Rattle.drawing.specs.Entries.{Segment, Node, Exemption}

@@ -1,5 +1,5 @@
 // What a call answers, from what its walks came to.
-ghost use Rattle.clearance.specs.State.{Answers};
+ghost use Rattle.clearance.specs.Inner.State.{Answers};
 use crate::report::ClearanceAnswer;
 use crate::report::EdgeNodeClearance;
 use crate::visit::Walked;

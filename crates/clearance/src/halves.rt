@@ -1,6 +1,6 @@
 // The halves of a part of the tree, in the order in which they are walked.
 ghost use mathlib.Core.Path.{_≡_};
-ghost use Rattle.clearance.specs.State.{nearerFirst};
+ghost use Rattle.clearance.specs.Inner.State.{nearerFirst};
 
 // A part of the tree: its first leaf, how many leaves it has, and how far its box is from the segment's.
 pub struct Subtree {

@@ -1,8 +1,8 @@
 // The tests by which the walk leaves out a part of the tree, or the distances of its branches.
 ghost use mathlib.Core.Path.{_≡_};
-ghost use Rattle.drawing.specs.LeastFloats.{Number, gapOfFloat};
+ghost use Rattle.drawing.specs.Inner.LeastFloats.{Number, gapOfFloat};
 ghost use Rattle.clearance.specs.Walk.{contributes};
-ghost use Rattle.clearance.specs.State.{axisBelow, edgesBelow};
+ghost use Rattle.clearance.specs.Inner.State.{axisBelow, edgesBelow};
 use boxes::Aabb;
 
 // Whether a part whose box is at this distance may still change the figures. Where there is no least distance yet, `least` is a NaN: then `least <= lower` is false, and every part may. The distance of two boxes, which the walk hands over, is never a NaN.

@@ -2,10 +2,10 @@
 ghost use mathlib.Core.Path.{_≡_};
 ghost use Prim.Native.Nat.{_+_, _^_, _<_};
 ghost use Rattle.laws.specs.Charged.{free, visit};
-ghost use Rattle.laws.specs.Allowance.{within};
-ghost use Rattle.drawing.specs.LeastFloats.{Number};
+ghost use Rattle.laws.specs.Inner.Allowance.{within};
+ghost use Rattle.drawing.specs.Inner.LeastFloats.{Number};
 ghost use Rattle.clearance.specs.Walk.{withPair};
-ghost use Rattle.clearance.specs.State.{soFar, outcomeOf, atStart};
+ghost use Rattle.clearance.specs.Inner.State.{soFar, outcomeOf, atStart};
 use drawing::least_with;
 use drawing::no_gap;
 use std::num::wrapping_add_usize;

@@ -11,11 +11,11 @@ use Rattle.laws.proofs.Tests.{le-or-lt}
 use Rattle.laws.proofs.Places.{at-mem, mem-at}
 use Rattle.laws.proofs.Perms.{perm-sym, perm-mem}
 use Rattle.laws.proofs.Parts.{drop-past}
-use Rattle.sorting.specs.Sorted.{sorted}
+use Rattle.sorting.specs.Inner.Sorted.{sorted}
 use Rattle.sorting.proofs.Entries.{sorted-perm, sorted-rest, sorted-length}
-use Rattle.clearance_call.specs.Stored.{leafAt}
-use Rattle.exemptions.specs.Exempting.{wordAt, Rising, Bound}
-use Rattle.clearance_call.specs.Marks.{TreeBehind, IdsSorted, LeavesGrouped}
+use Rattle.clearance_call.specs.Inner.Stored.{leafAt}
+use Rattle.exemptions.specs.Inner.Exempting.{wordAt, Rising, Bound}
+use Rattle.clearance_call.specs.Inner.Marks.{TreeBehind, IdsSorted, LeavesGrouped}
 use Rattle.exemptions.proofs.ExemptLaws.{words-sortable, words-rising}
 
 -- the id of leaf j, in the tree behind 11 words for each of m leaves

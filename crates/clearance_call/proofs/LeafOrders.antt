@@ -20,13 +20,13 @@ use Rattle.laws.proofs.Perms.{perm-length, perm-all, perm-sym, perm-eq, perm-bo
 use Rattle.laws.proofs.Sorting.{sort-perm}
 use Rattle.laws.proofs.Places.{first-at}
 use Rattle.laws.proofs.Parts.{tail-lent, tail-back, drop-past}
-use Rattle.sorting.specs.Sorted.{before, within, sortable, sorted}
+use Rattle.sorting.specs.Inner.Sorted.{before, within, sortable, sorted}
 use Rattle.sorting.proofs.Entries.{sorted-is}
 use Rattle.drawing.specs.Entries.{NodeColumns}
 use Rattle.boxes.specs.declared.aabb.Aabb.{Aabb}
 use Rattle.boxes.specs.Boxes.{union}
 use Rattle.clearance.specs.Tree.{hull, horizontalWider}
-use Rattle.clearance_call.specs.LeafOrder.{indexedAt, boxFrom, horizontalPart, along, leafOrder, Places, Buildable}
+use Rattle.clearance_call.specs.Inner.LeafOrder.{indexedAt, boxFrom, horizontalPart, along, leafOrder, Places, Buildable}
 
 -- ---- the box around the places
 pub place-small : (s : List ℕ) (n : ℕ) (c : NodeColumns) → Places s n c → (k : ℕ) → k < n → getD s k 0 < length (c .id)

@@ -8,14 +8,14 @@ use lib.Dec.{T}
 use lib.Ieee.{Float, nan, inf, fin, binary64, fits, isNan, lt}
 use lib.ListN.{length, getD}
 use Rattle.laws.specs.Charged.{free, visit, runs}
-use Rattle.laws.specs.Allowance.{Outcome, within}
+use Rattle.laws.specs.Inner.Allowance.{Outcome, within}
 use Rattle.laws.proofs.Loops.{Onwards, loop-next, loop-stops, loop-ends}
-use Rattle.bitset.specs.Members.{member}
+use Rattle.bitset.specs.Inner.Members.{member}
 use Rattle.drawing.specs.Entries.{Exemption}
-use Rattle.drawing.specs.LeastFloats.{Number, gapOfFloat}
+use Rattle.drawing.specs.Inner.LeastFloats.{Number, gapOfFloat}
 use Rattle.boxes.specs.declared.aabb.Aabb.{Aabb}
 use Rattle.boxes.specs.Boxes.{distance}
-use Rattle.boxes.specs.Fitting.{FitBox}
+use Rattle.boxes.specs.Inner.Fitting.{FitBox}
 use Rattle.boxes.proofs.BoxLaws.{within-self}
 use Rattle.boxes.proofs.AnyBoxes.{any-distance-good}
 use Rattle.clearance.specs.declared.visit.Walking.{Walking}
@@ -23,12 +23,12 @@ use Rattle.clearance.specs.declared.visit.Walked.{Walked}
 use Rattle.clearance.specs.declared.visit.Walked.the-variants.{Spent, Went}
 use Rattle.clearance.specs.Figures.{Figures, exempt}
 use Rattle.clearance.specs.Tree.{boundsOf}
-use Rattle.clearance_call.specs.Stored.{boxAt, leafAt, storedTree, leavesFrom}
+use Rattle.clearance_call.specs.Inner.Stored.{boxAt, leafAt, storedTree, leavesFrom}
 use Rattle.clearance.specs.Walk.{withPair}
-use Rattle.clearance_call.specs.Marks.{Marked}
-use Rattle.clearance.specs.State.{soFar, outcomeOf, edgesBelow}
-use Rattle.clearance_call.specs.Nested.{Nested, TreeBelow, leafVisit}
-use Rattle.clearance_call.specs.Walking.{Part, Near, NetMarks, Walks}
+use Rattle.clearance_call.specs.Inner.Marks.{Marked}
+use Rattle.clearance.specs.Inner.State.{soFar, outcomeOf, edgesBelow}
+use Rattle.clearance_call.specs.Inner.Nested.{Nested, TreeBelow, leafVisit}
+use Rattle.clearance_call.specs.Inner.Walking.{Part, Near, NetMarks, Walks}
 use Rattle.clearance.proofs.Visits.{pair-violations}
 use Rattle.clearance.proofs.Below.{below-number, above-zero}
 use Rattle.clearance_call.proofs.NestedTrees.{stored-same, stored-leaves, nested-box, nested-below}

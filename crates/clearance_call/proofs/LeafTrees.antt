@@ -13,7 +13,7 @@ use Rattle.laws.proofs.Perms.{perm-length, perm-all, perm-sym, perm-map}
 use Rattle.sorting.proofs.Entries.{sorted-entries}
 use Rattle.drawing.specs.Entries.{NodeColumns}
 use Rattle.clearance.specs.Tree.{IndexedNode, indexedRow, indexedInOrder, Tree, build}
-use Rattle.clearance_call.specs.LeafOrder.{indexedAt, boxFrom, horizontalPart, along, leafOrder, treeOver}
+use Rattle.clearance_call.specs.Inner.LeafOrder.{indexedAt, boxFrom, horizontalPart, along, leafOrder, treeOver}
 use Rattle.clearance.proofs.TreeLaws.{FitIndexed}
 use Rattle.clearance.proofs.UnionTrees.{joined, rejoined}
 use Rattle.clearance_call.proofs.LeafOrders.{order-short, order-long, order-perm, along-perm}

@@ -8,14 +8,14 @@ use native.Mathlib.Omega.{arith}
 use lib.ListN.{length, getD, take, replicate, length-replicate}
 use lib.Seq.{take-all}
 use Rattle.laws.proofs.Tests.{decide, clash, le-or-lt}
-use Rattle.bitset.specs.Members.{member, inserted}
+use Rattle.bitset.specs.Inner.Members.{member, inserted}
 use Rattle.bitset.proofs.Sets.{length-inserted, member-beyond, member-none, member-kept, member-new, member-only}
 use Rattle.drawing.specs.Entries.{Exemption}
 use Rattle.exemptions.specs.declared.Range.{Range}
 use Rattle.clearance.specs.Figures.{exempt}
-use Rattle.clearance_call.specs.Stored.{leafAt}
-use Rattle.exemptions.specs.Exempting.{wordAt, nodeOf, Holds, Bound, Own, Listed}
-use Rattle.clearance_call.specs.Marks.{Grouped, Added, Marked, MarkedFor}
+use Rattle.clearance_call.specs.Inner.Stored.{leafAt}
+use Rattle.exemptions.specs.Inner.Exempting.{wordAt, nodeOf, Holds, Bound, Own, Listed}
+use Rattle.clearance_call.specs.Inner.Marks.{Grouped, Added, Marked, MarkedFor}
 use Rattle.exemptions.proofs.ExemptLaws.{listed-of, listed, unlisted, none-there}
 
 -- ---- one id: the place that is found is its group, or no leaf has it

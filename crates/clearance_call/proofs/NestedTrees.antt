@@ -17,12 +17,12 @@ use Rattle.drawing.specs.Orders.{nodesInOrder}
 use Rattle.drawing.proofs.ListOrders.{nodes-in-order-perm}
 use Rattle.drawing.proofs.Fit.{FitNode}
 use Rattle.boxes.specs.declared.aabb.Aabb.{Aabb}
-use Rattle.boxes.specs.Fitting.{FitBox, Within}
+use Rattle.boxes.specs.Inner.Fitting.{FitBox, Within}
 use Rattle.boxes.proofs.BoxLaws.{within-trans, fit-union, union-first, union-second}
 use Rattle.clearance.specs.Tree.{IndexedNode, indexed, Tree, bare, leaf, branch, boundsOf, build, treeOf}
-use Rattle.clearance_call.specs.Stored.{boxAt, splitAt, storedTree, leavesFrom}
-use Rattle.clearance.specs.State.{edgesBelow}
-use Rattle.clearance_call.specs.Nested.{Nested, TreeBelow}
+use Rattle.clearance_call.specs.Inner.Stored.{boxAt, splitAt, storedTree, leavesFrom}
+use Rattle.clearance.specs.Inner.State.{edgesBelow}
+use Rattle.clearance_call.specs.Inner.Nested.{Nested, TreeBelow}
 use Rattle.clearance.proofs.TreeLaws.{FitIndexed, leaves, ordered, halves-all, first-some, second-some, first-small, second-small, enough, in-order-fit}
 use Rattle.clearance.proofs.UnionTrees.{rejoined}
 use Rattle.clearance_call.proofs.StoredBoxes.{leaves-take, leaves-drop, stored-none, stored-leaf, stored-branch}

@@ -11,11 +11,11 @@ use lib.ListN.{length, getD, set, length-set}
 use lib.Seq.{getD-set-same, getD-set-other}
 use lib.Pow.{pow-add}
 use Rattle.laws.specs.Charged.{Charged, free, after}
-use Rattle.laws.specs.Allowance.{within, onward}
+use Rattle.laws.specs.Inner.Allowance.{within, onward}
 use Rattle.laws.proofs.Runs.{after-nothing, after-after, within-free, within-after}
 use Rattle.laws.proofs.Tests.{le-or-lt}
 use Rattle.drawing.specs.Entries.{Segment, Exemption}
-use Rattle.drawing.specs.LeastFloats.{gapOfFloat}
+use Rattle.drawing.specs.Inner.LeastFloats.{gapOfFloat}
 use Rattle.boxes.specs.declared.aabb.Aabb.{Aabb}
 use Rattle.clearance.specs.declared.visit.Walking.{Walking}
 use Rattle.clearance.specs.declared.halves.Subtree.{Subtree}
@@ -27,12 +27,12 @@ use Rattle.clearance.specs.declared.visit.Walked.the-variants.{Spent, Went}
 use Rattle.boxes.specs.Boxes.{segmentBox}
 use Rattle.clearance.specs.Figures.{Figures}
 use Rattle.clearance.specs.Tree.{Tree}
-use Rattle.clearance_call.specs.Stored.{storedTree}
+use Rattle.clearance_call.specs.Inner.Stored.{storedTree}
 use Rattle.clearance.specs.Walk.{contributes, walk}
-use Rattle.clearance_call.specs.Marks.{Marked}
-use Rattle.clearance_call.specs.Nested.{Nested}
-use Rattle.clearance.specs.State.{soFar, outcomeOf}
-use Rattle.clearance_call.specs.Walking.{Part, Near, Walkable, Halved, NetMarks, Walks, stepOf, Steps}
+use Rattle.clearance_call.specs.Inner.Marks.{Marked}
+use Rattle.clearance_call.specs.Inner.Nested.{Nested}
+use Rattle.clearance.specs.Inner.State.{soFar, outcomeOf}
+use Rattle.clearance_call.specs.Inner.Walking.{Part, Near, Walkable, Halved, NetMarks, Walks, stepOf, Steps}
 use Rattle.clearance_call.proofs.NestedTrees.{stored-same}
 use Rattle.clearance_call.proofs.StoredWalk.{onward-stopped, onward-went, next-room, half-walkable}
 

@@ -10,16 +10,16 @@ use lib.Seq.{take-at, drop-at, length-take-le, getD-take, getD-drop}
 use Rattle.laws.specs.Lists.{All}
 use Rattle.laws.proofs.Perms.{perm-all, perm-length, perm-sym}
 use Rattle.laws.proofs.Parts.{tail-lent, tail-back}
-use Rattle.sorting.specs.Sorted.{upTo}
+use Rattle.sorting.specs.Inner.Sorted.{upTo}
 use Rattle.sorting.proofs.Entries.{length-upTo}
 use Rattle.drawing.specs.Entries.{NodeColumns}
-use Rattle.drawing.specs.Lengths.{NodesAgree}
+use Rattle.drawing.specs.Inner.Lengths.{NodesAgree}
 use Rattle.boxes.specs.declared.aabb.Aabb.{Aabb}
 use Rattle.clearance.specs.Tree.{IndexedNode}
-use Rattle.clearance_call.specs.LeafOrder.{indexedAt, leafOrder, treeOver, Places, Buildable}
-use Rattle.clearance_call.specs.Tables.{NodesFilled}
-use Rattle.clearance_call.specs.Stored.{boxAt, leafFrom, leafAt, storedTree, leavesFrom, LeavesPut, SplitsPut, Grown}
-use Rattle.clearance_call.specs.Marks.{TreeBehind}
+use Rattle.clearance_call.specs.Inner.LeafOrder.{indexedAt, leafOrder, treeOver, Places, Buildable}
+use Rattle.clearance_call.specs.Inner.Tables.{NodesFilled}
+use Rattle.clearance_call.specs.Inner.Stored.{boxAt, leafFrom, leafAt, storedTree, leavesFrom, LeavesPut, SplitsPut, Grown}
+use Rattle.clearance_call.specs.Inner.Marks.{TreeBehind}
 use Rattle.clearance_call.proofs.LeafOrders.{ordered, order-perm}
 use Rattle.clearance_call.proofs.TableLaws.{all-places}
 

@@ -16,10 +16,10 @@ use Rattle.floats.proofs.Rank.{Fin, fin-num}
 use Rattle.boxes.specs.declared.aabb.Aabb.{Aabb}
 use Rattle.boxes.specs.Boxes.{union}
 use Rattle.clearance.specs.Tree.{IndexedNode, bare, leaf, branch, boundsOf}
-use Rattle.clearance_call.specs.LeafOrder.{treeOver}
+use Rattle.clearance_call.specs.Inner.LeafOrder.{treeOver}
 use Rattle.clearance.proofs.UnionTrees.{joined}
 use Rattle.clearance_call.proofs.LeafTrees.{over, tree-two}
-use Rattle.clearance_call.specs.Stored.{boxAt, leafAt, splitAt, storedTree, leavesFrom, BoxPut, Outside, SplitsPut}
+use Rattle.clearance_call.specs.Inner.Stored.{boxAt, leafAt, splitAt, storedTree, leavesFrom, BoxPut, Outside, SplitsPut}
 
 -- ---- four words put
 module _ (s : List ℕ) (p : ℕ) (w₀ w₁ w₂ w₃ : ℕ) (room : p + 4 ≤ length s) where

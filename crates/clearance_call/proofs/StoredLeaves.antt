@@ -9,8 +9,8 @@ use lib.Seq.{getD-set-same, getD-set-other}
 use Rattle.laws.proofs.Tests.{le-or-lt}
 use Rattle.drawing.specs.Entries.{NodeColumns}
 use Rattle.boxes.specs.declared.aabb.Aabb.{Aabb}
-use Rattle.clearance_call.specs.LeafOrder.{indexedAt, Places}
-use Rattle.clearance_call.specs.Stored.{boxAt, leafFrom, BoxPut, LeafPut, LeavesPut}
+use Rattle.clearance_call.specs.Inner.LeafOrder.{indexedAt, Places}
+use Rattle.clearance_call.specs.Inner.Stored.{boxAt, leafFrom, BoxPut, LeafPut, LeavesPut}
 use Rattle.clearance_call.proofs.LeafOrders.{place-small}
 use Rattle.clearance_call.proofs.StoredBoxes.{box-same}
 

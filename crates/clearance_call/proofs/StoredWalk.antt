@@ -9,13 +9,13 @@ use borrow.Author.Tests.{le-leb, lt-leb}
 use lib.Dec.{leb}
 use lib.Ieee.{Float, lt}
 use Rattle.laws.specs.Charged.{Charged, free, visit}
-use Rattle.laws.specs.Allowance.{Outcome, left, within, onward}
+use Rattle.laws.specs.Inner.Allowance.{Outcome, left, within, onward}
 use Rattle.laws.proofs.Tests.{decide}
 use Rattle.laws.proofs.Runs.{within-left, within-free}
 use Rattle.floats.specs.TotalOrder.{keyOf}
 use Rattle.floats.proofs.Gaps.{Good}
 use Rattle.drawing.specs.Entries.{Segment, Exemption}
-use Rattle.drawing.specs.LeastFloats.{gapOfFloat}
+use Rattle.drawing.specs.Inner.LeastFloats.{gapOfFloat}
 use Rattle.boxes.specs.declared.aabb.Aabb.{Aabb}
 use Rattle.clearance.specs.declared.visit.Walking.{Walking}
 use Rattle.clearance.specs.declared.halves.Subtree.{Subtree}
@@ -25,11 +25,11 @@ use Rattle.clearance.specs.declared.visit.Walked.the-variants.{Spent, Went}
 use Rattle.boxes.specs.Boxes.{segmentBox, distance}
 use Rattle.clearance.specs.Figures.{Figures, exempt}
 use Rattle.clearance.specs.Tree.{Tree, leaf, branch, boundsOf}
-use Rattle.clearance_call.specs.Stored.{boxAt, leafAt, splitAt, storedTree}
+use Rattle.clearance_call.specs.Inner.Stored.{boxAt, leafAt, splitAt, storedTree}
 use Rattle.clearance.specs.Walk.{contributes, withPair, walk}
-use Rattle.clearance_call.specs.Nested.{Nested}
-use Rattle.clearance.specs.State.{soFar, outcomeOf, nearerFirst}
-use Rattle.clearance_call.specs.Walking.{Part, Near, Walkable, Smaller, Halved, Walks}
+use Rattle.clearance_call.specs.Inner.Nested.{Nested}
+use Rattle.clearance.specs.Inner.State.{soFar, outcomeOf, nearerFirst}
+use Rattle.clearance_call.specs.Inner.Walking.{Part, Near, Walkable, Smaller, Halved, Walks}
 use Rattle.floats.proofs.NumberKeys.{nearer-key, no-nearer-key}
 use Rattle.boxes.proofs.AnyBoxes.{any-distance-good}
 use Rattle.clearance.proofs.Visits.{walk-violations}

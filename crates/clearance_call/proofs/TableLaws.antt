@@ -14,12 +14,13 @@ use Rattle.laws.proofs.ListLaws.{mem-all, mem-map}
 use Rattle.laws.proofs.Parts.{drop-past, part-same}
 use Rattle.laws.proofs.Perms.{perm-all, perm-sym}
 use Rattle.laws.proofs.Sorting.{sort-perm}
-use Rattle.sorting.specs.Sorted.{upTo, sortable, sorted, before}
+use Rattle.sorting.specs.Inner.Sorted.{upTo, sortable, sorted, before}
 use Rattle.sorting.proofs.Entries.{sorted-length, sorted-rest, sorted-column, sorted-entries, upTo-below, upTo-placed, upTo-sortable, length-upTo}
 use Rattle.sorting.proofs.Tables.{row-front, row-there}
 use Rattle.floats.specs.TotalOrder.{keyOf}
-use Rattle.drawing.specs.Entries.{Segment, SegmentColumns, NodeColumns, segments, segmentAt, nodeAt}
-use Rattle.drawing.specs.Lengths.{SegmentsAgree}
+use Rattle.drawing.specs.Entries.{Segment, SegmentColumns, NodeColumns, segments}
+use Rattle.drawing.specs.Inner.Entries.{segmentAt, nodeAt}
+use Rattle.drawing.specs.Inner.Lengths.{SegmentsAgree}
 use Rattle.drawing.specs.Orders.{segmentRow, segmentsInOrder}
 use Rattle.drawing.proofs.EntryLaws.{length-segments, segments-at}
 use Rattle.drawing.specs.Held.{SegmentHeld}
@@ -27,7 +28,7 @@ use Rattle.drawing.proofs.ListOrders.{segment-row-one}
 use Rattle.boxes.specs.declared.aabb.Aabb.{Aabb}
 use Rattle.boxes.specs.Boxes.{fromNode, nodeBox}
 use Rattle.clearance.specs.Tree.{IndexedNode, indexed, indexedRow}
-use Rattle.clearance_call.specs.Tables.{nodeRowAt, segmentRowAt, Filled, NodesFilled, SegmentsOrdered}
+use Rattle.clearance_call.specs.Inner.Tables.{nodeRowAt, segmentRowAt, Filled, NodesFilled, SegmentsOrdered}
 
 -- ---- one row
 pub five-stores : (s : List ℕ) (at a b c d e : ℕ) → at + 5 ≤ length s → set (set (set (set (set s at a) (at + 1) b) (at + 2) c) (at + 3) d) (at + 4) e ≡ paste s at (a ∷ b ∷ c ∷ d ∷ e ∷ []) 5

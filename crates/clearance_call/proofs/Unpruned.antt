@@ -29,7 +29,7 @@ use Rattle.boxes.proofs.AnyBoxes.{any-distance-good}
 use Rattle.clearance.specs.Figures.{Figures, exempt}
 use Rattle.clearance.specs.Tree.{IndexedNode, Tree, bare, leaf, branch, boundsOf}
 use Rattle.clearance.specs.Walk.{contributes, withPair, walk}
-use Rattle.clearance_call.specs.Nested.{TreeBelow, leafVisit}
+use Rattle.clearance_call.specs.Inner.Nested.{TreeBelow, leafVisit}
 use Rattle.clearance.proofs.TreeLaws.{leaves}
 use Rattle.clearance.proofs.WalkSteps.{lower, walk-bare, walk-leaf, walk-left-first, walk-right-first}
 

@@ -7,26 +7,27 @@ use borrow.Rule.Slice.PartMut.{midOf}
 use lib.Ieee.{Float, nan}
 use lib.ListN.{length, getD, take, drop}
 use Rattle.laws.specs.Charged.{Charged, runs}
-use Rattle.laws.specs.Allowance.{within}
+use Rattle.laws.specs.Inner.Allowance.{within}
 use Rattle.laws.proofs.Loops.{Onwards, loop-next, loop-stops, loop-ends, told-next, told-none}
 use Rattle.laws.proofs.Places.{first-at}
-use Rattle.drawing.specs.Entries.{Segment, Exemption, SegmentColumns, segmentAt}
-use Rattle.drawing.specs.LeastFloats.{gapOfFloat}
+use Rattle.drawing.specs.Entries.{Segment, Exemption, SegmentColumns}
+use Rattle.drawing.specs.Inner.Entries.{segmentAt}
+use Rattle.drawing.specs.Inner.LeastFloats.{gapOfFloat}
 use Rattle.boxes.specs.declared.aabb.Aabb.{Aabb}
 use Rattle.clearance.specs.declared.visit.Walking.{Walking}
 use Rattle.clearance.specs.declared.visit.Walked.{Walked}
 use Rattle.clearance.specs.declared.visit.Walked.the-variants.{Spent, Went}
 use Rattle.boxes.specs.Boxes.{segmentBox, distance}
-use Rattle.boxes.specs.Fitting.{FitBox}
+use Rattle.boxes.specs.Inner.Fitting.{FitBox}
 use Rattle.clearance.specs.Figures.{Figures}
 use Rattle.clearance.specs.Tree.{boundsOf}
-use Rattle.clearance_call.specs.Stored.{storedTree}
+use Rattle.clearance_call.specs.Inner.Stored.{storedTree}
 use Rattle.clearance.specs.Walk.{walk}
-use Rattle.exemptions.specs.Exempting.{Rising, Holds}
-use Rattle.clearance_call.specs.Marks.{Marked, MarkedFor}
-use Rattle.clearance_call.specs.Nested.{Nested}
-use Rattle.clearance.specs.State.{soFar, outcomeOf}
-use Rattle.clearance_call.specs.Walking.{Part, Walkable, Held, InTurns, allWalks}
+use Rattle.exemptions.specs.Inner.Exempting.{Rising, Holds}
+use Rattle.clearance_call.specs.Inner.Marks.{Marked, MarkedFor}
+use Rattle.clearance_call.specs.Inner.Nested.{Nested}
+use Rattle.clearance.specs.Inner.State.{soFar, outcomeOf}
+use Rattle.clearance_call.specs.Inner.Walking.{Part, Walkable, Held, InTurns, allWalks}
 use Rattle.clearance_call.proofs.StoredWalk.{near-box, walk-room}
 
 pub rising-of : (packed : List ℕ) (k : ℕ) → Held packed k → Rising packed k

@@ -13,20 +13,21 @@ use lib.Seq.{take-at, drop-at, take-all, length-take-le, drop-drop, take-take}
 use Rattle.laws.specs.Lists.{All}
 use Rattle.laws.specs.Charged.{free, after, runs}
 use Rattle.laws.specs.Sort.{sortBy}
-use Rattle.laws.specs.Allowance.{within, reply}
+use Rattle.laws.specs.Inner.Allowance.{within, reply}
 use Rattle.laws.proofs.Perms.{perm-eq}
 use Rattle.laws.proofs.Places.{all-at}
 use Rattle.laws.proofs.Parts.{tail-lent, part-same}
 use Rattle.laws.proofs.Runs.{within-free}
-use Rattle.sorting.specs.Sorted.{upTo}
+use Rattle.sorting.specs.Inner.Sorted.{upTo}
 use Rattle.sorting.proofs.Entries.{length-upTo, upTo-placed}
 use Rattle.drawing.specs.declared.refusal.Check.{Check}
 use Rattle.drawing.specs.declared.refusal.Check.the-variants.{Refused as Stopped}
 use Rattle.drawing.specs.declared.refusal.Refusal.{Refusal}
 use Rattle.drawing.specs.declared.refusal.Refusal.the-variants.{WorkLimitExceeded}
 use Rattle.drawing.specs.Refusals.{firstOf}
-use Rattle.drawing.specs.Entries.{Segment, Node, Exemption, SegmentColumns, NodeColumns, ExemptionColumns, segments, nodes, exemptions, segmentAt, nodeAt}
-use Rattle.drawing.specs.Lengths.{SegmentsAgree, NodesAgree, ExemptionsAgree}
+use Rattle.drawing.specs.Entries.{Segment, Node, Exemption, SegmentColumns, NodeColumns, ExemptionColumns, segments, nodes, exemptions}
+use Rattle.drawing.specs.Inner.Entries.{segmentAt, nodeAt}
+use Rattle.drawing.specs.Inner.Lengths.{SegmentsAgree, NodesAgree, ExemptionsAgree}
 use Rattle.drawing.specs.Conditions.{shortScratch}
 use Rattle.drawing.specs.Checks.{listConditions}
 use Rattle.drawing.specs.Orders.{segmentsInOrder, nodesInOrder}
@@ -42,17 +43,17 @@ use Rattle.clearance.specs.Conditions.{clearanceConditions}
 use Rattle.clearance.specs.Figures.{Figures}
 use Rattle.clearance.specs.Tree.{indexed, Tree, bare, build, treeOf}
 use Rattle.clearance.specs.Walk.{walk, noFigures, walkAll}
-use Rattle.clearance_call.specs.LeafOrder.{indexedAt}
-use Rattle.clearance_call.specs.Tables.{SegmentsOrdered}
-use Rattle.clearance_call.specs.Stored.{storedTree, Grown}
-use Rattle.clearance_call.specs.Nested.{Nested}
-use Rattle.exemptions.specs.Exempting.{Holds, Gathered}
-use Rattle.clearance_call.specs.Marks.{Grouped}
-use Rattle.clearance.specs.State.{outcomeOf, atStart, Answers}
-use Rattle.clearance_call.specs.Walking.{Part, Held, InTurns, allWalks}
+use Rattle.clearance_call.specs.Inner.LeafOrder.{indexedAt}
+use Rattle.clearance_call.specs.Inner.Tables.{SegmentsOrdered}
+use Rattle.clearance_call.specs.Inner.Stored.{storedTree, Grown}
+use Rattle.clearance_call.specs.Inner.Nested.{Nested}
+use Rattle.exemptions.specs.Inner.Exempting.{Holds, Gathered}
+use Rattle.clearance_call.specs.Inner.Marks.{Grouped}
+use Rattle.clearance.specs.Inner.State.{outcomeOf, atStart, Answers}
+use Rattle.clearance_call.specs.Inner.Walking.{Part, Held, InTurns, allWalks}
 use Rattle.clearance.specs.Answer.{accepted, clearanceAnswer}
 use Rattle.drawing.proofs.Fit.{FitSegment, FitNode}
-use Rattle.drawing.specs.LeastFloats.{gapOfFloat}
+use Rattle.drawing.specs.Inner.LeastFloats.{gapOfFloat}
 use Rattle.boxes.proofs.BoxLaws.{fit-segment}
 use Rattle.clearance.proofs.Answers.{Lent, passes, fit-call}
 use Rattle.clearance.proofs.WithinAllowance.{reply-within}

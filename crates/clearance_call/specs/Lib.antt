@@ -1,7 +1,2 @@
--- what only private contracts cite
-pub mod LeafOrder
-pub mod Tables
-pub mod Stored
-pub mod Marks
-pub mod Nested
-pub mod Walking
+-- No promise rests on a definition of this crate.
+pub mod Inner

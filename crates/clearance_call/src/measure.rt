@@ -1,14 +1,14 @@
 // The clearance measure by columns.
 ghost use mathlib.Core.Path.{_≡_};
 ghost use lib.ListN.{length};
-ghost use Rattle.laws.specs.Allowance.{within};
+ghost use Rattle.laws.specs.Inner.Allowance.{within};
 ghost use Rattle.drawing.specs.declared.refusal.Check.the-variants.{Passed};
 ghost use Rattle.drawing.specs.Refusals.{firstOf, scratchAfter};
 ghost use Rattle.drawing.specs.Entries.{segmentColumns, nodeColumns, exemptionColumns, segments, nodes, exemptions};
 ghost use Rattle.drawing.specs.Held.{Binary64, SegmentsHeld, NodesHeld};
 ghost use Rattle.clearance.specs.Conditions.{clearanceConditions};
 ghost use Rattle.clearance.specs.Walk.{walkAll};
-ghost use Rattle.clearance.specs.State.{outcomeOf};
+ghost use Rattle.clearance.specs.Inner.State.{outcomeOf};
 ghost use Rattle.clearance.specs.Answer.{clearanceAnswer};
 use crate::prepare::prepare_nodes;
 use crate::tables::order_segments;

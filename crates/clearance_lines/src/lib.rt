@@ -8,7 +8,7 @@ ghost use Rattle.drawing.specs.Entries.{nodeColumns, exemptionColumns, columnsO
 ghost use Rattle.drawing.specs.Held.{Binary64, SegmentsHeld, NodesHeld};
 ghost use Rattle.clearance.specs.Conditions.{clearanceConditions};
 ghost use Rattle.clearance.specs.Answer.{clearanceAnswer};
-ghost use Rattle.lines.specs.Lines.{entryOf};
+ghost use Rattle.lines.specs.Inner.Lines.{entryOf};
 use clearance::ClearanceAnswer;
 use clearance_call::measure_edge_node_clearance_bounded;
 use lines::Line;

@@ -7,7 +7,7 @@ use Rattle.congestion.specs.declared.report.CongestionAnswer.the-variant
 use Rattle.congestion.specs.declared.found.Found.{Found}
 use Rattle.congestion.specs.declared.found.Swept.{Swept}
 use Rattle.congestion.specs.declared.found.Swept.the-variants.{Went, Spent}
-use Rattle.congestion.specs.Answering.{answerOf}
+use Rattle.congestion.specs.Inner.Answering.{answerOf}
 
 pub answer-spent : (r : Swept) (total : Float) (allowance : ℕ) → r ≡ Spent → Refused WorkLimitExceeded ≡ answerOf r total allowance
 unfolding answerOf

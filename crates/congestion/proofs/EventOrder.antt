@@ -8,10 +8,11 @@ use native.Mathlib.Omega.{arith}
 use native.Mathlib.Nat.{le-antisymm, mul-le-mul-right}
 use lib.Dec.{leb}
 use borrow.Author.Tests.{le-leb, lt-leb, leb-true}
-use Rattle.laws.specs.Lists.{Mem, Pairwise}
+use Rattle.laws.specs.Lists.{Mem}
+use Rattle.laws.specs.Inner.Lists.{Pairwise}
 use Rattle.laws.specs.Perm.{Perm}
 use Rattle.laws.specs.Rows.{rowLe}
-use Rattle.laws.specs.Sort.{Sorted}
+use Rattle.laws.specs.Inner.Sort.{Sorted}
 use Rattle.laws.proofs.Tests.{le-or-lt}
 use Rattle.laws.proofs.Perms.{perm-sym, perm-mem, perm-pairwise}
 use Rattle.laws.proofs.RowLaws.{row-less, row-more, row-next, by-rows}

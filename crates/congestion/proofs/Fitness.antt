@@ -18,7 +18,7 @@ use Rattle.drawing.specs.Entries.{Segment, SegmentColumns, segments}
 use Rattle.drawing.specs.Refusals.{firstOf}
 use Rattle.drawing.specs.Conditions.{unfitSegment, unfitCutoff, offGridLine, offGridSegment, offGridCutoff}
 use Rattle.drawing.specs.Checks.{segmentConditions}
-use Rattle.drawing.specs.Lengths.{SegmentsAgree}
+use Rattle.drawing.specs.Inner.Lengths.{SegmentsAgree}
 use Rattle.drawing.specs.declared.refusal.Refusal.the-variants.{InvalidInput, OffGrid}
 use Rattle.drawing.specs.declared.refusal.Check.{Check}
 use Rattle.drawing.specs.declared.refusal.Check.the-variants.{Passed, Refused}

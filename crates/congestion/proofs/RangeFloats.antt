@@ -22,7 +22,7 @@ use Rattle.floats.proofs.Keys.{key-low, key-high, pattern-low, pattern-high}
 use Rattle.floats.proofs.NumberKeys.{canonical-key}
 use Rattle.floats.proofs.Units.{of-units-value, grid-value, steps-bound, unit-bound, sub-units, sub-below}
 use Rattle.congestion.specs.Wires.{cutoffOf}
-use Rattle.congestion.specs.Keys.{Key}
+use Rattle.congestion.specs.Inner.Keys.{Key}
 
 -- ---- the word of a number is the key of the float at it
 key-of-pattern : (k : ℕ) → k < 2 ^ 64 → (key (patternAt k) ≡ k) × (patternAt k < 2 ^ 64)

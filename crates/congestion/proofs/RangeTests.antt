@@ -14,7 +14,7 @@ use Rattle.drawing.specs.Entries.{Segment}
 use Rattle.congestion.specs.Wires.{wireOf, cutoffOf}
 use Rattle.congestion.specs.Walk.{inRange}
 use Rattle.congestion.specs.Rounded.{inRangeFloats}
-use Rattle.congestion.specs.Keys.{Key}
+use Rattle.congestion.specs.Inner.Keys.{Key}
 use Rattle.congestion.proofs.KeyUnits.{canonical-fits, key-unit}
 use Rattle.congestion.proofs.RangeFloats.{above-low, below-high}
 

@@ -23,7 +23,7 @@ use Rattle.congestion.specs.Wires.{Wire}
 use Rattle.drawing.specs.Gaps.{leastGap, lesserGap}
 use Rattle.congestion.specs.Figures.{apart, congested, pairOverlap}
 use Rattle.congestion.specs.Walk.{Item, Row, Event, State, numbered, at, events, inOrder, neighbor, gap, leastHere, step, firstAt, begin, sweep, gapOfUnits}
-use Rattle.congestion.specs.Keys.{Held}
+use Rattle.congestion.specs.Inner.Keys.{Held}
 use Rattle.congestion.specs.RoundedSweep.{Coordinates, coordinate, Amounts, roundedStep, roundedRun, firstAmounts}
 use Rattle.congestion.proofs.Sets.{neighborsIn}
 use Rattle.congestion.proofs.FoldLaws.{fewest}

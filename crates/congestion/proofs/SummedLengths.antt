@@ -8,8 +8,9 @@ use lib.Ieee.{Float, binary64, nan, add, sub}
 use lib.ListN.{length, getD, drop, drop-of-length-le}
 use lib.Seq.{drop-cons}
 use Rattle.floats.specs.Values.{plusZero, canonicalZero}
-use Rattle.drawing.specs.Entries.{Segment, SegmentColumns, segments, segmentAt}
-use Rattle.drawing.specs.Lengths.{SegmentsAgree}
+use Rattle.drawing.specs.Entries.{Segment, SegmentColumns, segments}
+use Rattle.drawing.specs.Inner.Entries.{segmentAt}
+use Rattle.drawing.specs.Inner.Lengths.{SegmentsAgree}
 use Rattle.drawing.proofs.EntryLaws.{length-segments, segments-at}
 use Rattle.congestion.specs.Rounded.{runningSum, span, roundedTotal}
 

@@ -10,6 +10,5 @@ pub mod RoundedSweep
 pub mod Conditions
 pub mod Answer
 pub mod Ratio
--- what only laws and inner contracts cite
-pub mod Keys
-pub mod Answering
+-- what only contracts of inner functions and proofs cite
+pub mod Inner

@@ -1,6 +1,6 @@
 // Answers: from what the sweep found, and the answer without density.
 ghost use mathlib.Core.Path.{_≡_};
-ghost use Rattle.congestion.specs.Answering.{answerOf, plainly};
+ghost use Rattle.congestion.specs.Inner.Answering.{answerOf, plainly};
 use crate::found::Swept;
 use crate::report::CongestionAnswer;
 use crate::report::CongestionReport;

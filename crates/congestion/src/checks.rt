@@ -3,7 +3,7 @@ ghost use mathlib.Core.Path.{_≡_};
 ghost use Rattle.laws.specs.Lists.{some-of};
 ghost use Rattle.drawing.specs.Refusals.{firstOf};
 ghost use Rattle.drawing.specs.Entries.{segmentColumns, segments};
-ghost use Rattle.drawing.specs.Lengths.{SegmentsAgree};
+ghost use Rattle.drawing.specs.Inner.Lengths.{SegmentsAgree};
 ghost use Rattle.drawing.specs.Conditions.{offGridLine, offGridSegment};
 ghost use Rattle.congestion.specs.Conditions.{congestionConditions};
 use drawing::Check;

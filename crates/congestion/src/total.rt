@@ -1,7 +1,7 @@
 // The total length.
 ghost use mathlib.Core.Path.{_≡_};
 ghost use Rattle.drawing.specs.Entries.{segmentColumns, segments};
-ghost use Rattle.drawing.specs.Lengths.{SegmentsAgree};
+ghost use Rattle.drawing.specs.Inner.Lengths.{SegmentsAgree};
 ghost use Rattle.congestion.specs.Rounded.{roundedTotal};
 use floats::canonical_zero;
 

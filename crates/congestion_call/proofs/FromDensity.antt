@@ -15,7 +15,7 @@ use Rattle.congestion.specs.declared.report.CongestionAnswer.the-variants.{Repo
 use Rattle.congestion.specs.Conditions.{congestionConditions}
 use Rattle.congestion.specs.Profile.{allPairs}
 use Rattle.congestion.specs.Answer.{reportOf, settled, densityAnswer, withoutDensity, profileAnswer, congestionAnswer}
-use Rattle.congestion.specs.Answering.{plainly}
+use Rattle.congestion.specs.Inner.Answering.{plainly}
 use Rattle.congestion.proofs.Fitness.{fit-list}
 use Rattle.congestion.proofs.Answers.{density-settles, congestion-earlier, congestion-reached, cost-at-most}
 

@@ -8,7 +8,7 @@ ghost use Rattle.drawing.specs.Entries.{columnsOf};
 ghost use Rattle.drawing.specs.Held.{Binary64, SegmentsHeld};
 ghost use Rattle.congestion.specs.Conditions.{congestionConditions};
 ghost use Rattle.congestion.specs.Answer.{densityAnswer};
-ghost use Rattle.lines.specs.Lines.{entryOf};
+ghost use Rattle.lines.specs.Inner.Lines.{entryOf};
 use congestion::CongestionAnswer;
 use density_call::measure_parallel_density_profile_bounded;
 use lines::Line;

@@ -8,7 +8,7 @@ ghost use Rattle.drawing.specs.Entries.{columnsOf};
 ghost use Rattle.drawing.specs.Held.{Binary64, SegmentsHeld};
 ghost use Rattle.congestion.specs.Conditions.{congestionConditions};
 ghost use Rattle.congestion.specs.Answer.{congestionAnswer};
-ghost use Rattle.lines.specs.Lines.{entryOf};
+ghost use Rattle.lines.specs.Inner.Lines.{entryOf};
 use congestion::CongestionAnswer;
 use congestion_call::measure_parallel_congestion;
 use lines::Line;

@@ -14,9 +14,9 @@ use Rattle.floats.specs.Grid.{ofUnits}
 use lib.ListN.{length, getD, take, replicate, length-map, length-replicate, getD-replicate, List·getD-append}
 use lib.Seq.{take-take, length-take-le, getD-append-add}
 use Rattle.laws.specs.Lists.{Mem, All}
-use Rattle.laws.specs.Sort.{Sorted}
+use Rattle.laws.specs.Inner.Sort.{Sorted}
 use Rattle.laws.specs.Charged.{free}
-use Rattle.laws.specs.Allowance.{within}
+use Rattle.laws.specs.Inner.Allowance.{within}
 use Rattle.laws.proofs.Tests.{clash, le-or-lt, cond-true, cond-false}
 use Rattle.laws.proofs.ListLaws.{mem-map}
 use Rattle.laws.proofs.Places.{at-mem}
@@ -27,8 +27,8 @@ use Rattle.drawing.specs.Entries.{SegmentColumns, segments}
 use Rattle.drawing.specs.declared.gap.Gap.the-variants.{Absent}
 use Rattle.rows.specs.Rows.{Row, words, rowsInOrder}
 use Rattle.rows.specs.Rows as rows
-use Rattle.rows.specs.Placed.{rowCount, rowsPlaced, rowsSpread, eventsPlaced}
-use Rattle.rows.specs.Tables.{noRow, rowFrom, eventFrom, column}
+use Rattle.rows.specs.Inner.Placed.{rowCount, rowsPlaced, rowsSpread, eventsPlaced}
+use Rattle.rows.specs.Inner.Tables.{noRow, rowFrom, eventFrom, column}
 use Rattle.rows.proofs.ColumnParts.{getD-map, column-at, column-same}
 use Rattle.rows.proofs.Oriented.{oriented-sorted}
 use Rattle.rows.proofs.LentRows.{rows-count, rows-few, rows-behind, rows-kept}
@@ -38,11 +38,11 @@ use Rattle.congestion.specs.declared.found.Swept.{Swept}
 use Rattle.congestion.specs.declared.found.Swept.the-variants.{Went}
 use Rattle.congestion.specs.Wires.{Wire, cutoffOf}
 use Rattle.congestion.specs.Walk.{begin, sweep, along}
-use Rattle.congestion.specs.Keys.{Key}
-use Rattle.density_call.specs.Tables.{itemAt, Tabled}
-use Rattle.density_call.specs.Ranges.{Rangeable, RangesOnly, FillsRanges}
-use Rattle.density_call.specs.Sweeping.{AtFirst, sweptOf}
-use Rattle.density_call.specs.Measuring.{wireOfRow, Proper, Cutoff, AtRows, AtColumns}
+use Rattle.congestion.specs.Inner.Keys.{Key}
+use Rattle.density_call.specs.Inner.Tables.{itemAt, Tabled}
+use Rattle.density_call.specs.Inner.Ranges.{Rangeable, RangesOnly, FillsRanges}
+use Rattle.density_call.specs.Inner.Sweeping.{AtFirst, sweptOf}
+use Rattle.density_call.specs.Inner.Measuring.{wireOfRow, Proper, Cutoff, AtRows, AtColumns}
 use Rattle.density_call.proofs.RowPlaces.{tables-stay}
 use Rattle.density_call.proofs.RowTabled.{coordinate-key, tabled}
 

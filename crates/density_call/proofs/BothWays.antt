@@ -14,7 +14,7 @@ use Rattle.laws.specs.Lists.{All}
 use Rattle.laws.specs.Least.{lesser}
 use Rattle.laws.specs.Perm.{Perm}
 use Rattle.laws.specs.Charged.{Charged, free, after}
-use Rattle.laws.specs.Allowance.{Outcome, spent, left, within, onward}
+use Rattle.laws.specs.Inner.Allowance.{Outcome, spent, left, within, onward}
 use Rattle.laws.proofs.Tests.{le-or-lt, cond-false}
 use Rattle.laws.proofs.ListLaws.{mem-all}
 use Rattle.laws.proofs.Perms.{perm-sym, perm-mem, perm-length}
@@ -34,9 +34,9 @@ use Rattle.congestion.specs.Wires.{wireOf, cutoffOf}
 use Rattle.congestion.specs.Figures.{total}
 use Rattle.congestion.specs.Profile.{lengths, allPairs}
 use Rattle.congestion.specs.Walk.{State, along, sweepWires, only, gapOfUnits}
-use Rattle.congestion.specs.Keys.{Held}
-use Rattle.density_call.specs.Sweeping.{sweptOf}
-use Rattle.density_call.specs.Measuring.{wireOfRow, foundOf, togetherOf}
+use Rattle.congestion.specs.Inner.Keys.{Held}
+use Rattle.density_call.specs.Inner.Sweeping.{sweptOf}
+use Rattle.density_call.specs.Inner.Measuring.{wireOfRow, foundOf, togetherOf}
 use Rattle.congestion.proofs.Fitness.{FitList, sound-wires}
 use Rattle.congestion.proofs.Beginning.{Sound}
 use Rattle.congestion.proofs.Bounds.{Small, congested-small, overlap-small}

@@ -13,7 +13,7 @@ use Rattle.laws.proofs.Tests.{of-true, and-left, and-right}
 use Rattle.laws.proofs.ListLaws.{mem-map}
 use Rattle.laws.proofs.Folds.{count-at-most}
 use Rattle.congestion.specs.Walk.{Item, Row, Event, State, neighbor, step}
-use Rattle.density_call.specs.Sweeping.{Ending, Due}
+use Rattle.density_call.specs.Inner.Sweeping.{Ending, Due}
 use Rattle.congestion.proofs.Sets.{neighborsIn}
 use Rattle.congestion.proofs.Tracking.{facing, rowIn, Tracks}
 use Rattle.congestion.proofs.Moments.{Fit, event, endKey, activeAt}

@@ -11,29 +11,29 @@ use lib.ListN.{length, getD, drop, length-map, length-drop}
 use lib.Seq.{getD-drop}
 use Rattle.laws.specs.Lists.{Mem}
 use Rattle.laws.specs.Charged.{Charged, runs}
-use Rattle.laws.specs.Allowance.{left, within}
+use Rattle.laws.specs.Inner.Allowance.{left, within}
 use Rattle.laws.proofs.Tests.{le-or-lt}
 use Rattle.laws.proofs.Places.{first-at}
 use Rattle.laws.proofs.ListLaws.{mem-map, map-same}
 use Rattle.laws.proofs.Runs.{within-enough, within-short}
 use Rattle.laws.proofs.Loops.{Onwards, loop-next, loop-stops, loop-ends, told-next, told-none}
-use Rattle.sorting.specs.Sorted.{upTo}
+use Rattle.sorting.specs.Inner.Sorted.{upTo}
 use Rattle.sorting.proofs.Entries.{upTo-below, upTo-entries, upTo-placed}
-use Rattle.bitset.specs.Members.{member}
+use Rattle.bitset.specs.Inner.Members.{member}
 use Rattle.bitset.proofs.Digits.{bit-zero}
 use Rattle.floats.specs.TotalOrder.{floatAt}
 use Rattle.floats.proofs.Units.{unit-bound}
 use Rattle.drawing.specs.declared.gap.Gap.{Gap}
-use Rattle.drawing.specs.LeastFloats.{gapOfFloat}
+use Rattle.drawing.specs.Inner.LeastFloats.{gapOfFloat}
 use Rattle.density_call.specs.declared.sweep.Sweeping.{Sweeping}
 use Rattle.density_call.specs.declared.sweep.Handled.{Handled}
 use Rattle.density_call.specs.declared.sweep.Handled.the-variants.{Went, Spent}
 use Rattle.congestion.specs.declared.found.Swept.the-variants.{Went as Done, Spent as Short}
 use Rattle.congestion.specs.Wires.{Wire}
 use Rattle.congestion.specs.Walk.{Item, Event, State, numbered, at, events, inOrder, step, firstAt, begin, sweep}
-use Rattle.congestion.specs.Keys.{Key}
-use Rattle.density_call.specs.Tables.{noWire, itemAt, eventAt, Tabled, rowFrom, rowsFrom, Stored}
-use Rattle.density_call.specs.Sweeping.{Follows, AtEvent, Steps, Handles, AtFirst, sweptOf}
+use Rattle.congestion.specs.Inner.Keys.{Key}
+use Rattle.density_call.specs.Inner.Tables.{noWire, itemAt, eventAt, Tabled, rowFrom, rowsFrom, Stored}
+use Rattle.density_call.specs.Inner.Sweeping.{Follows, AtEvent, Steps, Handles, AtFirst, sweptOf}
 use Rattle.congestion.proofs.Moments.{Fit, event}
 use Rattle.congestion.proofs.Passing.{run}
 use Rattle.congestion.proofs.Beginning.{Sound, wires-of, fit-numbered}

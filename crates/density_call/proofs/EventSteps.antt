@@ -28,10 +28,10 @@ use Rattle.density_call.specs.declared.sweep.Handled.the-variants.{Went,
 use Rattle.congestion.specs.Wires.{Wire}
 use Rattle.congestion.specs.Figures.{apart}
 use Rattle.congestion.specs.Walk.{Item, Event, Row, State, at, neighbor, neighbors, gap, leastHere, wasCongested, risen, fallen, atStart, atEnd, step}
-use Rattle.congestion.specs.Keys.{Key, Held}
-use Rattle.density_call.specs.Tables.{itemAt, eventAt, Tabled, rowFrom, rowsFrom, Stored}
-use Rattle.density_call.specs.Meeting.{visitsOf, leastFloat, Meetable, CountsOnly, Meets}
-use Rattle.density_call.specs.Sweeping.{passedTo, startedBy, endedBy, activated, deactivated, Follows, Ending, Due, AtEvent, Onward, Steps, Handles}
+use Rattle.congestion.specs.Inner.Keys.{Key, Held}
+use Rattle.density_call.specs.Inner.Tables.{itemAt, eventAt, Tabled, rowFrom, rowsFrom, Stored}
+use Rattle.density_call.specs.Inner.Meeting.{visitsOf, leastFloat, Meetable, CountsOnly, Meets}
+use Rattle.density_call.specs.Inner.Sweeping.{passedTo, startedBy, endedBy, activated, deactivated, Follows, Ending, Due, AtEvent, Onward, Steps, Handles}
 use Rattle.congestion.proofs.Moments.{event}
 use Rattle.congestion.proofs.Fitness.{Stands}
 use Rattle.congestion.proofs.LeastGap.{held-lesser, held-fold, held-gap}

@@ -16,12 +16,12 @@ use Rattle.floats.specs.Values.{plusZero, lesserOf, gapOf}
 use Rattle.floats.specs.Grid.{unit, ofUnits}
 use Rattle.floats.specs.TotalOrder.{floatAt}
 use Rattle.floats.proofs.Units.{of-units-value}
-use Rattle.drawing.specs.LeastFloats.{Number, gapOfFloat}
+use Rattle.drawing.specs.Inner.LeastFloats.{Number, gapOfFloat}
 use Rattle.drawing.proofs.LeastFloatLaws.{none-absent, number-present}
 use Rattle.congestion.specs.Figures.{apart}
 use Rattle.congestion.specs.Walk.{nonzero, gapOfUnits}
-use Rattle.congestion.specs.Keys.{Key, Held}
-use Rattle.density_call.specs.Meeting.{leastFloat, withGap}
+use Rattle.congestion.specs.Inner.Keys.{Key, Held}
+use Rattle.density_call.specs.Inner.Meeting.{leastFloat, withGap}
 use Rattle.congestion.proofs.FoldLaws.{fewest}
 use Rattle.congestion.proofs.Oriented.{apart-turn}
 use Rattle.congestion.proofs.LeastGap.{held-lesser, lt-units, grid-gap, above-zero}

@@ -12,12 +12,12 @@ use borrow.Author.Tests.{eq-eqb, ne-eqb}
 use borrow.Rule.Slice.PartMut.{midOf, putMid}
 use Rattle.laws.proofs.Tests.{same-or-not}
 use Rattle.laws.proofs.Parts.{tail-lent, tail-back}
-use Rattle.bitset.specs.Members.{member, inserted, removed}
+use Rattle.bitset.specs.Inner.Members.{member, inserted, removed}
 use Rattle.bitset.proofs.Sets.{length-inserted, length-removed, member-inserted, member-removed}
 use Rattle.congestion.specs.Wires.{Wire}
 use Rattle.congestion.specs.Walk.{Row, State, neighbor, neighbors, risen, fallen, atStart, atEnd}
-use Rattle.density_call.specs.Tables.{itemAt, rowFrom, rowsFrom, Stored}
-use Rattle.density_call.specs.Sweeping.{activated, deactivated}
+use Rattle.density_call.specs.Inner.Tables.{itemAt, rowFrom, rowsFrom, Stored}
+use Rattle.density_call.specs.Inner.Sweeping.{activated, deactivated}
 use Rattle.density_call.proofs.RowPlaces.{rows-are, rows-at}
 
 -- ---- the count k is written at j, and the set becomes v

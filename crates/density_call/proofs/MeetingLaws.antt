@@ -16,9 +16,9 @@ use Rattle.laws.specs.Lists.{bit, fold, count}
 use Rattle.laws.specs.Least.{lesser}
 use Rattle.laws.proofs.Tests.{le-or-lt, same-or-not, cond-true, cond-false}
 use Rattle.laws.proofs.Folds.{Monoid, plus, greatest, fold-unit, fold-map}
-use Rattle.sorting.specs.Sorted.{upTo}
+use Rattle.sorting.specs.Inner.Sorted.{upTo}
 use Rattle.sorting.proofs.Entries.{upTo-below}
-use Rattle.bitset.specs.Members.{member}
+use Rattle.bitset.specs.Inner.Members.{member}
 use Rattle.bitset.proofs.Lasts.{NoneIn, Greatest}
 use Rattle.floats.specs.Values.{gapOf}
 use Rattle.floats.specs.TotalOrder.{floatAt}
@@ -27,9 +27,9 @@ use Rattle.density_call.specs.declared.meet.Met.the-variants.{Went, Spen
 use Rattle.congestion.specs.Wires.{Wire}
 use Rattle.congestion.specs.Figures.{other}
 use Rattle.congestion.specs.Walk.{Row, State, inRange, visited, neighbor, gap, neighbors, leastHere}
-use Rattle.congestion.specs.Keys.{Key, Held}
-use Rattle.density_call.specs.Tables.{itemAt, Tabled, rowFrom, rowsFrom, Stored}
-use Rattle.density_call.specs.Meeting.{visitsOf, CountsOnly, moved, turning, topmost, leastFloat, withGap, countAfter, highestAfter, withNeighbor, paid, Visits}
+use Rattle.congestion.specs.Inner.Keys.{Key, Held}
+use Rattle.density_call.specs.Inner.Tables.{itemAt, Tabled, rowFrom, rowsFrom, Stored}
+use Rattle.density_call.specs.Inner.Meeting.{visitsOf, CountsOnly, moved, turning, topmost, leastFloat, withGap, countAfter, highestAfter, withNeighbor, paid, Visits}
 use Rattle.congestion.proofs.FoldLaws.{fewest}
 use Rattle.density_call.proofs.GapFloats.{lesser-none, keys-join}
 use Rattle.density_call.proofs.PlaceFolds.{since, since-none, since-next, since-all, since-at-most, since-below-all}

@@ -11,10 +11,10 @@ use borrow.Rule.Slice.PartMut.{midOf}
 use Rattle.laws.specs.Lists.{Mem}
 use Rattle.laws.proofs.ListLaws.{map-mem}
 use Rattle.laws.proofs.Parts.{tail-lent}
-use Rattle.sorting.specs.Sorted.{upTo}
+use Rattle.sorting.specs.Inner.Sorted.{upTo}
 use Rattle.bitset.specs.declared.Last.{Last}
 use Rattle.bitset.specs.declared.Last.the-variants.{Found, Empty}
-use Rattle.bitset.specs.Members.{restBelow, lastBelow, lastWith}
+use Rattle.bitset.specs.Inner.Members.{restBelow, lastBelow, lastWith}
 use Rattle.bitset.proofs.Lasts.{Greatest, last-found, last-empty}
 use Rattle.bitset.proofs.Rests.{last-with}
 use Rattle.floats.specs.TotalOrder.{floatAt}
@@ -22,8 +22,8 @@ use Rattle.density_call.specs.declared.meet.Meeting.{Meeting}
 use Rattle.density_call.specs.declared.meet.Met.the-variants.{Went, Spent}
 use Rattle.congestion.specs.Wires.{Wire}
 use Rattle.congestion.specs.Walk.{Row}
-use Rattle.density_call.specs.Tables.{Tabled, rowFrom}
-use Rattle.density_call.specs.Meeting.{Meetable, CountsOnly, Meets, Visitable, Visits}
+use Rattle.density_call.specs.Inner.Tables.{Tabled, rowFrom}
+use Rattle.density_call.specs.Inner.Meeting.{Meetable, CountsOnly, Meets, Visitable, Visits}
 use Rattle.density_call.proofs.RowPlaces.{upTo-mem}
 use Rattle.density_call.proofs.MeetingLaws.{Going, Next, going-few, going-none, old-count, next-place, differ, visit-next, visit-stops, spent-meets, went-meets}
 

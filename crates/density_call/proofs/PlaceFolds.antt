@@ -11,7 +11,7 @@ use borrow.Author.Tests.{le-leb, lt-leb, eq-eqb, ne-eqb}
 use Rattle.laws.specs.Lists.{bit, fold}
 use Rattle.laws.proofs.Tests.{le-or-lt, same-or-not, cond-true, cond-false}
 use Rattle.laws.proofs.Folds.{Monoid, plus, idr, fold-same, fold-both, fold-unit, fold-append, sum-at-most}
-use Rattle.sorting.specs.Sorted.{upTo}
+use Rattle.sorting.specs.Inner.Sorted.{upTo}
 use Rattle.sorting.proofs.Entries.{length-upTo, upTo-below}
 
 abbrev pub since : {M : Type 0} → (M → M → M) → M → ℕ → ℕ → (ℕ → M) → M

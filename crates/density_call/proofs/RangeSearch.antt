@@ -14,11 +14,11 @@ use Rattle.laws.proofs.Tests.{same-test, ltb-same, le-or-lt}
 use Rattle.floats.specs.TotalOrder.{keyOf, floatAt}
 use Rattle.floats.specs.Grid.{onGrid}
 use Rattle.key_ranges.specs.declared.range.Range.{Range}
-use Rattle.key_ranges.specs.Reach.{Ascending, Bound, Within, Reached}
+use Rattle.key_ranges.specs.Inner.Reach.{Ascending, Bound, Within, Reached}
 use Rattle.congestion.specs.Wires.{Wire, cutoffOf}
-use Rattle.congestion.specs.Keys.{Key}
-use Rattle.density_call.specs.Tables.{itemAt, Ranged}
-use Rattle.density_call.specs.Ranges.{Rangeable, RangesOnly, FillsRanges}
+use Rattle.congestion.specs.Inner.Keys.{Key}
+use Rattle.density_call.specs.Inner.Tables.{itemAt, Ranged}
+use Rattle.density_call.specs.Inner.Ranges.{Rangeable, RangesOnly, FillsRanges}
 use Rattle.congestion.proofs.RangeFloats.{above-low, below-high}
 
 -- what two places tell of n keys, for the wire at place j

@@ -13,12 +13,12 @@ use Rattle.laws.specs.Lists.{Mem, All, bit, fold, count}
 use Rattle.laws.proofs.Tests.{same-or-not}
 use Rattle.laws.proofs.ListLaws.{append-left, append-right, mem-map, map-mem, map-same}
 use Rattle.laws.proofs.Folds.{plus, fold-append, fold-map, fold-unit}
-use Rattle.sorting.specs.Sorted.{upTo}
+use Rattle.sorting.specs.Inner.Sorted.{upTo}
 use Rattle.sorting.proofs.Entries.{length-upTo, upTo-below}
 use Rattle.congestion.specs.Wires.{Wire}
 use Rattle.congestion.specs.Walk.{Row, State, wasCongested}
-use Rattle.congestion.specs.Keys.{Key}
-use Rattle.density_call.specs.Tables.{itemAt, eventAt, Tabled, rowFrom, rowsFrom}
+use Rattle.congestion.specs.Inner.Keys.{Key}
+use Rattle.density_call.specs.Inner.Tables.{itemAt, eventAt, Tabled, rowFrom, rowsFrom}
 
 -- ---- places
 pub upTo-mem : (n i : ℕ) → i < n → Mem i (upTo n)

@@ -27,14 +27,14 @@ use Rattle.drawing.specs.Entries.{Segment}
 use Rattle.drawing.specs.Held.{SegmentHeld}
 use Rattle.rows.specs.Rows.{fixedOf, startOf, endOf, Row, rowOf, eventsFrom, moment, eventsInOrder, ends, starts}
 use Rattle.rows.specs.Rows as rows
-use Rattle.rows.specs.Tables.{noRow, rowFrom, eventFrom, column}
+use Rattle.rows.specs.Inner.Tables.{noRow, rowFrom, eventFrom, column}
 use Rattle.rows.proofs.SpreadTables.{Spread}
 use Rattle.rows.proofs.ColumnParts.{getD-map, column-at}
 use Rattle.congestion.specs.Wires.{Wire}
 use Rattle.congestion.specs.Walk.{Event, numbered, events, inOrder, eventRow}
-use Rattle.congestion.specs.Keys.{Key}
-use Rattle.density_call.specs.Tables.{noWire, itemAt, eventAt, Ranged, Tabled}
-use Rattle.density_call.specs.Measuring.{wireOfRow, Coordinate, Proper}
+use Rattle.congestion.specs.Inner.Keys.{Key}
+use Rattle.density_call.specs.Inner.Tables.{noWire, itemAt, eventAt, Ranged, Tabled}
+use Rattle.density_call.specs.Inner.Measuring.{wireOfRow, Coordinate, Proper}
 use Rattle.congestion.proofs.Fitness.{GridSegment}
 use Rattle.congestion.proofs.KeyUnits.{canonical-fits, key-unit}
 

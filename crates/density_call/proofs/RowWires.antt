@@ -20,7 +20,7 @@ use Rattle.rows.proofs.Oriented.{list-order-idle}
 use Rattle.congestion.specs.Wires.{Wire, wireOf}
 use Rattle.congestion.specs.Walk.{only}
 use Rattle.congestion.proofs.KeyUnits.{key-unit}
-use Rattle.density_call.specs.Measuring.{wireOfRow}
+use Rattle.density_call.specs.Inner.Measuring.{wireOfRow}
 
 pub row-wire : (h : Bool) (s : Segment) → SegmentHeld s → eqb (s .orientation) 1 ≡ h → wireOfRow h (rowOf s) ≡ wireOf s
 unfolding rowOf fixedOf startOf endOf

@@ -10,7 +10,7 @@ use borrow.Author.Tests.{ltb-true, ltb-false, eqb-true, eqb-false, le-ltb}
 use lib.Dec.{T}
 use lib.Ieee.{Float, lt, eq, le}
 use Rattle.laws.specs.Lists.{All}
-use Rattle.laws.specs.Allowance.{within}
+use Rattle.laws.specs.Inner.Allowance.{within}
 use Rattle.laws.proofs.Tests.{or-elim, neither-left, neither-right}
 use Rattle.laws.proofs.ListLaws.{all-mem}
 use Rattle.laws.proofs.Runs.{within-free}
@@ -29,7 +29,7 @@ use Rattle.congestion.specs.Conditions.{congestionConditions}
 use Rattle.congestion.specs.Wires.{wireOf, cutoffOf}
 use Rattle.congestion.specs.Figures.{total}
 use Rattle.congestion.specs.Profile.{lengths, allPairs}
-use Rattle.density_call.specs.Measuring.{Proper, Cutoff, AtColumns, foundOf}
+use Rattle.density_call.specs.Inner.Measuring.{Proper, Cutoff, AtColumns, foundOf}
 use Rattle.congestion.proofs.Fitness.{zero-stands, segments-passed, agree, fit-list, fit-cutoff}
 use Rattle.congestion.proofs.RoundedSums.{zero-units}
 use Rattle.congestion.proofs.SweepTheorem.{no-cutoff}

@@ -14,7 +14,7 @@ use Rattle.laws.proofs.Tests.{same-or-not, cond-true, cond-false}
 use Rattle.floats.specs.Values.{plusZero, lesserOf, absOf, gapOf}
 use Rattle.floats.specs.TotalOrder.{floatAt}
 use Rattle.density_call.specs.declared.meet.Meeting.{Meeting}
-use Rattle.density_call.specs.Meeting.{turning, withGap, countAfter, highestAfter, withNeighbor, paid, Countable, Visitable, Visits}
+use Rattle.density_call.specs.Inner.Meeting.{turning, withGap, countAfter, highestAfter, withNeighbor, paid, Countable, Visitable, Visits}
 
 pub one-more : (n : ℕ) (b : Bool) → b ≡ true → n + 1 ≡ n + bit b
 one-more n b e = ap (λ (z : Bool). n + bit z) (sym e)

@@ -3,7 +3,7 @@ use mathlib.Core.Path.{_≡_, refl, sym, ap, _∙_}
 use Prim.Native.Nat.{ℕ, _-_}
 use lib.Ieee.{Float}
 use Rattle.laws.specs.Charged.{Charged}
-use Rattle.laws.specs.Allowance.{Outcome, spent, left, within, reply}
+use Rattle.laws.specs.Inner.Allowance.{Outcome, spent, left, within, reply}
 use Rattle.laws.proofs.Runs.{within-left, settle-within}
 use Rattle.drawing.specs.declared.gap.Gap.{Gap}
 use Rattle.drawing.specs.declared.refusal.Refusal.{Refusal}
@@ -20,8 +20,8 @@ use Rattle.congestion.specs.Conditions.{congestionConditions}
 use Rattle.congestion.specs.Profile.{allPairs}
 use Rattle.congestion.specs.Rounded.{roundedTotal}
 use Rattle.congestion.specs.Answer.{reportOf, settled, densityAnswer}
-use Rattle.congestion.specs.Answering.{answerOf}
-use Rattle.density_call.specs.Measuring.{foundOf}
+use Rattle.congestion.specs.Inner.Answering.{answerOf}
+use Rattle.density_call.specs.Inner.Measuring.{foundOf}
 use Rattle.congestion.proofs.Fitness.{fit-list}
 use Rattle.congestion.proofs.RoundedDrawing.{report-exact}
 use Rattle.congestion.proofs.Answers.{Passes, density-settles}

@@ -1,7 +1,7 @@
 // The density profile by columns.
 ghost use mathlib.Core.Path.{_≡_};
 ghost use lib.ListN.{length};
-ghost use Rattle.laws.specs.Allowance.{within};
+ghost use Rattle.laws.specs.Inner.Allowance.{within};
 ghost use Rattle.drawing.specs.declared.refusal.Check.the-variants.{Passed};
 ghost use Rattle.drawing.specs.Refusals.{firstOf, scratchAfter};
 ghost use Rattle.drawing.specs.Entries.{segmentColumns, segments};
@@ -9,7 +9,7 @@ ghost use Rattle.drawing.specs.Held.{Binary64, SegmentsHeld};
 ghost use Rattle.congestion.specs.Conditions.{congestionConditions};
 ghost use Rattle.congestion.specs.Profile.{allPairs};
 ghost use Rattle.congestion.specs.Answer.{densityAnswer};
-ghost use Rattle.density_call.specs.Measuring.{foundOf, togetherOf};
+ghost use Rattle.density_call.specs.Inner.Measuring.{foundOf, togetherOf};
 use crate::along::sweep_along;
 use crate::counts::greater;
 use congestion::CongestionAnswer;

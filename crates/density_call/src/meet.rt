@@ -4,7 +4,7 @@ ghost use mathlib.Core.Bool.{false, cond};
 ghost use Prim.Native.Nat.{_+_, _≤_, max};
 ghost use lib.ListN.{getD, set};
 ghost use Rattle.laws.specs.Lists.{bit};
-ghost use Rattle.density_call.specs.Meeting.{Meetable, CountsOnly, Meets, withGap, Countable, withNeighbor, countAfter, Visitable, Visits};
+ghost use Rattle.density_call.specs.Inner.Meeting.{Meetable, CountsOnly, Meets, withGap, Countable, withNeighbor, countAfter, Visitable, Visits};
 use crate::counts::greater;
 use bitset::Last;
 use bitset::last_below;

@@ -1,5 +1,5 @@
 // For each wire the places of those within the cutoff. The wires stand in the order of their fixed coordinates, so that these places are side by side and their ends rise with the wires: each search begins at the last wire's answer, and all searches for an end together take n steps.
-ghost use Rattle.density_call.specs.Ranges.{Rangeable, RangesOnly, FillsRanges};
+ghost use Rattle.density_call.specs.Inner.Ranges.{Rangeable, RangesOnly, FillsRanges};
 use key_ranges::Range;
 use key_ranges::range_of;
 

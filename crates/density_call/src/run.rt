@@ -1,8 +1,8 @@
 // The sweep over all events of one orientation. The scratch holds the tables of its n wires (8 n words) and behind them the words that the sweep changes.
 ghost use mathlib.Core.Path.{_≡_};
-ghost use Rattle.laws.specs.Allowance.{within};
+ghost use Rattle.laws.specs.Inner.Allowance.{within};
 ghost use Rattle.congestion.specs.Walk.{sweep};
-ghost use Rattle.density_call.specs.Sweeping.{AtEvent, Handles, AtFirst, sweptOf};
+ghost use Rattle.density_call.specs.Inner.Sweeping.{AtEvent, Handles, AtFirst, sweptOf};
 use crate::sweep::Handled;
 use crate::sweep::Sweeping;
 use crate::sweep::end_event;

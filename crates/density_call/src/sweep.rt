@@ -5,7 +5,7 @@ ghost use Prim.Native.Nat.{_+_, _*_, _^_, _≤_, _<_};
 ghost use lib.Dec.{eqb};
 ghost use lib.ListN.{length};
 ghost use Rattle.laws.specs.Lists.{bit};
-ghost use Rattle.density_call.specs.Sweeping.{passedTo, startedBy, endedBy, activated, deactivated, AtEvent, Handles};
+ghost use Rattle.density_call.specs.Inner.Sweeping.{passedTo, startedBy, endedBy, activated, deactivated, AtEvent, Handles};
 use crate::counts::greater;
 use crate::meet::Meeting;
 use crate::meet::Met;

@@ -11,7 +11,7 @@ use Rattle.laws.proofs.Perms.{perm-length, perm-some}
 use Rattle.drawing.specs.Entries.{SegmentColumns, NodeColumns, ExemptionColumns, segments, nodes, exemptions}
 use Rattle.drawing.specs.Conditions.{differ, unfitSegment, unfitNode}
 use Rattle.drawing.specs.Checks.{segmentsDiffer, nodesDiffer, exemptionsDiffer, segmentConditions, listConditions, entryConditions}
-use Rattle.drawing.specs.Lengths.{SegmentsAgree, NodesAgree, ExemptionsAgree}
+use Rattle.drawing.specs.Inner.Lengths.{SegmentsAgree, NodesAgree, ExemptionsAgree}
 use Rattle.drawing.proofs.EntryLaws.{length-segments, length-nodes, length-exemptions}
 
 -- ---- columns of equal length do not differ

@@ -4,7 +4,7 @@ use mathlib.Core.Bool.{false}
 use mathlib.Core.List.{List, [], _∷_}
 use lib.ListN.{length, length-map}
 use Rattle.drawing.specs.Entries.{Segment, segments, segmentsOf, columnsOf}
-use Rattle.drawing.specs.Lengths.{SegmentsAgree}
+use Rattle.drawing.specs.Inner.Lengths.{SegmentsAgree}
 use Rattle.drawing.specs.Checks.{segmentsDiffer}
 use Rattle.drawing.proofs.AnyOrder.{same-segments}
 

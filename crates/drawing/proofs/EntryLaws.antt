@@ -6,8 +6,9 @@ use native.Mathlib.Nat.{not-suc-le-zero, le-of-suc-le-suc}
 use native.Mathlib.Omega.{arith}
 use lib.Ieee.{Float, nan}
 use lib.ListN.{length, getD}
-use Rattle.drawing.specs.Entries.{Segment, Node, SegmentColumns, NodeColumns, ExemptionColumns, segmentsOf, nodesOf, exemptionsOf, segments, nodes, exemptions, nodeAt, segmentAt}
-use Rattle.drawing.specs.Lengths.{SegmentsAgree, NodesAgree, ExemptionsAgree}
+use Rattle.drawing.specs.Entries.{Segment, Node, SegmentColumns, NodeColumns, ExemptionColumns, segmentsOf, nodesOf, exemptionsOf, segments, nodes, exemptions}
+use Rattle.drawing.specs.Inner.Entries.{nodeAt, segmentAt}
+use Rattle.drawing.specs.Inner.Lengths.{SegmentsAgree, NodesAgree, ExemptionsAgree}
 
 same : {m n : ℕ} → suc m ≡ suc n → m ≡ n
 same e = omega arith

@@ -18,7 +18,7 @@ use Rattle.drawing.specs.Refusals.{firstOf, scratchAfter}
 use Rattle.drawing.specs.Entries.{SegmentColumns, NodeColumns, ExemptionColumns, segments}
 use Rattle.drawing.specs.Conditions.{differ, tooMany, shortScratch, unfitSegment}
 use Rattle.drawing.specs.Checks.{segmentsDiffer, nodesDiffer, segmentConditions, listConditions, entryConditions}
-use Rattle.drawing.specs.Lengths.{SegmentsAgree, NodesAgree, comparedEntryConditions}
+use Rattle.drawing.specs.Inner.Lengths.{SegmentsAgree, NodesAgree, comparedEntryConditions}
 
 pub first-yes : (b : Bool) (r : Refusal) (l : List (Bool × Refusal)) → b ≡ true → firstOf ((b, r) ∷ l) ≡ Refused r
 unfolding firstOf

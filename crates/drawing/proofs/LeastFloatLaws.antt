@@ -14,7 +14,7 @@ use Rattle.floats.specs.Values.{lesserOf}
 use Rattle.drawing.specs.declared.gap.Gap.{Gap}
 use Rattle.drawing.specs.declared.gap.Gap.the-variants.{Absent, Present}
 use Rattle.drawing.specs.Gaps.{lesserGap}
-use Rattle.drawing.specs.LeastFloats.{Number, gapOfFloat, leastWith}
+use Rattle.drawing.specs.Inner.LeastFloats.{Number, gapOfFloat, leastWith}
 
 -- ---- what it stands for
 pub gap-absent : (x : Float) → ne x x ≡ true → Absent ≡ gapOfFloat x

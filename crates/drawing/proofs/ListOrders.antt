@@ -10,8 +10,9 @@ use Rattle.laws.proofs.Places.{at-all}
 use Rattle.laws.proofs.RowLaws.{row-antisym, by-rows}
 use Rattle.laws.proofs.Sorting.{sort-same, sort-perm}
 use Rattle.floats.proofs.NumberKeys.{key-of-one}
-use Rattle.drawing.specs.Entries.{Segment, Node, SegmentColumns, segments, segmentAt}
-use Rattle.drawing.specs.Lengths.{SegmentsAgree}
+use Rattle.drawing.specs.Entries.{Segment, Node, SegmentColumns, segments}
+use Rattle.drawing.specs.Inner.Entries.{segmentAt}
+use Rattle.drawing.specs.Inner.Lengths.{SegmentsAgree}
 use Rattle.drawing.specs.Held.{Binary64, SegmentHeld, NodeHeld, SegmentsHeld}
 use Rattle.drawing.specs.Orders.{segmentRow, nodeRow, segmentsInOrder, nodesInOrder}
 use Rattle.drawing.proofs.EntryLaws.{length-segments, segments-at}

@@ -1,8 +1,7 @@
 -- The entries that columns stand for: "columns of equal length (net, orientation byte 1 horizontal or 0 vertical, fixed, start, end)".
 use mathlib.Core.List.{List, [], _∷_, map}
 use Prim.Native.Nat.{ℕ}
-use lib.Ieee.{Float, nan}
-use lib.ListN.{getD}
+use lib.Ieee.{Float}
 
 pub record Segment : Type 0 where
   pub net : ℕ
@@ -90,10 +89,3 @@ nodeColumnsOf l = nodeColumns (map (λ (n : Node). n .id) l) (map (λ (n : Node)
 
 unfoldable pub exemptionColumnsOf : List Exemption → ExemptionColumns
 exemptionColumnsOf l = exemptionColumns (map (λ (e : Exemption). e .net) l) (map (λ (e : Exemption). e .node) l)
-
--- the entry at place i, as code reads it: past a column's end stand 0 and nan
-abbrev pub segmentAt : SegmentColumns → ℕ → Segment
-segmentAt c i = record { net = getD (c .net) i 0; orientation = getD (c .orientation) i 0; fixed = getD (c .fixed) i nan; start = getD (c .start) i nan; end = getD (c .end) i nan }
-
-abbrev pub nodeAt : NodeColumns → ℕ → Node
-nodeAt c i = record { id = getD (c .id) i 0; x = getD (c .x) i nan; y = getD (c .y) i nan; width = getD (c .width) i nan; height = getD (c .height) i nan }

@@ -6,6 +6,5 @@ pub mod Checks
 pub mod Orders
 pub mod Gaps
 pub mod Held
--- what only contracts of inner functions cite
-pub mod Lengths
-pub mod LeastFloats
+-- what only contracts of inner functions and proofs cite
+pub mod Inner

@@ -5,7 +5,7 @@ ghost use Rattle.drawing.specs.Refusals.{firstOf};
 ghost use Rattle.drawing.specs.Entries.{segmentColumns, nodeColumns, exemptionColumns, segments, nodes};
 ghost use Rattle.drawing.specs.Conditions as Conditions;
 ghost use Rattle.drawing.specs.Checks as Checks;
-ghost use Rattle.drawing.specs.Lengths.{SegmentsAgree, NodesAgree, comparedEntryConditions};
+ghost use Rattle.drawing.specs.Inner.Lengths.{SegmentsAgree, NodesAgree, comparedEntryConditions};
 use crate::entry::node_unfit;
 use crate::entry::segment_unfit;
 use crate::refusal::Check;

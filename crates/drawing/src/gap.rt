@@ -2,7 +2,7 @@
 ghost use mathlib.Core.Path.{_≡_};
 ghost use lib.Ieee.{nan};
 ghost use Rattle.drawing.specs.Gaps as Gaps;
-ghost use Rattle.drawing.specs.LeastFloats as LeastFloats;
+ghost use Rattle.drawing.specs.Inner.LeastFloats as LeastFloats;
 use floats::lesser;
 
 pub enum Gap {

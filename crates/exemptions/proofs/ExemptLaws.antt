@@ -12,7 +12,7 @@ use lib.ListN.{length, getD, take, drop, set, length-map}
 use lib.Seq.{take-all, getD-take, length-take-le, paste, take-paste, drop-paste}
 use Rattle.laws.specs.Lists.{All, some-of}
 use Rattle.laws.specs.Perm.{via}
-use Rattle.laws.specs.Sort.{Sorted}
+use Rattle.laws.specs.Inner.Sort.{Sorted}
 use Rattle.laws.proofs.Tests.{decide, clash, and-left, and-right, and-both, le-or-lt}
 use Rattle.laws.proofs.ListLaws.{all-mem, some-mem, none-all, some-map}
 use Rattle.laws.proofs.Places.{at-all, first-at, at-first}
@@ -20,18 +20,18 @@ use Rattle.laws.proofs.Perms.{perm-eq, perm-map, perm-some}
 use Rattle.laws.proofs.Sorting.{sort-sorted}
 use Rattle.laws.proofs.SortedLists.{sorted-at}
 use Rattle.laws.proofs.Columns.{Written, written-none, written-next, written-all}
-use Rattle.sorting.specs.Sorted.{before, sortable, sorted}
+use Rattle.sorting.specs.Inner.Sorted.{before, sortable, sorted}
 use Rattle.sorting.proofs.RowOrder.{before-order, compare-start, compare-end}
 use Rattle.sorting.proofs.Fitting.{no-rows}
 use Rattle.sorting.proofs.Entries.{sorted-column, sorted-perm, sorted-rest, sorted-length}
 use Rattle.drawing.specs.Entries.{Exemption, ExemptionColumns, exemptionsOf, exemptions}
-use Rattle.drawing.specs.Lengths.{ExemptionsAgree}
+use Rattle.drawing.specs.Inner.Lengths.{ExemptionsAgree}
 use Rattle.drawing.specs.Conditions.{differ}
 use Rattle.drawing.specs.Checks.{exemptionsDiffer}
 use Rattle.drawing.proofs.EntryLaws.{length-exemptions}
 use Rattle.exemptions.specs.declared.Range.{Range}
 use Rattle.clearance.specs.Figures.{exempt}
-use Rattle.exemptions.specs.Exempting.{word, unpacked, wordAt, nodeOf, Ascending, Rising, Holds, Gathered, Bound, Own, Listed}
+use Rattle.exemptions.specs.Inner.Exempting.{word, unpacked, wordAt, nodeOf, Ascending, Rising, Holds, Gathered, Bound, Own, Listed}
 
 -- ---- the search by halving: if the keys ascend, the place that is looked for is one of the n from `at` on, or the one behind them
 pub record Halving (key : ℕ → ℕ) (a b v at n : ℕ) : Type 0 where

@@ -1,2 +1,2 @@
--- What the contracts cite: the exemptions as words in ascending order.
-pub mod Exempting
+-- No promise rests on a definition of this crate.
+pub mod Inner

@@ -4,9 +4,9 @@ ghost use mathlib.Core.List.{List};
 ghost use Prim.Native.Nat.{ℕ, _≤_};
 ghost use lib.ListN.{length};
 ghost use Rattle.drawing.specs.Entries.{Exemption, exemptionColumns};
-ghost use Rattle.drawing.specs.Lengths.{ExemptionsAgree};
+ghost use Rattle.drawing.specs.Inner.Lengths.{ExemptionsAgree};
 ghost use Rattle.clearance.specs.Figures.{exempt};
-ghost use Rattle.exemptions.specs.Exempting.{word, wordAt, nodeOf, Ascending, Rising, Gathered, Bound, Own, Listed};
+ghost use Rattle.exemptions.specs.Inner.Exempting.{word, wordAt, nodeOf, Ascending, Rising, Gathered, Bound, Own, Listed};
 use sorting::sort_indices;
 
 // 2 to the power 32: the upper half of a word is the net, the lower the node.

@@ -12,7 +12,7 @@ use Rattle.laws.specs.Lists.{some-of}
 use Rattle.laws.proofs.Columns.{Written, written-none, written-next, written-all}
 use Rattle.laws.proofs.ListLaws.{scan-hit, scan-next, scan-end}
 use Rattle.file.specs.Reading.{bigEndian}
-use Rattle.file.specs.Places.{places}
+use Rattle.file.specs.Inner.Places.{places}
 use Rattle.file.proofs.FixedPlaces.{length-places, places-at}
 
 place : (w n : ℕ) (l : List ℕ) (at i : ℕ) → i < n → getD (places w n (drop at l)) i [] ≡ drop (at + w * i) l

@@ -10,7 +10,7 @@ use Rattle.drawing.specs.declared.refusal.Refusal.{Refusal}
 use Rattle.file.specs.declared.reading.Reading.{Reading}
 use Rattle.file.specs.declared.reading.Reading.the-variants as answers
 use Rattle.file.specs.Reading.{Read, got, refused, Drawing, read}
-use Rattle.file.specs.Places.{places, Room}
+use Rattle.file.specs.Inner.Places.{places, Room}
 use Rattle.file.specs.Columns.{headerOf, readingOf, resultOf, fileResult, columnAfter}
 use Rattle.file.proofs.FixedPlaces.{length-places, map-from}
 

@@ -14,7 +14,7 @@ use Rattle.laws.proofs.Tests.{le-or-lt, decide, cond-true, cond-false, or-false
 use Rattle.drawing.specs.declared.refusal.Refusal.{Refusal}
 use Rattle.drawing.specs.declared.refusal.Refusal.the-variants.{MalformedFile}
 use Rattle.file.specs.Reading.{Read, got, refused, then, bigEndian, number, entries}
-use Rattle.file.specs.Places.{places}
+use Rattle.file.specs.Inner.Places.{places}
 
 pub then-got : {A B : Type 0} (x : Read A) (k : A → List ℕ → Read B) (a : A) (l : List ℕ) → x ≡ got a l → then x k ≡ k a l
 unfolding then

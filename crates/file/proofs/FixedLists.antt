@@ -17,7 +17,7 @@ use Rattle.drawing.specs.declared.refusal.Refusal.the-variants.{MalformedFile, 
 use Rattle.file.specs.declared.scan.Counted.{Counted}
 use Rattle.file.specs.declared.scan.Counted.the-variants.{Entries, Refused}
 use Rattle.file.specs.Reading.{Read, got, refused, bigEndian, number, entries, counted}
-use Rattle.file.specs.Places.{places, countOf}
+use Rattle.file.specs.Inner.Places.{places, countOf}
 use Rattle.file.proofs.Fixed.{Fixed, then-got, then-refused, fixed-number, fixed-entries}
 use Rattle.file.proofs.FixedParts.{noFault}
 use Rattle.file.proofs.FixedPlaces.{length-places, some-never}

@@ -9,7 +9,7 @@ use lib.ListN.{length, getD, drop}
 use lib.Seq.{drop-drop}
 use Rattle.laws.specs.Lists.{some-of}
 use Rattle.laws.proofs.ListLaws.{some-map}
-use Rattle.file.specs.Places.{places}
+use Rattle.file.specs.Inner.Places.{places}
 
 pub length-places : (w n : ℕ) (l : List ℕ) → length (places w n l) ≡ n
 unfolding places

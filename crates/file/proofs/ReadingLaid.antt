@@ -13,7 +13,7 @@ use Rattle.file.specs.declared.reading.Header.{Header}
 use Rattle.file.specs.declared.reading.Reading.{Reading}
 use Rattle.file.specs.declared.reading.Reading.the-variants as answers
 use Rattle.file.specs.Reading.{Read, got, refused, then, counted, Drawing, parts, ended, read}
-use Rattle.file.specs.Places.{places}
+use Rattle.file.specs.Inner.Places.{places}
 use Rattle.file.specs.Columns.{readingOf}
 use Rattle.file.proofs.Fixed.{Fixed, then-got, then-refused}
 use Rattle.file.proofs.FixedParts.{fixed-version, fixed-segment, fixed-node, fixed-exemption, fixed-settings}

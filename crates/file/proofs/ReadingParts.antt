@@ -18,7 +18,7 @@ use Rattle.file.specs.declared.scan.Counted.the-variants.{Entries, Refus
 use Rattle.file.specs.declared.reading.Header.{Header}
 use Rattle.file.specs.declared.reading.Reading.the-variants as answers
 use Rattle.file.specs.Reading.{got, refused, number, version, counted, segment, node, exemption, Drawing, parts, ended, read}
-use Rattle.file.specs.Places.{places, countOf, Room}
+use Rattle.file.specs.Inner.Places.{places, countOf, Room}
 use Rattle.file.specs.Columns.{headerOf, readingOf}
 use Rattle.file.proofs.Fixed.{then-got, then-refused, fixed-number}
 use Rattle.file.proofs.FixedParts.{numberAt, floatAt, segmentOf, nodeOf, exemptionOf, settingsOf, badOrientation, fixed-version, fixed-segment, fixed-node, fixed-exemption, fixed-settings}

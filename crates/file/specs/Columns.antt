@@ -7,11 +7,7 @@ use Rattle.drawing.specs.Refusals.{numberOf}
 use Rattle.file.specs.declared.reading.Header.{Header}
 use Rattle.file.specs.declared.reading.Reading.{Reading}
 use Rattle.file.specs.declared.reading.Reading.the-variants as answers
-use Rattle.file.specs.Reading.{Read, got, refused, Settings, Drawing}
-
--- the settings among what a file says besides its entries
-unfoldable pub settingsOf : Header → Settings
-settingsOf h = record { threshold = h .threshold; cutoff = h .cutoff; clearance = h .clearance; separation = h .separation; congestion = h .congestion }
+use Rattle.file.specs.Reading.{Read, got, refused, Drawing}
 
 -- the counts of the lists and the settings
 unfoldable pub headerOf : Drawing → Header

@@ -5,7 +5,7 @@ ghost use Prim.Native.Nat.{_≤_};
 ghost use lib.Ieee.{binary64, ofBits};
 ghost use lib.ListN.{length, take, drop};
 ghost use Rattle.file.specs.Reading.{bigEndian};
-ghost use Rattle.file.specs.Places.{places, Room};
+ghost use Rattle.file.specs.Inner.Places.{places, Room};
 use crate::bytes::be32;
 use crate::bytes::be64;
 use floats::float_of_bits;

@@ -6,7 +6,7 @@ ghost use lib.Ieee.{binary64, ofBits};
 ghost use lib.ListN.{length, take, drop};
 ghost use Rattle.laws.specs.Lists.{some-of};
 ghost use Rattle.file.specs.Reading.{bigEndian, number, counted, segment, read};
-ghost use Rattle.file.specs.Places.{places, countOf, Room};
+ghost use Rattle.file.specs.Inner.Places.{places, countOf, Room};
 ghost use Rattle.file.specs.Columns.{readingOf};
 use crate::bytes::be32;
 use crate::bytes::be64;

@@ -11,7 +11,8 @@ use lib.Ieee.{Float, fin, binary64, size, lt, isNan, nanBits, ofBits, toBits}
 use lib.Ieee.Fits.{and-l, and-r}
 use lib.Ieee.Bits.{ofBits-fits, toBits-ofBits, nanBits-is}
 use Rattle.laws.proofs.Tests.{same-test, is-true, is-false, cond-true, cond-false, le-or-lt}
-use Rattle.floats.specs.TotalOrder.{signSet, quiet, payload, numbersInOrder, positiveNansInOrder, nansInOrder, totalOrder, totalCmp, key, keyOf}
+use Rattle.floats.specs.TotalOrder.{signSet, quiet, payload, numbersInOrder, positiveNansInOrder, nansInOrder, totalOrder, key, keyOf}
+use Rattle.floats.specs.Inner.TotalOrder.{totalCmp}
 use Rattle.floats.specs.declared.total_order.Ordering.the-variants.{Less, Equal, Greater}
 use Rattle.floats.proofs.Rank.{sgn, rank, Num, lt→, →lt}
 use Rattle.floats.proofs.Bits.{rank-one, Zero, nan-bits}

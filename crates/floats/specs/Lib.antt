@@ -2,3 +2,5 @@
 pub mod TotalOrder
 pub mod Values
 pub mod Grid
+-- what only contracts of inner functions and proofs cite
+pub mod Inner

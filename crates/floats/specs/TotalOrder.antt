@@ -3,8 +3,6 @@ use mathlib.Core.Bool.{Bool, true, false, not, _&&_, cond}
 use Prim.Native.Nat.{ℕ, _+_, _-_, _%_}
 use lib.Dec.{leb, ltb, eqb}
 use lib.Ieee.{Float, binary64, ofBits, toBits, nanBits, lt}
-use Rattle.floats.specs.declared.total_order.Ordering.{Ordering}
-use Rattle.floats.specs.declared.total_order.Ordering.the-variants.{Less, Equal, Greater}
 
 -- the sign bit is set
 unfoldable pub signSet : ℕ → Bool
@@ -36,10 +34,6 @@ nansInOrder a b = cond (signSet a) (cond (signSet b) (positiveNansInOrder b a) t
 -- totalOrder(x, y): d) 1) a NaN with the sign set is before every number, and d) 2) every number before a NaN with the sign clear
 unfoldable pub totalOrder : ℕ → ℕ → Bool
 totalOrder a b = cond (nanBits binary64 a) (cond (nanBits binary64 b) (nansInOrder a b) (signSet a)) (cond (nanBits binary64 b) (not (signSet b)) (numbersInOrder a b))
-
--- two patterns compared: less where totalOrder(b, a) does not hold, equal where totalOrder holds both ways
-unfoldable pub totalCmp : ℕ → ℕ → Ordering
-totalCmp a b = cond (totalOrder b a) (cond (totalOrder a b) Equal Greater) Less
 
 -- the place of a pattern, a number: the order of these numbers is totalOrder (`key-order` in proofs/TotalOrder.antt)
 unfoldable pub key : ℕ → ℕ

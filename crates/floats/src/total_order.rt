@@ -1,6 +1,7 @@
 // IEEE 754's totalOrder on bit patterns of binary64, and its key: a number whose order is totalOrder.
 ghost use mathlib.Core.Path.{_≡_};
 ghost use Rattle.floats.specs.TotalOrder as TotalOrder;
+ghost use Rattle.floats.specs.Inner.TotalOrder as InnerTotalOrder;
 use crate::patterns::bits_of;
 use crate::patterns::float_of_bits;
 
@@ -34,7 +35,7 @@ fn pattern_of_key(key: u64) -> u64
 
 // Two bit patterns compared, the Rust's `total_cmp`. The port's orders compare keys.
 pub fn total_cmp(a: u64, b: u64) -> Ordering
-    ensures { λ r. ⌜ r ≡ TotalOrder.totalCmp a b ⌝ }
+    ensures { λ r. ⌜ r ≡ InnerTotalOrder.totalCmp a b ⌝ }
 {
     let x = total_order_key(a);
     let y = total_order_key(b);

@@ -11,7 +11,7 @@ use lib.ListN.{length, getD}
 use Rattle.laws.proofs.Tests.{le-or-lt, same-or-not}
 use Rattle.floats.specs.TotalOrder.{key, patternAt, keyOf, floatAt}
 use Rattle.floats.proofs.NumberKeys.{float-back, key-of-small}
-use Rattle.key_ranges.specs.Reach.{Ascending, Passed, Bound, Reached}
+use Rattle.key_ranges.specs.Inner.Reach.{Ascending, Passed, Bound, Reached}
 
 -- ---- a search from any place: down to where all words before are less than v, then up to the first that is not
 module _ (l : List ℕ) (v : ℕ) where

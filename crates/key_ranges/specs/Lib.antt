@@ -1,2 +1,2 @@
--- What the range of one key is.
-pub mod Reach
+-- No promise rests on a definition of this crate.
+pub mod Inner

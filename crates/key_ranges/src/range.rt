@@ -1,7 +1,7 @@
 // The keys within a cutoff of one of them. Keys that are in order have them side by side.
 ghost use Prim.Native.Nat.{_≤_, _<_};
 ghost use lib.ListN.{length};
-ghost use Rattle.key_ranges.specs.Reach.{Ascending, Passed, Bound, Within, Reached};
+ghost use Rattle.key_ranges.specs.Inner.Reach.{Ascending, Passed, Bound, Within, Reached};
 use floats::float_of_key;
 use floats::key_of;
 

@@ -8,10 +8,12 @@ use native.Mathlib.Omega.{arith}
 use lib.Dec.{leb, eqb, eqb→eq}
 use lib.ListN.{length, getD}
 use borrow.Author.Tests.{leb-true, eq-eqb, ne-eqb, eqb-true, eqb-false, not-true, not-false}
-use Rattle.laws.specs.Lists.{Mem, Pairwise, some-of, put, chosen, keep, bit}
+use Rattle.laws.specs.Lists.{Mem, some-of, put, chosen, keep, bit}
+use Rattle.laws.specs.Inner.Lists.{Pairwise}
 use Rattle.laws.specs.Perm.{Perm, none, first, swap, via}
-use Rattle.laws.specs.Sort.{Sorted}
-use Rattle.laws.specs.Different.{among, different, Different, differs, distinct}
+use Rattle.laws.specs.Inner.Sort.{Sorted}
+use Rattle.laws.specs.Different.{differs, distinct}
+use Rattle.laws.specs.Inner.Different.{among, different, Different}
 use Rattle.laws.proofs.Tests.{clash, is-true, is-false, of-true, same-test}
 use Rattle.laws.proofs.ListLaws.{some-mem, mem-some, mem-chosen, chosen-mem}
 use Rattle.laws.proofs.Places.{at-mem, mem-at}

@@ -9,7 +9,8 @@ use native.Mathlib.Omega.{arith}
 use native.Mathlib.Numerals.{add-one}
 use lib.ListN.{length, getD, drop, length-append, drop-of-length-le}
 use lib.Seq.{drop-cons}
-use Rattle.laws.specs.Lists.{Mem, All, Pairwise, every, some-of, put, chosen, beside, cross, pairs}
+use Rattle.laws.specs.Lists.{Mem, All, some-of, put, chosen, beside, cross, pairs}
+use Rattle.laws.specs.Inner.Lists.{Pairwise, every}
 use Rattle.laws.proofs.Tests.{clash, and-left, and-right, and-both, or-elim, or-left, or-right, neither-left, neither-right}
 
 -- functions that agree on the entries map alike

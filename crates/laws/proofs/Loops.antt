@@ -7,7 +7,7 @@ use native.Mathlib.Numerals.{add-one}
 use lib.ListN.{length, getD, take, drop, length-map, drop-of-length-le, List·getD-map}
 use lib.Seq.{drop-cons, getD-take, length-take-le}
 use Rattle.laws.specs.Charged.{Charged, runs}
-use Rattle.laws.specs.Allowance.{Outcome, spent, left, within, onward}
+use Rattle.laws.specs.Inner.Allowance.{Outcome, spent, left, within, onward}
 use Rattle.laws.proofs.Runs.{within-none, within-next, onward-spent, onward-left}
 
 -- the entries `rest`, from the state s with m left of the allowance, come to `all`

@@ -8,7 +8,7 @@ use native.Mathlib.Omega.{arith}
 use borrow.Author.Tests.{le-leb, lt-leb}
 use lib.Dec.{leb}
 use Rattle.laws.specs.Charged.{Charged, free, visit, after, runs, settle}
-use Rattle.laws.specs.Allowance.{Outcome, spent, left, within, onward, reply}
+use Rattle.laws.specs.Inner.Allowance.{Outcome, spent, left, within, onward, reply}
 use Rattle.laws.proofs.Tests.{le-or-lt, cond-true, cond-false}
 
 -- ---- one run after another: with nothing before it or behind it, and three of them grouped either way

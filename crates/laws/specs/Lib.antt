@@ -6,4 +6,5 @@ pub mod Rows
 pub mod Different
 pub mod Least
 pub mod Charged
-pub mod Allowance
+-- what only contracts of inner functions and proofs cite
+pub mod Inner

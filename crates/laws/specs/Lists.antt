@@ -2,7 +2,7 @@
 use mathlib.Core.Path.{_≡_}
 use mathlib.Core.Logic.{_⊎_}
 use mathlib.Core.List.{List, [], _∷_, _++_}
-use mathlib.Core.Bool.{Bool, true, false, _&&_, _||_}
+use mathlib.Core.Bool.{Bool, true, false, _||_}
 use Prim.Native.Nat.{ℕ, _+_}
 
 -- x is one of the list
@@ -14,16 +14,6 @@ Mem x (y ∷ l) = (x ≡ y) ⊎ Mem x l
 abbrev pub All : {A : Type 0} → (A → Type 0) → List A → Type 0
 All P [] = Unit {0}
 All P (x ∷ l) = P x × All P l
-
--- R holds of each entry and each later one
-abbrev pub Pairwise : {A : Type 0} → (A → A → Type 0) → List A → Type 0
-Pairwise R [] = Unit {0}
-Pairwise R (x ∷ l) = ((y : _) → Mem y l → R x y) × Pairwise R l
-
--- every entry passes the test
-unfoldable pub every : {A : Type 0} → (A → Bool) → List A → Bool
-every p [] = true
-every p (x ∷ l) = p x && every p l
 
 -- some entry passes the test
 unfoldable pub some-of : {A : Type 0} → (A → Bool) → List A → Bool

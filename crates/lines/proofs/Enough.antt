@@ -10,7 +10,7 @@ use lib.Dec.{leb}
 use lib.ListN.{length, take}
 use lib.Seq.{take-all}
 use Rattle.laws.proofs.Tests.{cond-true, cond-false, le-or-lt}
-use Rattle.lines.specs.Lines.{enough}
+use Rattle.lines.specs.Inner.Lines.{enough}
 use Rattle.lines.proofs.Copying.{Copied}
 
 few : (n : ℕ) → n ≤ 4097 → enough n ≡ n

@@ -5,7 +5,7 @@ use Prim.Native.Nat.{ℕ}
 use lib.ListN.{length, take}
 use Rattle.drawing.specs.Entries.{SegmentColumns, segmentColumns, columnsOf}
 use Rattle.lines.specs.declared.line.Line.{Line}
-use Rattle.lines.specs.Lines.{entryOf, enough}
+use Rattle.lines.specs.Inner.Lines.{entryOf, enough}
 use Rattle.lines.proofs.Enough.{enough-taken}
 
 -- the columns of a list of lines, field by field

@@ -8,7 +8,7 @@ use lib.Ieee.{Float, nan}
 use lib.ListN.{length, getD, set, take}
 use Rattle.drawing.specs.Entries.{segmentColumns, columnsOf}
 use Rattle.lines.specs.declared.line.Line.{Line}
-use Rattle.lines.specs.Lines.{entryOf, enough}
+use Rattle.lines.specs.Inner.Lines.{entryOf, enough}
 use Rattle.lines.proofs.Copying.{Copied, copied-none, copied-next}
 use Rattle.lines.proofs.LineColumns.{columns-of-lines, laid-out}
 

@@ -1,4 +1,4 @@
 -- The definitions, a file for each notion.
 pub mod Orientation
--- what only contracts of inner functions cite
-pub mod Lines
+-- what only contracts of inner functions and proofs cite
+pub mod Inner

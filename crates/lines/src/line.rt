@@ -5,7 +5,7 @@ ghost use Prim.Native.Nat.{_≤_};
 ghost use lib.ListN.{length, take};
 ghost use Rattle.drawing.specs.Entries.{segmentColumns, columnsOf};
 ghost use Rattle.lines.specs.Orientation.{orientationByte};
-ghost use Rattle.lines.specs.Lines.{entryOf, enough};
+ghost use Rattle.lines.specs.Inner.Lines.{entryOf, enough};
 
 // A segment as the columns have it.
 pub struct Line {

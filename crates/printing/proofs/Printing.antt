@@ -12,7 +12,8 @@ use Rattle.file.specs.declared.reading.Header.{Header}
 use Rattle.file.specs.declared.reading.Reading.{Reading}
 use Rattle.file.specs.declared.reading.Reading.the-variants as answers
 use Rattle.file.specs.Reading.{Read, got, refused, Drawing}
-use Rattle.file.specs.Columns.{settingsOf, headerOf, readingOf, columnAfter}
+use Rattle.file.specs.Columns.{headerOf, readingOf, columnAfter}
+use Rattle.file.specs.Inner.Columns.{settingsOf}
 use Rattle.clearance.specs.declared.report.ClearanceAnswer.{ClearanceAnswer}
 use Rattle.clearance.specs.Answer.{clearanceAnswer}
 use Rattle.separation.specs.declared.report.SeparationAnswer.{SeparationAnswer}
@@ -20,7 +21,7 @@ use Rattle.separation.specs.Answer.{separationAnswer}
 use Rattle.congestion.specs.declared.report.CongestionAnswer.{CongestionAnswer}
 use Rattle.congestion.specs.Answer.{densityAnswer}
 use Rattle.printing.specs.Sheet.{fileWord, refusal, clearanceLine, separationLine, congestionLine, scratchWords, measured, lines, printed}
-use Rattle.text.specs.TextPut.{Put}
+use Rattle.text.specs.Inner.TextPut.{Put}
 use Rattle.text.proofs.TextPuts.{put-same}
 
 -- the answers of the reader are told apart

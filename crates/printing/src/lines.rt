@@ -2,7 +2,7 @@
 ghost use mathlib.Core.List.{[], _∷_, _++_};
 ghost use Rattle.drawing.specs.Refusals.{numberOf};
 ghost use Rattle.text.specs.Text as Text;
-ghost use Rattle.text.specs.TextPut.{Put};
+ghost use Rattle.text.specs.Inner.TextPut.{Put};
 ghost use Rattle.printing.specs.Fields as Fields;
 ghost use Rattle.printing.specs.Sheet as Sheet;
 use clearance::ClearanceAnswer;

@@ -1,4 +1,4 @@
 -- The columns that a list of records stands for.
 pub mod Records
--- what only private contracts cite
-pub mod NoRecord
+-- what only contracts of inner functions and proofs cite
+pub mod Inner

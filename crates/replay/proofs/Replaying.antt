@@ -8,7 +8,7 @@ use lib.Seq.{take-append-seam}
 use Rattle.printing.specs.Sheet.{sheet}
 use Rattle.replay.specs.declared.Part.{Part}
 use Rattle.replay.specs.declared.Part.the-variants.{Whole}
-use Rattle.replay.specs.Parts.{Within}
+use Rattle.replay.specs.Inner.Parts.{Within}
 
 pub whole-within : (p : Part) (n : ℕ) (buffer : List ℕ) → p ≡ Whole n → Within p buffer → n ≤ length buffer
 whole-within p n buffer e h = subst (λ q. Within q buffer) e h

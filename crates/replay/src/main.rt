@@ -4,7 +4,7 @@
 ghost use mathlib.Core.Path.{_≡_};
 ghost use mathlib.Core.Bool.{true};
 ghost use Rattle.printing.specs.Sheet as Sheet;
-ghost use Rattle.replay.specs.Parts.{Within};
+ghost use Rattle.replay.specs.Inner.Parts.{Within};
 use libc::STDIN_FILENO;
 use libc::STDOUT_FILENO;
 

@@ -8,7 +8,7 @@ use native.Mathlib.Omega.{arith}
 use lib.ListN.{length, getD, take, drop, set, length-drop}
 use lib.Seq.{length-take-le, take-take, getD-take, getD-drop, take-set-le, drop-set-lt, drop-set-add}
 use Rattle.rows.specs.Rows.{Row}
-use Rattle.rows.specs.Tables.{noRow, rowFrom, column}
+use Rattle.rows.specs.Inner.Tables.{noRow, rowFrom, column}
 
 pub getD-map : {A B : Type 0} (f : A → B) (l : List A) (i : ℕ) (d : A) (b : B) → i < length l → getD (map f l) i b ≡ f (getD l i d)
 getD-map f [] i d b h = absurd (not-suc-le-zero h)

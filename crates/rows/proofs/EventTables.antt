@@ -12,12 +12,12 @@ use Rattle.laws.specs.Lists.{All}
 use Rattle.laws.specs.Sort.{sortBy}
 use Rattle.laws.proofs.Tests.{cond-true, cond-false}
 use Rattle.laws.proofs.Parts.{drop-past}
-use Rattle.sorting.specs.Sorted.{upTo, sorted}
+use Rattle.sorting.specs.Inner.Sorted.{upTo, sorted}
 use Rattle.sorting.proofs.Entries.{Ordered, all-ordered}
 use Rattle.sorting.proofs.Events.{both, events-ordered}
 use Rattle.rows.specs.Rows.{Row, Event, ends, starts, moment, eventsInOrder, eventsFrom, events}
-use Rattle.rows.specs.Placed.{eventsPlaced}
-use Rattle.rows.specs.Tables.{noRow, eventFrom, column}
+use Rattle.rows.specs.Inner.Placed.{eventsPlaced}
+use Rattle.rows.specs.Inner.Tables.{noRow, eventFrom, column}
 use Rattle.rows.proofs.ColumnParts.{row-word}
 
 events-both : (i : ℕ) (l : List Row) → both ends starts i l ≡ eventsFrom i l

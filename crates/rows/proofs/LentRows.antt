@@ -8,10 +8,10 @@ use lib.ListN.{length, take, drop, length-append, length-drop}
 use lib.Seq.{drop-at, length-take-le}
 use Rattle.laws.proofs.Parts.{tail-back, tail-lent}
 use Rattle.drawing.specs.Entries.{SegmentColumns, segments}
-use Rattle.drawing.specs.Lengths.{SegmentsAgree}
+use Rattle.drawing.specs.Inner.Lengths.{SegmentsAgree}
 use Rattle.rows.specs.Rows.{oriented}
-use Rattle.rows.specs.Placed.{rowCount, rowsPlaced}
-use Rattle.rows.specs.Tables.{Orderable, RowsOrdered}
+use Rattle.rows.specs.Inner.Placed.{rowCount, rowsPlaced}
+use Rattle.rows.specs.Inner.Tables.{Orderable, RowsOrdered}
 use Rattle.rows.proofs.Oriented.{oriented-few}
 use Rattle.rows.proofs.RowTables.{rows-placed}
 

@@ -8,14 +8,15 @@ use lib.Dec.{eqb}
 use lib.ListN.{length, getD}
 use Rattle.laws.specs.Lists.{Mem, chosen, count}
 use Rattle.laws.specs.Perm.{Perm}
-use Rattle.laws.specs.Sort.{sortBy, Sorted}
+use Rattle.laws.specs.Sort.{sortBy}
+use Rattle.laws.specs.Inner.Sort.{Sorted}
 use Rattle.laws.proofs.ListLaws.{mem-all, mem-chosen, chosen-mem}
 use Rattle.laws.proofs.Folds.{count-chosen, count-at-most}
 use Rattle.laws.proofs.Perms.{perm-mem, perm-sym, perm-length, perm-count, perm-chosen}
 use Rattle.laws.proofs.RowLaws.{row-antisym, by-rows}
 use Rattle.laws.proofs.Sorting.{sort-perm, sort-sorted, sort-same}
 use Rattle.drawing.specs.Entries.{Segment, SegmentColumns, segments}
-use Rattle.drawing.specs.Lengths.{SegmentsAgree}
+use Rattle.drawing.specs.Inner.Lengths.{SegmentsAgree}
 use Rattle.drawing.specs.Orders.{segmentsInOrder}
 use Rattle.drawing.proofs.EntryLaws.{length-segments}
 use Rattle.drawing.proofs.ListOrders.{segments-in-order-perm}

@@ -18,20 +18,21 @@ use Rattle.laws.proofs.Places.{first-at}
 use Rattle.laws.proofs.Parts.{drop-past, part-same}
 use Rattle.laws.proofs.Perms.{perm-length}
 use Rattle.laws.proofs.Sorting.{sort-perm}
-use Rattle.sorting.specs.Sorted.{upTo, sorted}
+use Rattle.sorting.specs.Inner.Sorted.{upTo, sorted}
 use Rattle.sorting.proofs.Entries.{Ordered, all-ordered, sorted-entries, upTo-below, upTo-entries}
 use Rattle.sorting.proofs.Tables.{row-there}
 use Rattle.floats.specs.TotalOrder.{keyOf}
 use Rattle.floats.specs.Values.{canonicalZero}
-use Rattle.drawing.specs.Entries.{Segment, SegmentColumns, segments, segmentAt}
+use Rattle.drawing.specs.Entries.{Segment, SegmentColumns, segments}
+use Rattle.drawing.specs.Inner.Entries.{segmentAt}
 use Rattle.drawing.specs.Checks.{segmentsDiffer}
-use Rattle.drawing.specs.Lengths.{SegmentsAgree}
+use Rattle.drawing.specs.Inner.Lengths.{SegmentsAgree}
 use Rattle.drawing.proofs.EntryLaws.{length-segments, segments-at}
 use Rattle.drawing.proofs.FirstRefusal.{segments-agree}
 use Rattle.drawing.proofs.AnyOrder.{same-segments}
 use Rattle.rows.specs.Rows.{Row, fixedOf, startOf, endOf, rowOf, words, rowsInOrder, oriented}
-use Rattle.rows.specs.Placed.{rowsOf, allWords, orderable, rowCount, rowsPlaced}
-use Rattle.rows.specs.Tables.{noRow, rowFrom, Orderable, RowsOrdered, RowAdded, Gathered}
+use Rattle.rows.specs.Inner.Placed.{rowsOf, allWords, orderable, rowCount, rowsPlaced}
+use Rattle.rows.specs.Inner.Tables.{noRow, rowFrom, Orderable, RowsOrdered, RowAdded, Gathered}
 use Rattle.rows.proofs.Oriented.{words-one, list-order-idle, oriented-few}
 use Rattle.rows.proofs.ColumnParts.{getD-map}
 use Rattle.rows.proofs.Pastes.{paste-behind}

@@ -15,12 +15,12 @@ use Rattle.laws.proofs.Tests.{decide, clash, cond-true, cond-false, and-left, a
 use Rattle.laws.proofs.Columns.{Written, written-none, written-next, written-all}
 use Rattle.laws.proofs.Places.{at-first}
 use Rattle.laws.proofs.Parts.{tail-lent, drop-past, getD-past, part-same}
-use Rattle.sorting.specs.Sorted.{within, sortable}
+use Rattle.sorting.specs.Inner.Sorted.{within, sortable}
 use Rattle.sorting.proofs.Fitting.{fits-of, is-sortable, row-at}
 use Rattle.sorting.proofs.Tables.{row-there}
 use Rattle.rows.specs.Rows.{Row, words}
-use Rattle.rows.specs.Placed.{rowColumn, spreadable, rowsSpread}
-use Rattle.rows.specs.Tables.{noRow, column, RowsOrdered, Spreadable}
+use Rattle.rows.specs.Inner.Placed.{rowColumn, spreadable, rowsSpread}
+use Rattle.rows.specs.Inner.Tables.{noRow, column, RowsOrdered, Spreadable}
 use Rattle.rows.proofs.ColumnParts.{getD-map}
 use Rattle.rows.proofs.Pastes.{paste-before}
 

@@ -14,8 +14,9 @@ use lib.Seq.{drop-cons}
 use Rattle.laws.specs.Lists.{fold, bit, count}
 use Rattle.laws.proofs.Tests.{cond-true, cond-false}
 use Rattle.drawing.specs.Entries.{Segment, SegmentColumns, segmentsOf, segments}
-use Rattle.drawing.specs.Lengths.{SegmentsAgree}
-use Rattle.rows.specs.Rows.{oriented, ofOrientation, atLeastTwo, segmentsToSweep}
+use Rattle.drawing.specs.Inner.Lengths.{SegmentsAgree}
+use Rattle.rows.specs.Rows.{oriented, atLeastTwo}
+use Rattle.rows.specs.Inner.Rows.{ofOrientation, segmentsToSweep}
 use Rattle.rows.proofs.Oriented.{oriented-length}
 
 -- ---- the loop: n of the first i bytes are o

@@ -1,4 +1,4 @@
--- The definitions: `Rows` and `Placed` are what a reader must believe, `Tables` is for private functions.
+-- The definitions, a file for each notion.
 pub mod Rows
-pub mod Placed
-pub mod Tables
+-- what only contracts of inner functions and proofs cite
+pub mod Inner

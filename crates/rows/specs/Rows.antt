@@ -1,10 +1,10 @@
 -- The segments of one orientation as rows in order, and their events in order: separation's walk is defined over them, and the code of both sweeps goes over them. Congestion's walk is defined over wires in 64ths. What an orientation with less than two segments counts for stands here too.
 use mathlib.Core.Bool.{Bool, cond}
 use mathlib.Core.List.{List, [], _∷_}
-use Prim.Native.Nat.{ℕ, suc, _+_}
+use Prim.Native.Nat.{ℕ, suc}
 use lib.Dec.{ltb, eqb}
 use lib.Ieee.{Float}
-use Rattle.laws.specs.Lists.{chosen, count}
+use Rattle.laws.specs.Lists.{chosen}
 use Rattle.laws.specs.Rows.{rowLe}
 use Rattle.laws.specs.Sort.{sortBy}
 use Rattle.floats.specs.TotalOrder.{keyOf}
@@ -45,17 +45,9 @@ oriented o l = sortBy rowsInOrder (chosen (λ s. eqb (s .orientation) o) rowOf (
 
 -- ---- how many are swept
 
--- how many of these orientation bytes are o
-abbrev pub ofOrientation : ℕ → List ℕ → ℕ
-ofOrientation o l = count (λ b. eqb b o) l
-
 -- n, or 0 where it is less than two
 abbrev pub atLeastTwo : ℕ → ℕ
 atLeastTwo n = cond (ltb n 2) 0 n
-
--- "segments in orientations holding at least two", from the column of their orientation bytes
-unfoldable pub segmentsToSweep : List ℕ → ℕ
-segmentsToSweep l = atLeastTwo (ofOrientation 1 l) + atLeastTwo (ofOrientation 0 l)
 
 -- ---- the events
 -- each segment ends and starts; its index is the place of its row in order

@@ -1,6 +1,7 @@
 // How many segments a sweep goes over, from their orientation bytes alone: known before any table is made.
 ghost use mathlib.Core.Path.{_≡_};
-ghost use Rattle.rows.specs.Rows.{ofOrientation, atLeastTwo, segmentsToSweep};
+ghost use Rattle.rows.specs.Rows.{atLeastTwo};
+ghost use Rattle.rows.specs.Inner.Rows.{ofOrientation, segmentsToSweep};
 
 fn count_oriented(orientation: &[u8], wanted: u8) -> usize
     ensures { λ r. ⌜ r ≡ ofOrientation wanted (now (orientation .entry)) ⌝ }

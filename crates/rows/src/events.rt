@@ -1,6 +1,6 @@
 // The events of one orientation's rows, put in order.
 ghost use mathlib.Core.Path.{_≡_};
-ghost use Rattle.rows.specs.Placed.{eventsPlaced};
+ghost use Rattle.rows.specs.Inner.Placed.{eventsPlaced};
 use sorting::fill_places;
 use sorting::sort_indices;
 

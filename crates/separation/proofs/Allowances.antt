@@ -7,13 +7,14 @@ use Prim.Native.Nat.{ℕ, zero, suc, _≤_, _<_}
 use native.Mathlib.Omega.{arith}
 use lib.ListN.{length}
 use Rattle.laws.specs.Charged.{Charged, free, visit, after, runs}
-use Rattle.laws.specs.Allowance.{spent, left, within, onward}
+use Rattle.laws.specs.Inner.Allowance.{spent, left, within, onward}
 use Rattle.laws.proofs.Runs.{within-free, within-after, visit-spent, visit-paid, onward-spent, onward-left}
 use Rattle.drawing.specs.Entries.{Segment}
 use Rattle.rows.specs.Rows.{Row, oriented, events}
 use Rattle.separation.specs.declared.search.Search.the-variants.{Found, Empty, Spent}
 use Rattle.separation.specs.Lines.{lines, levels}
-use Rattle.separation.specs.Searches.{leaf, orElse, node, setRun, searchOf}
+use Rattle.separation.specs.Searches.{leaf, orElse, node, setRun}
+use Rattle.separation.specs.Inner.Searches.{searchOf}
 use Rattle.separation.specs.Walk.{nothing, lesserFigures, Sweep, remove, endsAt, step, sweep, along, walkAll}
 
 -- ---- "a search answers found, empty or spent"

@@ -10,7 +10,7 @@ use lib.ListN.{length, getD}
 use lib.Ieee.{Float, binary64, eq}
 use Rattle.laws.specs.Lists.{Mem, All, chosen, keep}
 use Rattle.laws.specs.Charged.{runs}
-use Rattle.laws.specs.Sort.{Sorted}
+use Rattle.laws.specs.Inner.Sort.{Sorted}
 use Rattle.laws.proofs.Tests.{is-true}
 use Rattle.laws.proofs.ListLaws.{all-append, all-mem, mem-all, mem-chosen, chosen-append, append-right, mem-map}
 use Rattle.laws.proofs.Leasts.{least-unique}

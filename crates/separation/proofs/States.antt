@@ -6,13 +6,13 @@ use native.Mathlib.Omega.{arith}
 use borrow.Author.Tests.{lt-ltb, ltb-true}
 use lib.Dec.{ltb}
 use lib.Ieee.{Float, binary64, ofBits, sub}
-use Rattle.laws.specs.Allowance.{Outcome, spent, left, reply}
+use Rattle.laws.specs.Inner.Allowance.{Outcome, spent, left, reply}
 use Rattle.floats.specs.Values.{plusZero, absOf, gapOf}
 use Rattle.drawing.specs.declared.refusal.Refusal.the-variants.{WorkLimitExceeded}
 use Rattle.drawing.specs.declared.gap.Gap.{Gap}
 use Rattle.drawing.specs.declared.gap.Gap.the-variants.{Present}
 use Rattle.drawing.specs.Gaps.{lesserGap}
-use Rattle.drawing.specs.LeastFloats.{Number, gapOfFloat, leastWith}
+use Rattle.drawing.specs.Inner.LeastFloats.{Number, gapOfFloat, leastWith}
 use Rattle.drawing.proofs.LeastFloatLaws.{none-absent, least-joined}
 use Rattle.separation.specs.declared.report.SeparationAnswer.the-variants.{Report, Refused}
 use Rattle.separation.specs.declared.state.Sweeping.{Sweeping}
@@ -24,7 +24,7 @@ use Rattle.separation.specs.declared.found.Swept.the-variants.{Went as D
 use Rattle.separation.specs.Figures.{Figures}
 use Rattle.separation.specs.Walk.{nothing, lesserFigures, ownLine}
 use Rattle.separation.specs.Answer.{accepted}
-use Rattle.separation.specs.States.{metBy, atStart, outcomeOf, foundBy, sweptOf, withGap, Answers, tooFew}
+use Rattle.separation.specs.Inner.States.{metBy, atStart, outcomeOf, foundBy, sweptOf, withGap, Answers, tooFew}
 use Rattle.separation.proofs.Summaries.{both}
 
 -- ---- what the code's answer says of a run while the sweep runs

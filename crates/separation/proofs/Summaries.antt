@@ -12,7 +12,7 @@ use Rattle.laws.proofs.Tests.{decide, is-true, of-true, same-test, or-false}
 use Rattle.laws.proofs.ListLaws.{mem-some, some-mem, mem-chosen, chosen-mem}
 use Rattle.separation.specs.declared.summary.NetSummary.{NetSummary}
 use Rattle.separation.specs.declared.summary.NetSummary.the-variants.{Nothing, One, Two}
-use Rattle.separation.specs.Summaries.{hasOther, summaryOfWord}
+use Rattle.separation.specs.Inner.Summaries.{hasOther, summaryOfWord}
 
 -- ---- the summary of a list of nets
 abbrev pub otherThan : ℕ → ℕ → Bool

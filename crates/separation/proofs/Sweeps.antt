@@ -8,7 +8,8 @@ use native.Mathlib.Omega.{arith}
 use lib.ListN.{length}
 use Rattle.laws.specs.Lists.{Mem, fold, bit, count}
 use Rattle.laws.specs.Rows.{rowLe}
-use Rattle.laws.specs.Sort.{Sorted, sortBy}
+use Rattle.laws.specs.Sort.{sortBy}
+use Rattle.laws.specs.Inner.Sort.{Sorted}
 use Rattle.laws.proofs.Tests.{clash, le-or-lt}
 use Rattle.laws.proofs.ListLaws.{mem-append, append-left, append-right}
 use Rattle.laws.proofs.Perms.{perm-mem, perm-sym, perm-count}

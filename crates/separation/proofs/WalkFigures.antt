@@ -8,7 +8,7 @@ use native.Mathlib.Nat.{le-refl}
 use native.Mathlib.Omega.{arith}
 use lib.Ieee.{Float, binary64}
 use Rattle.laws.specs.Lists.{Mem, All, keep, pairs}
-use Rattle.laws.specs.Sort.{Sorted}
+use Rattle.laws.specs.Inner.Sort.{Sorted}
 use Rattle.laws.proofs.Tests.{clash, le-or-lt}
 use Rattle.laws.proofs.ListLaws.{all-mem, mem-all, all-append, mem-append, append-left, append-right, mem-map, map-mem, mem-chosen, chosen-mem, mem-pairs, pairs-mem}
 use Rattle.laws.proofs.Leasts.{Reaches, least-same}

@@ -6,6 +6,5 @@ pub mod Walk
 pub mod TwoNets
 pub mod Conditions
 pub mod Answer
--- what only the contracts of inner functions cite
-pub mod Summaries
-pub mod States
+-- what only contracts of inner functions and proofs cite
+pub mod Inner

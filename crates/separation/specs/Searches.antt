@@ -7,10 +7,7 @@ use Prim.Native.Nat.{ℕ, zero, suc, _+_, _*_, _^_}
 use lib.Dec.{leb, ltb, eqb}
 use Rattle.laws.specs.Lists.{some-of}
 use Rattle.laws.specs.Charged.{Charged, free, visit, after}
-use Rattle.laws.specs.Allowance.{Outcome, spent, left}
 use Rattle.rows.specs.Rows.{Row}
-use Rattle.separation.specs.declared.search.Search.{Search}
-use Rattle.separation.specs.declared.search.Search.the-variants.{Found, Empty, Spent}
 use Rattle.separation.specs.Lines.{index}
 
 -- some active segment of another net than n lies on a line from a on, before b: what the Rust's summaries decide (`two-nets-decide` in proofs/TwoNets.antt)
@@ -52,9 +49,3 @@ leftmost has q (suc h) k s =
 unfoldable pub setRun : ℕ → Charged (Unit {0})
 setRun zero = visit (free tt)
 setRun (suc h) = visit (setRun h)
-
--- "a search answers found, empty or spent": what its run within an allowance comes to
-unfoldable pub searchOf : Outcome (Option ℕ) → Search
-searchOf spent = Spent
-searchOf (left (some i) m) = Found i m
-searchOf (left none m) = Empty m

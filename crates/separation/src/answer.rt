@@ -1,5 +1,5 @@
 // The answer of a call whose checks passed, from where its walk ended.
-ghost use Rattle.separation.specs.States.{Answers};
+ghost use Rattle.separation.specs.Inner.States.{Answers};
 use crate::found::Swept;
 use crate::report::ParallelSeparation;
 use crate::report::SeparationAnswer;

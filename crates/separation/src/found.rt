@@ -1,7 +1,7 @@
 // What a sweep found, and what both sweeps found together.
 ghost use mathlib.Core.Path.{_≡_};
 ghost use Rattle.separation.specs.Walk.{lesserFigures};
-ghost use Rattle.separation.specs.States.{foundBy};
+ghost use Rattle.separation.specs.Inner.States.{foundBy};
 use drawing::Gap;
 use drawing::minimum_option;
 

@@ -1,9 +1,9 @@
 // Where the sweep stands: the figures so far, and how many visits are left; and what changes them.
 ghost use mathlib.Core.Path.{_≡_};
 ghost use Rattle.floats.specs.Values.{gapOf};
-ghost use Rattle.drawing.specs.LeastFloats.{Number};
+ghost use Rattle.drawing.specs.Inner.LeastFloats.{Number};
 ghost use Rattle.separation.specs.Walk.{ownLine};
-ghost use Rattle.separation.specs.States.{metBy, atStart, withGap, chargedTo, foundIn};
+ghost use Rattle.separation.specs.Inner.States.{metBy, atStart, withGap, chargedTo, foundIn};
 use crate::found::Found;
 use crate::search::Charge;
 use drawing::gap_of_float;

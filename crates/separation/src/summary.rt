@@ -2,7 +2,7 @@
 ghost use mathlib.Core.Path.{_≡_};
 ghost use mathlib.Core.Bool.{_||_};
 ghost use Prim.Native.Nat.{ℕ};
-ghost use Rattle.separation.specs.Summaries.{hasOther, summaryOfWord};
+ghost use Rattle.separation.specs.Inner.Summaries.{hasOther, summaryOfWord};
 
 // No net, one, or two different ones at least. The Rust keeps two of these; which two is of no matter, since of two different nets one is always another than the net asked for.
 pub enum NetSummary {

@@ -11,7 +11,7 @@ use lib.ListN.{length, getD, set, drop, length-set}
 use lib.Seq.{getD-set-same, getD-set-other, drop-set-lt}
 use borrow.Rule.Slice.PartMut.{midOf}
 use Rattle.laws.specs.Lists.{Mem, fold, bit, sum, chosen, put, keep}
-use Rattle.laws.specs.Different.{Different}
+use Rattle.laws.specs.Inner.Different.{Different}
 use Rattle.laws.proofs.Tests.{decide, and-left, and-right, and-both, same-or-not}
 use Rattle.laws.proofs.ListLaws.{mem-chosen, chosen-mem}
 use Rattle.laws.proofs.Parts.{tail-lent}
@@ -22,8 +22,8 @@ use Rattle.separation.specs.Lines.{index}
 use Rattle.separation.specs.Walk.{remove}
 use Rattle.separation.proofs.Summaries.{otherThan, summaryOf}
 use Rattle.separation.proofs.ActiveRows.{mem-count}
-use Rattle.separation_call.specs.ActiveTree.{Decides}
-use Rattle.separation_call.specs.ActiveNets.{onLine, netCount, NetsOn, Slots, Counted, Countable, Endable, lineSummary, summaryOfLine, Starts, Ends}
+use Rattle.separation_call.specs.Inner.ActiveTree.{Decides}
+use Rattle.separation_call.specs.Inner.ActiveNets.{onLine, netCount, NetsOn, Slots, Counted, Countable, Endable, lineSummary, summaryOfLine, Starts, Ends}
 use Rattle.separation_call.proofs.NetCounts.{count-start, count-end, counts-decide}
 
 -- ---- what a line's words tell

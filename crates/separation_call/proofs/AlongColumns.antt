@@ -6,13 +6,13 @@ use native.Mathlib.Omega.{arith}
 use borrow.Rule.Slice.PartMut.{midOf, putMid}
 use lib.ListN.{length, drop}
 use Rattle.laws.specs.Lists.{Mem}
-use Rattle.laws.specs.Sort.{Sorted}
-use Rattle.laws.specs.Allowance.{within}
+use Rattle.laws.specs.Inner.Sort.{Sorted}
+use Rattle.laws.specs.Inner.Allowance.{within}
 use Rattle.drawing.specs.declared.gap.Gap.the-variants.{Absent}
 use Rattle.drawing.specs.Entries.{SegmentColumns, segments}
 use Rattle.rows.specs.Rows.{Row, rowsInOrder, oriented}
-use Rattle.rows.specs.Placed.{rowCount, rowsPlaced}
-use Rattle.rows.specs.Tables.{RowsOrdered}
+use Rattle.rows.specs.Inner.Placed.{rowCount, rowsPlaced}
+use Rattle.rows.specs.Inner.Tables.{RowsOrdered}
 use Rattle.rows.proofs.Oriented.{oriented-sorted}
 use Rattle.rows.proofs.LentRows.{rows-count, rows-few, rows-behind, rows-kept}
 use Rattle.separation.specs.Lines.{lines}
@@ -20,9 +20,9 @@ use Rattle.separation.specs.Walk.{sweep, along}
 use Rattle.separation.proofs.Allowances.{along-few, along-more}
 use Rattle.separation.specs.declared.found.Swept.{Swept}
 use Rattle.separation.specs.declared.found.Swept.the-variants.{Went}
-use Rattle.separation_call.specs.Prepared.{Prepared}
-use Rattle.separation.specs.States.{sweptOf}
-use Rattle.separation_call.specs.Sweeping.{Gapped, AtTables, AtRows, AtColumns}
+use Rattle.separation_call.specs.Inner.Prepared.{Prepared}
+use Rattle.separation.specs.Inner.States.{sweptOf}
+use Rattle.separation_call.specs.Inner.Sweeping.{Gapped, AtTables, AtRows, AtColumns}
 
 -- e is what the words behind the first 16 for each segment became when the rows were ordered there
 module _ (s e : List ℕ) (o n : ℕ) (c : SegmentColumns) (a : AtColumns (length s) o c)

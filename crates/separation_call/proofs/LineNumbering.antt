@@ -12,17 +12,17 @@ use lib.Dec.{eqb}
 use lib.ListN.{length, getD, take, drop, set, length-append, length-set, length-drop, length-map}
 use lib.Seq.{take-suc, take-suc-set, take-take, take-all, split-at, append-snoc, drop-set-lt, drop-set-add, take-set-le, getD-set-same, getD-set-other, ext-getD}
 use Rattle.laws.specs.Lists.{All, put}
-use Rattle.laws.specs.Sort.{Sorted}
+use Rattle.laws.specs.Inner.Sort.{Sorted}
 use Rattle.laws.specs.Different.{differs, distinct}
 use Rattle.laws.proofs.Tests.{same-or-not}
 use Rattle.laws.proofs.ListLaws.{mem-all, mem-map, append-right}
 use Rattle.laws.proofs.Differents.{distinct-few}
 use Rattle.rows.specs.Rows.{Row, rowsInOrder}
-use Rattle.rows.specs.Tables.{noRow, column}
+use Rattle.rows.specs.Inner.Tables.{noRow, column}
 use Rattle.rows.proofs.ColumnParts.{getD-map, column-length, column-at, column-set}
 use Rattle.separation.specs.Lines.{lines, index}
 use Rattle.separation.proofs.Lines.{Rising, lines-rising, line-mem, index-lt}
-use Rattle.separation_call.specs.Numbered.{lineOf, Numbered, LinesNumbered}
+use Rattle.separation_call.specs.Inner.Numbered.{lineOf, Numbered, LinesNumbered}
 
 -- ---- the different keys, up to a key
 -- the keys of the lines before that of x, where the keys p stand before x

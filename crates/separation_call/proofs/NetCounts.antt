@@ -11,8 +11,8 @@ use Rattle.separation.specs.Lines.{index}
 use Rattle.separation.specs.Walk.{remove}
 use Rattle.separation.proofs.Summaries.{summaryOf}
 use Rattle.separation.proofs.ActiveRows.{mem-count, count-mem, remove-count}
-use Rattle.separation_call.specs.ActiveTree.{Decides}
-use Rattle.separation_call.specs.ActiveNets.{onLine, netCount}
+use Rattle.separation_call.specs.Inner.ActiveTree.{Decides}
+use Rattle.separation_call.specs.Inner.ActiveNets.{onLine, netCount}
 use Rattle.separation_call.proofs.Trees.{leaf-decides}
 
 module _ (ls : List ℕ) (active : List Row) (i : ℕ) where

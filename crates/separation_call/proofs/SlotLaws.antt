@@ -14,7 +14,8 @@ use lib.ListN.{length, getD, take, drop, set, length-append, length-set, length-
 use lib.Seq.{take-at, drop-at, take-take, drop-drop, length-take-le, take-set-le, drop-set-lt, getD-drop, getD-set-same, getD-set-other}
 use Rattle.laws.specs.Lists.{Mem, All}
 use Rattle.laws.specs.Perm.{Perm}
-use Rattle.laws.specs.Sort.{sortBy, Sorted}
+use Rattle.laws.specs.Sort.{sortBy}
+use Rattle.laws.specs.Inner.Sort.{Sorted}
 use Rattle.laws.proofs.Tests.{le-or-lt, same-or-not}
 use Rattle.laws.proofs.ListLaws.{map-mem}
 use Rattle.laws.proofs.Parts.{tail-lent, tail-back, drop-past, getD-past}
@@ -22,17 +23,17 @@ use Rattle.laws.proofs.Perms.{perm-sym, perm-mem}
 use Rattle.laws.proofs.Places.{at-mem, mem-at, first-at}
 use Rattle.laws.proofs.Sorting.{sort-sorted}
 use Rattle.laws.proofs.SortedLists.{sorted-at, sorted-map}
-use Rattle.sorting.specs.Sorted.{before, sortable, sorted}
+use Rattle.sorting.specs.Inner.Sorted.{before, sortable, sorted}
 use Rattle.sorting.proofs.Entries.{sorted-length, sorted-column, sorted-perm, sorted-rest}
 use Rattle.sorting.proofs.Fitting.{no-rows}
 use Rattle.sorting.proofs.RowOrder.{before-order}
 use Rattle.rows.specs.Rows.{Row}
-use Rattle.rows.specs.Tables.{rowFrom, column}
+use Rattle.rows.specs.Inner.Tables.{rowFrom, column}
 use Rattle.rows.proofs.ColumnParts.{getD-map, front-same, column-length, column-at, row-word}
 use Rattle.separation.specs.Lines.{lines, index}
 use Rattle.separation.proofs.Lines.{first-word, index-here, index-past, index-lt}
-use Rattle.separation_call.specs.ActiveNets.{Slots}
-use Rattle.separation_call.specs.Numbered.{Slottable, slotWord, WordsFilled, placeOf, groupOf, WordsInOrder, slotOf, HandedOut, SlotsAssigned}
+use Rattle.separation_call.specs.Inner.ActiveNets.{Slots}
+use Rattle.separation_call.specs.Inner.Numbered.{Slottable, slotWord, WordsFilled, placeOf, groupOf, WordsInOrder, slotOf, HandedOut, SlotsAssigned}
 
 -- ---- the first place of a value in a list in order
 index-at : (l : List ℕ) (k p : ℕ) → k < length l → ((i : ℕ) → i < k → getD l i 0 < p) → p ≤ getD l k 0 → index l p ≡ k

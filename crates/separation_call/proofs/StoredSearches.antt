@@ -10,15 +10,16 @@ use native.Mathlib.Omega.{arith}
 use lib.Dec.{ltb}
 use lib.Pow.{pow-pos}
 use Rattle.laws.specs.Charged.{Charged, free, visit}
-use Rattle.laws.specs.Allowance.{Outcome, spent, left, within}
+use Rattle.laws.specs.Inner.Allowance.{Outcome, spent, left, within}
 use Rattle.laws.proofs.Runs.{within-free, visit-spent, visit-paid}
 use Rattle.separation.specs.declared.search.OtherNet.the-variants.{Known, Spent as Unpaid}
 use Rattle.separation.specs.declared.search.Search.{Search}
 use Rattle.separation.specs.declared.search.Search.the-variants.{Found, Empty, Spent}
-use Rattle.separation.specs.Searches.{leaf, node, rightmost, leftmost, searchOf}
-use Rattle.separation.specs.Summaries.{hasOther}
+use Rattle.separation.specs.Searches.{leaf, node, rightmost, leftmost}
+use Rattle.separation.specs.Inner.Searches.{searchOf}
+use Rattle.separation.specs.Inner.Summaries.{hasOther}
 use Rattle.separation.proofs.Allowances.{answer-spent, answer-found, answer-empty, leaf-spent, leaf-found, empty-paid, node-spent, first-spent, first-found, first-empty}
-use Rattle.separation_call.specs.ActiveTree.{summaryAt, otherNetOf}
+use Rattle.separation_call.specs.Inner.ActiveTree.{summaryAt, otherNetOf}
 
 -- ---- an answer tells what the run came to
 pub was-spent : (o : Outcome (Option ℕ)) → Spent ≡ searchOf o → o ≡ spent

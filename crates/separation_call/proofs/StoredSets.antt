@@ -9,15 +9,15 @@ use native.Mathlib.Omega.{arith}
 use lib.ListN.{length, set, length-set}
 use lib.Pow.{pow-pos, pow-lt}
 use lib.Seq.{getD-set-same, getD-set-other}
-use Rattle.laws.specs.Allowance.{within, spent, left}
+use Rattle.laws.specs.Inner.Allowance.{within, spent, left}
 use Rattle.laws.proofs.Tests.{le-or-lt}
 use Rattle.rows.specs.Rows.{Row}
 use Rattle.separation.specs.declared.summary.NetSummary.{NetSummary}
 use Rattle.separation.specs.Searches.{setRun}
-use Rattle.separation.specs.Summaries.{hasOther, summaryOfWord}
+use Rattle.separation.specs.Inner.Summaries.{hasOther, summaryOfWord}
 use Rattle.separation.proofs.Allowances.{set-spent, set-last, set-more}
 use Rattle.separation.specs.declared.search.Charge.the-variants.{Paid, Spent}
-use Rattle.separation_call.specs.ActiveTree.{summaryAt, chargeOf, Leaves, Renewed}
+use Rattle.separation_call.specs.Inner.ActiveTree.{summaryAt, chargeOf, Leaves, Renewed}
 use Rattle.separation_call.proofs.StoredSearches.{paid-before}
 use Rattle.separation_call.proofs.Trees.{Merging, merging-begins, merging-goes-on, merging-ends}
 

@@ -9,7 +9,7 @@ use lib.ListN.{length}
 use lib.Pow.{pow-pos, shl-exact}
 use Rattle.separation.specs.Lines.{levels}
 use Rattle.separation.proofs.Lines.{levels-least, levels-zeros}
-use Rattle.separation_call.specs.ActiveTree.{NodeAt, Leaves, Below}
+use Rattle.separation_call.specs.Inner.ActiveTree.{NodeAt, Leaves, Below}
 use Rattle.separation_call.proofs.Trees.{node-root, node-low, node-high, node-small, inner-small}
 
 -- ---- the leaf count

@@ -10,13 +10,13 @@ use lib.ListN.{length, getD, drop, length-take}
 use lib.Seq.{length-take-le}
 use Rattle.laws.specs.Lists.{Mem}
 use Rattle.laws.specs.Charged.{Charged, runs}
-use Rattle.laws.specs.Allowance.{Outcome, left, within}
+use Rattle.laws.specs.Inner.Allowance.{Outcome, left, within}
 use Rattle.laws.proofs.Tests.{le-or-lt, cond-true, cond-false}
 use Rattle.laws.proofs.Places.{first-at}
 use Rattle.laws.proofs.Runs.{read-left, read-spent, onward-spent, onward-left}
 use Rattle.laws.proofs.Loops.{Onwards, loop-next, loop-stops, loop-ends, told-next, told-none}
 use Rattle.rows.specs.Rows.{Row, Event, ends, starts, events}
-use Rattle.rows.specs.Tables.{rowFrom, eventFrom}
+use Rattle.rows.specs.Inner.Tables.{rowFrom, eventFrom}
 use Rattle.separation.specs.Figures.{Figures}
 use Rattle.separation.specs.Lines.{lines, levels}
 use Rattle.separation.specs.Walk.{nothing, Sweep, remove, startsAt, endsAt, step, sweep}
@@ -27,8 +27,8 @@ use Rattle.separation.specs.declared.state.Handled.{Handled}
 use Rattle.separation.specs.declared.state.Handled.the-variants.{Went, Spent}
 use Rattle.separation.specs.declared.found.Found.{Found}
 use Rattle.separation.specs.declared.found.Swept.the-variants.{Went as Done, Spent as Over}
-use Rattle.separation.specs.States.{metBy, atStart, outcomeOf, foundIn, sweptOf}
-use Rattle.separation_call.specs.Sweeping.{Ready, AtStart, AtEnd, AtEvent, AtFirst, figuresOf, Begins, Finishes, Handles}
+use Rattle.separation.specs.Inner.States.{metBy, atStart, outcomeOf, foundIn, sweptOf}
+use Rattle.separation_call.specs.Inner.Sweeping.{Ready, AtStart, AtEnd, AtEvent, AtFirst, figuresOf, Begins, Finishes, Handles}
 use Rattle.separation.proofs.States.{went-on, stopped, start-met}
 use Rattle.separation_call.proofs.SweepRun.{front-word, start-active, end-active}
 

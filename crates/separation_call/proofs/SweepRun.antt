@@ -9,12 +9,12 @@ use lib.ListN.{length, getD, take, drop, length-append, length-drop}
 use lib.Seq.{drop-at, take-at, take-take, drop-drop, length-take-le}
 use Rattle.laws.specs.Lists.{Mem}
 use Rattle.laws.specs.Charged.{free, after}
-use Rattle.laws.specs.Allowance.{Outcome, spent, left, within, onward}
+use Rattle.laws.specs.Inner.Allowance.{Outcome, spent, left, within, onward}
 use Rattle.laws.proofs.Parts.{tail-lent, tail-back}
 use Rattle.laws.proofs.Places.{at-mem}
 use Rattle.laws.proofs.Runs.{within-after, within-free, within-read, onward-spent, onward-left}
 use Rattle.rows.specs.Rows.{Row}
-use Rattle.rows.specs.Tables.{noRow, rowFrom}
+use Rattle.rows.specs.Inner.Tables.{noRow, rowFrom}
 use Rattle.rows.proofs.ColumnParts.{front-same, column-same, row-word}
 use Rattle.separation.specs.Figures.{Figures}
 use Rattle.separation.specs.Lines.{lines, index}
@@ -26,9 +26,9 @@ use Rattle.separation.proofs.ActiveRows.{remove-mem}
 use Rattle.separation.specs.declared.state.Sweeping.{Sweeping}
 use Rattle.separation.specs.declared.state.Handled.{Handled}
 use Rattle.separation.specs.declared.state.Handled.the-variants.{Went, Spent}
-use Rattle.separation_call.specs.ActiveTree.{summaryAt, Leaves, Covers}
-use Rattle.separation.specs.States.{metBy, outcomeOf}
-use Rattle.separation_call.specs.Sweeping.{Lookable, Lined, Looks, Working, At, Enterable, Leavable, Pays, Entered, TakenOut, Ready, AtStart, figuresOf, Begins, Finishes}
+use Rattle.separation_call.specs.Inner.ActiveTree.{summaryAt, Leaves, Covers}
+use Rattle.separation.specs.Inner.States.{metBy, outcomeOf}
+use Rattle.separation_call.specs.Inner.Sweeping.{Lookable, Lined, Looks, Working, At, Enterable, Leavable, Pays, Entered, TakenOut, Ready, AtStart, figuresOf, Begins, Finishes}
 use Rattle.separation_call.proofs.ActiveNets.{countable, endable}
 use Rattle.separation_call.proofs.LineNumbering.{lines-few}
 use Rattle.separation.proofs.States.{went-on, stopped, stops}

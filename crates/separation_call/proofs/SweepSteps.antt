@@ -11,19 +11,20 @@ use lib.Ieee.{Float}
 use lib.ListN.{length, getD, take}
 use lib.Seq.{getD-take}
 use Rattle.laws.specs.Charged.{Charged, free, visit, after}
-use Rattle.laws.specs.Allowance.{Outcome, spent, left, within, onward}
+use Rattle.laws.specs.Inner.Allowance.{Outcome, spent, left, within, onward}
 use Rattle.laws.proofs.Places.{at-mem}
 use Rattle.laws.proofs.Runs.{within-free, within-after, within-left, onward-spent, onward-left}
 use Rattle.floats.specs.Values.{gapOf}
 use Rattle.floats.specs.TotalOrder.{floatAt}
-use Rattle.drawing.specs.LeastFloats.{Number}
+use Rattle.drawing.specs.Inner.LeastFloats.{Number}
 use Rattle.rows.specs.Rows.{Row}
 use Rattle.separation.specs.declared.search.Search.{Search}
 use Rattle.separation.specs.declared.search.Search.the-variants.{Found, Empty, Spent as Over}
 use Rattle.separation.specs.Figures.{Figures}
 use Rattle.separation.specs.Lines.{index}
-use Rattle.separation.specs.Searches.{otherIn, leaf, node, rightmost, leftmost, setRun, searchOf}
-use Rattle.separation.specs.Summaries.{hasOther}
+use Rattle.separation.specs.Searches.{otherIn, leaf, node, rightmost, leftmost, setRun}
+use Rattle.separation.specs.Inner.Searches.{searchOf}
+use Rattle.separation.specs.Inner.Summaries.{hasOther}
 use Rattle.separation.specs.Walk.{ownLine, otherLine, looking}
 use Rattle.separation.proofs.Lines.{other→, other-widen}
 use Rattle.separation.proofs.Searches.{Best, In, Below, From, right-best, left-best}
@@ -35,9 +36,9 @@ use Rattle.separation.specs.declared.search.Charge.the-variants.{Paid, Spent as
 use Rattle.separation.specs.declared.state.Sweeping.{Sweeping}
 use Rattle.separation.specs.declared.state.Handled.{Handled}
 use Rattle.separation.specs.declared.state.Handled.the-variants.{Went, Spent}
-use Rattle.separation_call.specs.ActiveTree.{summaryAt, otherNetOf, chargeOf, Covers}
-use Rattle.separation.specs.States.{metBy, outcomeOf, withGap, chargedTo}
-use Rattle.separation_call.specs.Sweeping.{WithinLines, Gapped, joined, Lined}
+use Rattle.separation_call.specs.Inner.ActiveTree.{summaryAt, otherNetOf, chargeOf, Covers}
+use Rattle.separation.specs.Inner.States.{metBy, outcomeOf, withGap, chargedTo}
+use Rattle.separation_call.specs.Inner.Sweeping.{WithinLines, Gapped, joined, Lined}
 use Rattle.separation_call.proofs.StoredSearches.{was-spent, was-found, was-empty}
 use Rattle.separation_call.proofs.Trees.{stored-right, stored-left}
 

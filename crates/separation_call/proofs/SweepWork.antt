@@ -6,7 +6,7 @@ use native.Mathlib.Omega.{arith}
 use lib.ListN.{length, getD, take, drop, length-append, List·getD-append}
 use lib.Seq.{getD-take, drop-at, length-take-le}
 use borrow.Rule.Slice.PartMut.{putMid}
-use Rattle.laws.specs.Allowance.{within}
+use Rattle.laws.specs.Inner.Allowance.{within}
 use Rattle.laws.proofs.Parts.{tail-lent, tail-back}
 use Rattle.rows.specs.Rows.{Row}
 use Rattle.separation.specs.declared.summary.NetSummary.{NetSummary}
@@ -17,10 +17,10 @@ use Rattle.separation.specs.declared.search.Charge.the-variants.{Paid}
 use Rattle.separation.specs.declared.state.Sweeping.{Sweeping}
 use Rattle.separation.specs.declared.state.Handled.{Handled}
 use Rattle.separation.specs.declared.state.Handled.the-variants.{Went}
-use Rattle.separation_call.specs.ActiveTree.{summaryAt, chargeOf, Leaves, Decides, Covers, SameOff, Renewed}
-use Rattle.separation_call.specs.ActiveNets.{Slots, Counted, Starts, Ends}
-use Rattle.separation.specs.States.{outcomeOf, chargedTo}
-use Rattle.separation_call.specs.Sweeping.{Working, Pays, Entered, TakenOut}
+use Rattle.separation_call.specs.Inner.ActiveTree.{summaryAt, chargeOf, Leaves, Decides, Covers, SameOff, Renewed}
+use Rattle.separation_call.specs.Inner.ActiveNets.{Slots, Counted, Starts, Ends}
+use Rattle.separation.specs.Inner.States.{outcomeOf, chargedTo}
+use Rattle.separation_call.specs.Inner.Sweeping.{Working, Pays, Entered, TakenOut}
 use Rattle.separation_call.proofs.Trees.{start-off, end-off}
 use Rattle.separation_call.proofs.ActiveNets.{counted-frame}
 use Rattle.separation_call.proofs.SweepSteps.{charge-pays, charge-paid}

@@ -9,27 +9,27 @@ use borrow.Rule.Slice.PartMut.{midOf, putMid, mid-len, take-put, same-len-mid}
 use lib.ListN.{length, getD, take, drop, replicate, length-replicate, getD-replicate, length-drop, List·getD-append}
 use lib.Seq.{take-take, getD-drop, length-take-le, getD-append-add}
 use Rattle.laws.specs.Lists.{Mem, All}
-use Rattle.laws.specs.Sort.{Sorted}
-use Rattle.laws.specs.Allowance.{within}
+use Rattle.laws.specs.Inner.Sort.{Sorted}
+use Rattle.laws.specs.Inner.Allowance.{within}
 use Rattle.laws.proofs.Tests.{le-or-lt}
 use Rattle.laws.proofs.ListLaws.{mem-all, mem-map}
 use Rattle.rows.specs.Rows.{Row, rowsInOrder}
-use Rattle.rows.specs.Placed.{rowsSpread, eventsPlaced}
-use Rattle.rows.specs.Tables.{eventFrom, column, RowsOrdered}
+use Rattle.rows.specs.Inner.Placed.{rowsSpread, eventsPlaced}
+use Rattle.rows.specs.Inner.Tables.{eventFrom, column, RowsOrdered}
 use Rattle.rows.proofs.ColumnParts.{column-same}
 use Rattle.rows.proofs.SpreadTables.{Spread, rows-spread}
 use Rattle.rows.proofs.EventTables.{EventsOrdered, later-column, events-placed}
 use Rattle.separation.specs.declared.summary.NetSummary.the-variants.{Nothing}
 use Rattle.separation.specs.Lines.{lines, levels}
 use Rattle.separation.specs.Walk.{sweep}
-use Rattle.separation.specs.Summaries.{summaryOfWord}
+use Rattle.separation.specs.Inner.Summaries.{summaryOfWord}
 use Rattle.separation.proofs.Lines.{levels-enough, levels-least}
 use Rattle.separation.specs.declared.found.Swept.{Swept}
-use Rattle.separation_call.specs.ActiveTree.{summaryAt}
-use Rattle.separation_call.specs.Prepared.{Prepared}
-use Rattle.separation_call.specs.Numbered.{Numbered, LinesNumbered, Slottable, SlotsAssigned}
-use Rattle.separation.specs.States.{sweptOf}
-use Rattle.separation_call.specs.Sweeping.{Gapped, Ready, AtFirst, AtTables, AtRows}
+use Rattle.separation_call.specs.Inner.ActiveTree.{summaryAt}
+use Rattle.separation_call.specs.Inner.Prepared.{Prepared}
+use Rattle.separation_call.specs.Inner.Numbered.{Numbered, LinesNumbered, Slottable, SlotsAssigned}
+use Rattle.separation.specs.Inner.States.{sweptOf}
+use Rattle.separation_call.specs.Inner.Sweeping.{Gapped, Ready, AtFirst, AtTables, AtRows}
 use Rattle.separation_call.proofs.Trees.{nothing-covers}
 use Rattle.separation_call.proofs.ActiveNets.{counted-none}
 use Rattle.separation_call.proofs.LineNumbering.{lines-few, lines-some, places-below}

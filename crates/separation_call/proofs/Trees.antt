@@ -15,12 +15,12 @@ use Rattle.separation.specs.declared.summary.NetSummary.{NetSummary}
 use Rattle.separation.specs.declared.summary.NetSummary.the-variants.{Nothing}
 use Rattle.separation.specs.Lines.{index}
 use Rattle.separation.specs.Searches.{otherIn, leaf, node, rightmost, leftmost}
-use Rattle.separation.specs.Summaries.{hasOther}
+use Rattle.separation.specs.Inner.Summaries.{hasOther}
 use Rattle.separation.specs.Walk.{remove}
 use Rattle.separation.proofs.Lines.{other→, →other, other-join, leaf-nets}
 use Rattle.separation.proofs.Summaries.{summaryOf, both, summary-decides}
 use Rattle.separation.proofs.ActiveRows.{remove-mem, mem-remove}
-use Rattle.separation_call.specs.ActiveTree.{NodeAt, Decides, Covers, Outside, SameOff}
+use Rattle.separation_call.specs.Inner.ActiveTree.{NodeAt, Decides, Covers, Outside, SameOff}
 
 pub node-root : (H : ℕ) → NodeAt H H 1 0
 node-root H = record { number = omega (arith, one-mul (2 ^ H)); room = omega arith }

@@ -5,7 +5,7 @@ use mathlib.Core.List.{List}
 use Prim.Native.Nat.{ℕ, _^_, _<_}
 use native.Mathlib.Omega.{arith}
 use Rattle.laws.specs.Lists.{Mem, All}
-use Rattle.laws.specs.Allowance.{Outcome, spent, left, within, onward}
+use Rattle.laws.specs.Inner.Allowance.{Outcome, spent, left, within, onward}
 use Rattle.laws.proofs.ListLaws.{all-mem}
 use Rattle.laws.proofs.Runs.{within-short, onward-spent, onward-left, settle-within}
 use Rattle.drawing.specs.declared.refusal.Refusal.{Refusal}
@@ -15,8 +15,9 @@ use Rattle.drawing.specs.declared.refusal.Check.the-variants.{Passed, Refused a
 use Rattle.drawing.specs.Entries.{Segment, SegmentColumns, segments}
 use Rattle.drawing.specs.Refusals.{firstOf}
 use Rattle.drawing.specs.Held.{SegmentHeld}
-use Rattle.drawing.specs.Lengths.{SegmentsAgree}
-use Rattle.rows.specs.Rows.{Row, rowOf, oriented, segmentsToSweep}
+use Rattle.drawing.specs.Inner.Lengths.{SegmentsAgree}
+use Rattle.rows.specs.Rows.{Row, rowOf, oriented}
+use Rattle.rows.specs.Inner.Rows.{segmentsToSweep}
 use Rattle.rows.proofs.Oriented.{mem-oriented}
 use Rattle.rows.proofs.ToSweep.{rows-to-sweep}
 use Rattle.separation.specs.declared.report.SeparationAnswer.{SeparationAnswer}
@@ -36,8 +37,8 @@ use Rattle.separation.proofs.Answers.{passed-fit, walk-settles}
 use Rattle.separation.specs.declared.found.Found.{Found}
 use Rattle.separation.specs.declared.found.Swept.{Swept}
 use Rattle.separation.specs.declared.found.Swept.the-variants.{Went, Spent}
-use Rattle.separation.specs.States.{foundBy, sweptOf, Answers, tooFew}
-use Rattle.separation_call.specs.Sweeping.{Gapped, AtColumns}
+use Rattle.separation.specs.Inner.States.{foundBy, sweptOf, Answers, tooFew}
+use Rattle.separation_call.specs.Inner.Sweeping.{Gapped, AtColumns}
 use Rattle.separation.proofs.States.{went-is, spent-is, too-few-means}
 
 -- ---- what the checks tell

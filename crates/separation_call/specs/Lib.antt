@@ -1,6 +1,2 @@
--- What only private contracts cite, a file for each notion.
-pub mod ActiveTree
-pub mod ActiveNets
-pub mod Prepared
-pub mod Numbered
-pub mod Sweeping
+-- No promise rests on a definition of this crate.
+pub mod Inner

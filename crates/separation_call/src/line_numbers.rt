@@ -2,7 +2,7 @@
 ghost use mathlib.Core.Path.{_≡_};
 ghost use Prim.Native.Nat.{_*_, _≤_};
 ghost use lib.ListN.{length};
-ghost use Rattle.separation_call.specs.Numbered.{lineOf, LinesNumbered};
+ghost use Rattle.separation_call.specs.Inner.Numbered.{lineOf, LinesNumbered};
 
 // The number of the line of a key, where m lines have begun, the last of them with the key `last`.
 fn line_of(m: usize, last: u64, key: u64) -> usize

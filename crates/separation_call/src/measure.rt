@@ -1,7 +1,7 @@
 // The separation measure by columns.
 ghost use mathlib.Core.Path.{_≡_};
 ghost use lib.ListN.{length};
-ghost use Rattle.laws.specs.Allowance.{within};
+ghost use Rattle.laws.specs.Inner.Allowance.{within};
 ghost use Rattle.drawing.specs.declared.refusal.Check.the-variants.{Passed};
 ghost use Rattle.drawing.specs.Refusals.{firstOf, scratchAfter};
 ghost use Rattle.drawing.specs.Entries.{segmentColumns, segments};
@@ -9,7 +9,7 @@ ghost use Rattle.drawing.specs.Held.{SegmentsHeld};
 ghost use Rattle.separation.specs.Conditions.{separationConditions};
 ghost use Rattle.separation.specs.Walk.{walkAll};
 ghost use Rattle.separation.specs.Answer.{separationAnswer};
-ghost use Rattle.separation.specs.States.{sweptOf};
+ghost use Rattle.separation.specs.Inner.States.{sweptOf};
 use crate::along::sweep_along;
 use drawing::Check;
 use drawing::clear;

@@ -2,7 +2,7 @@
 ghost use mathlib.Core.Path.{_≡_};
 ghost use Prim.Native.Nat.{_*_, _≤_, _<_};
 ghost use lib.ListN.{length, drop};
-ghost use Rattle.separation_call.specs.ActiveNets.{summaryOfLine, Countable, Endable, Starts, Ends};
+ghost use Rattle.separation_call.specs.Inner.ActiveNets.{summaryOfLine, Countable, Endable, Starts, Ends};
 use separation::NetSummary;
 
 // The summary of the nets that are active on a line. Where there is one, the sum is that net, which is below 2^32: the remainder leaves it as it is, and the cast loses nothing.

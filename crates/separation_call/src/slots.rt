@@ -2,8 +2,8 @@
 ghost use mathlib.Core.Path.{_≡_};
 ghost use Prim.Native.Nat.{_*_, _≤_};
 ghost use lib.ListN.{length};
-ghost use Rattle.rows.specs.Tables.{column};
-ghost use Rattle.separation_call.specs.Numbered.{Slottable, WordsFilled, WordsInOrder, slotOf, HandedOut, SlotsAssigned};
+ghost use Rattle.rows.specs.Inner.Tables.{column};
+ghost use Rattle.separation_call.specs.Inner.Numbered.{Slottable, WordsFilled, WordsInOrder, slotOf, HandedOut, SlotsAssigned};
 use sorting::sort_indices;
 
 // A word is made of a line, a net and a place. The place has the lowest 12 bits, so that a net counts 2^12.

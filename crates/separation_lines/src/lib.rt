@@ -8,7 +8,7 @@ ghost use Rattle.drawing.specs.Entries.{columnsOf};
 ghost use Rattle.drawing.specs.Held.{SegmentsHeld};
 ghost use Rattle.separation.specs.Conditions.{separationConditions};
 ghost use Rattle.separation.specs.Answer.{separationAnswer};
-ghost use Rattle.lines.specs.Lines.{entryOf};
+ghost use Rattle.lines.specs.Inner.Lines.{entryOf};
 use lines::Line;
 use lines::unpack;
 use separation::SeparationAnswer;

@@ -6,7 +6,7 @@ use native.Mathlib.Nat.{pow-succ'}
 use native.Mathlib.Omega.{arith}
 use lib.ListN.{length, length-append}
 use Rattle.text.specs.Text.{glyph, hexadecimal, leading, decimal}
-use Rattle.text.specs.TextPut.{Put}
+use Rattle.text.specs.Inner.TextPut.{Put}
 use Rattle.text.proofs.TextPuts.{put-none, put-both, put-within}
 
 -- ---- hexadecimal

@@ -7,7 +7,7 @@ use native.Mathlib.Numerals.{add-one}
 use native.Mathlib.Omega.{arith}
 use lib.ListN.{length, getD, set, take, drop, length-append, length-set}
 use lib.Seq.{sets, sets-eq, set-out, take-suc, take-all}
-use Rattle.text.specs.TextPut.{lastIndex, behind, stored, Put}
+use Rattle.text.specs.Inner.TextPut.{lastIndex, behind, stored, Put}
 
 -- ---- the index behind a text
 behind-none : (at : ℕ) → behind at 0 ≡ at

@@ -4,8 +4,8 @@ ghost use mathlib.Core.Path.{_≡_};
 ghost use mathlib.Core.List.{[], _∷_};
 ghost use lib.ListN.{length};
 ghost use Rattle.text.specs.Text as Text;
-ghost use Rattle.text.specs.TextPut as TextPut;
-ghost use Rattle.text.specs.TextPut.{Put};
+ghost use Rattle.text.specs.Inner.TextPut as TextPut;
+ghost use Rattle.text.specs.Inner.TextPut.{Put};
 use floats::bits_of;
 
 const LAST_INDEX: usize = 0xffff_ffff_ffff_ffff;

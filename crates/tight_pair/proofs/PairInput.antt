@@ -12,8 +12,9 @@ use Rattle.laws.proofs.ListLaws.{all-mem, mem-all, none-all}
 use Rattle.laws.proofs.Places.{at-all}
 use Rattle.drawing.specs.declared.refusal.Refusal.{Refusal}
 use Rattle.drawing.specs.declared.refusal.Check.the-variants.{Passed}
-use Rattle.drawing.specs.Entries.{Segment, Node, SegmentColumns, NodeColumns, ExemptionColumns, segments, nodes, segmentAt, nodeAt}
-use Rattle.drawing.specs.Lengths.{SegmentsAgree, NodesAgree, ExemptionsAgree}
+use Rattle.drawing.specs.Entries.{Segment, Node, SegmentColumns, NodeColumns, ExemptionColumns, segments, nodes}
+use Rattle.drawing.specs.Inner.Entries.{segmentAt, nodeAt}
+use Rattle.drawing.specs.Inner.Lengths.{SegmentsAgree, NodesAgree, ExemptionsAgree}
 use Rattle.drawing.specs.Refusals.{firstOf}
 use Rattle.drawing.specs.Conditions.{unfitSegment, unfitNode}
 use Rattle.drawing.specs.Checks.{listConditions, entryConditions}

@@ -21,9 +21,10 @@ use Rattle.drawing.specs.declared.gap.Gap.{Gap}
 use Rattle.drawing.specs.declared.gap.Gap.the-variants.{Absent, Present}
 use Rattle.drawing.specs.declared.refusal.Refusal.{Refusal}
 use Rattle.drawing.specs.declared.refusal.Check.the-variants.{Passed, Refused as Stopped}
-use Rattle.drawing.specs.Entries.{Segment, Node, Exemption, SegmentColumns, NodeColumns, ExemptionColumns, segments, nodes, exemptions, segmentAt, nodeAt}
+use Rattle.drawing.specs.Entries.{Segment, Node, Exemption, SegmentColumns, NodeColumns, ExemptionColumns, segments, nodes, exemptions}
+use Rattle.drawing.specs.Inner.Entries.{segmentAt, nodeAt}
 use Rattle.drawing.specs.Refusals.{firstOf}
-use Rattle.drawing.specs.Lengths.{SegmentsAgree, NodesAgree}
+use Rattle.drawing.specs.Inner.Lengths.{SegmentsAgree, NodesAgree}
 use Rattle.drawing.specs.Gaps.{leastGap, lesserGap}
 use Rattle.drawing.proofs.GapLaws.{least-none, least-one, least-join}
 use Rattle.drawing.proofs.EntryLaws.{length-segments, segments-at, length-nodes, nodes-at}
@@ -35,9 +36,9 @@ use Rattle.tight_pair.specs.declared.TightPair.the-variants.{Pair, Refus
 use Rattle.boxes.specs.Boxes.{nodeBox, segmentBox, distance}
 use Rattle.clearance.specs.Figures.{exempt, distances}
 use Rattle.clearance.specs.Tree.{indexed}
-use Rattle.exemptions.specs.Exempting.{Rising, Holds, Gathered, Own, Listed}
+use Rattle.exemptions.specs.Inner.Exempting.{Rising, Holds, Gathered, Own, Listed}
 use Rattle.tight_pair.specs.Conditions.{tightPairConditions}
-use Rattle.tight_pair.specs.Looking.{nearer, noPair, bestWith, inTurn, lookNodes, lookSegments}
+use Rattle.tight_pair.specs.Inner.Looking.{nearer, noPair, bestWith, inTurn, lookNodes, lookSegments}
 use Rattle.tight_pair.specs.TightPair.{Tight, found, answer, Answered}
 use Rattle.drawing.proofs.Fit.{FitSegment, FitNode}
 use Rattle.boxes.proofs.BoxLaws.{fit-node, fit-segment, distance-good}

@@ -1,4 +1,5 @@
--- What the call answers, and what only private contracts cite.
+-- The definitions, a file for each notion.
 pub mod Conditions
 pub mod TightPair
-pub mod Looking
+-- what only contracts of inner functions and proofs cite
+pub mod Inner

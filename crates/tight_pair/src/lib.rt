@@ -4,11 +4,11 @@ ghost use mathlib.Core.List.{List};
 ghost use Prim.Native.Nat.{ℕ};
 ghost use lib.ListN.{length};
 ghost use Rattle.drawing.specs.Entries.{Exemption, segmentColumns, nodeColumns, exemptionColumns, segments, nodes};
-ghost use Rattle.drawing.specs.Lengths.{SegmentsAgree, NodesAgree};
+ghost use Rattle.drawing.specs.Inner.Lengths.{SegmentsAgree, NodesAgree};
 ghost use Rattle.clearance.specs.Figures.{exempt};
-ghost use Rattle.exemptions.specs.Exempting.{Holds, Listed};
+ghost use Rattle.exemptions.specs.Inner.Exempting.{Holds, Listed};
 ghost use Rattle.tight_pair.specs.TightPair.{found, Answered};
-ghost use Rattle.tight_pair.specs.Looking.{nearer, bestWith, lookNodes, lookSegments};
+ghost use Rattle.tight_pair.specs.Inner.Looking.{nearer, bestWith, lookNodes, lookSegments};
 
 mod checks;
 

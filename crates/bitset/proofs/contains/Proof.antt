@@ -1,7 +1,7 @@
 -- `bitset::contains` meets its contract. Assumes nothing.
 use mathlib.Core.Path.{sym}
 use borrow.Author.Needs.{needs}
-use Rattle.bitset.specs.Members.{bitAt, member}
+use Rattle.bitset.specs.Inner.Members.{bitAt, member}
 use Rattle.bitset.proofs.Sets.{member-beyond}
 use Rattle.bitset.proofs.contains.Statement.{statement}
 use Rattle.bitset.proofs.contains.Tie as tie

@@ -1,7 +1,7 @@
 -- `exemptions::first_at_least` meets its contract: among words that ascend the place is one of the n from `at` on, or behind them. Assumes nothing.
 use native.Mathlib.Omega.{arith}
 use borrow.Author.Needs.{needs}
-use Rattle.exemptions.specs.Exempting.{wordAt}
+use Rattle.exemptions.specs.Inner.Exempting.{wordAt}
 use Rattle.exemptions.proofs.ExemptLaws.{Halving, halving-start, halving-up, halving-stay, halving-end}
 use Rattle.exemptions.proofs.first_at_least.Statement.{statement}
 use Rattle.exemptions.proofs.first_at_least.Tie as tie

@@ -1,7 +1,7 @@
 -- `exemptions::first_node` meets its contract: as for words, with the step as a quotient. Assumes nothing.
 use native.Mathlib.Omega.{arith}
 use borrow.Author.Needs.{needs}
-use Rattle.exemptions.specs.Exempting.{nodeOf}
+use Rattle.exemptions.specs.Inner.Exempting.{nodeOf}
 use Rattle.exemptions.proofs.ExemptLaws.{Halving, halving-start, nodes-halved, halving-end}
 use Rattle.exemptions.proofs.first_node.Statement.{statement}
 use Rattle.exemptions.proofs.first_node.Tie as tie

@@ -1,6 +1,6 @@
 -- `tight_pair::is_nearer` meets its contract, case by case. Assumes nothing.
 use borrow.Author.Needs.{needs}
-use Rattle.tight_pair.specs.Looking.{nearer}
+use Rattle.tight_pair.specs.Inner.Looking.{nearer}
 use Rattle.tight_pair.proofs.is_nearer.Statement.{statement}
 use Rattle.tight_pair.proofs.is_nearer.Tie as tie
 

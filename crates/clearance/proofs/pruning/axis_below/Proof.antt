@@ -1,4 +1,4 @@
-use Rattle.clearance.specs.State.{axisBelow}
+use Rattle.clearance.specs.Inner.State.{axisBelow}
 use Rattle.clearance.proofs.pruning.axis_below.Statement.{statement}
 use Rattle.clearance.proofs.pruning.axis_below.Tie as tie
 

@@ -1,5 +1,5 @@
 use mathlib.Core.Path.{sym, _∙_}
-use Rattle.clearance.specs.State.{edgesBelow}
+use Rattle.clearance.specs.Inner.State.{edgesBelow}
 use borrow.Author.Needs.{needs}
 use Rattle.clearance.proofs.pruning.edges_below.Statement.{statement}
 use Rattle.clearance.proofs.pruning.edges_below.Tie as tie

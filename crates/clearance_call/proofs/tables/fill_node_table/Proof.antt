@@ -3,7 +3,7 @@ use borrow.Author.Needs.{needs}
 use Prim.Native.Nat.{_≤_, _-_}
 use lib.ListN.{length}
 use Rattle.drawing.specs.Entries.{nodeColumns}
-use Rattle.clearance_call.specs.Tables.{nodeRowAt, Filled}
+use Rattle.clearance_call.specs.Inner.Tables.{nodeRowAt, Filled}
 use Rattle.clearance_call.proofs.TableLaws.{filled-none, filled-all, node-next}
 use Rattle.clearance_call.proofs.tables.fill_node_table.Statement.{statement}
 use Rattle.clearance_call.proofs.tables.fill_node_table.Tie as tie

@@ -4,7 +4,7 @@ use Prim.Native.Nat.{_≤_, _-_}
 use native.Mathlib.Omega.{arith}
 use lib.ListN.{length}
 use Rattle.drawing.specs.Entries.{segmentColumns}
-use Rattle.clearance_call.specs.Tables.{segmentRowAt, Filled}
+use Rattle.clearance_call.specs.Inner.Tables.{segmentRowAt, Filled}
 use Rattle.clearance_call.proofs.TableLaws.{filled-none, filled-all, segment-next}
 use Rattle.clearance_call.proofs.tables.fill_segment_table.Statement.{statement}
 use Rattle.clearance_call.proofs.tables.fill_segment_table.Tie as tie

@@ -1,6 +1,6 @@
 use mathlib.Core.Path.{sym, ap}
 use borrow.Author.Needs.{needs}
-use Rattle.clearance_call.specs.Walking.{stepOf}
+use Rattle.clearance_call.specs.Inner.Walking.{stepOf}
 use Rattle.clearance_call.proofs.walk.step_of.Statement.{statement}
 use Rattle.clearance_call.proofs.walk.step_of.Tie as tie
 

@@ -2,7 +2,7 @@
 use mathlib.Core.Path.{sym, ap}
 use borrow.Author.Needs.{needs}
 use lib.Ieee.{ofBits}
-use Rattle.congestion.specs.Answering.{plainly}
+use Rattle.congestion.specs.Inner.Answering.{plainly}
 use Rattle.congestion.proofs.answer.without_density.Statement.{statement}
 use Rattle.congestion.proofs.answer.without_density.Tie as tie
 

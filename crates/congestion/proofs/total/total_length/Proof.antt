@@ -4,7 +4,7 @@ use native.Mathlib.Omega.{arith}
 use borrow.Author.Needs.{needs}
 use lib.Ieee.{ofBits}
 use Rattle.drawing.specs.Entries.{segmentColumns}
-use Rattle.drawing.specs.Lengths.{SegmentsAgree}
+use Rattle.drawing.specs.Inner.Lengths.{SegmentsAgree}
 use Rattle.congestion.proofs.SummedLengths.{Summed, summed-none, summed-next, summed-all}
 use Rattle.congestion.proofs.total.total_length.Statement.{statement}
 use Rattle.congestion.proofs.total.total_length.Tie as tie

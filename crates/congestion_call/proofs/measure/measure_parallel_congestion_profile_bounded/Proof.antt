@@ -2,7 +2,7 @@
 use mathlib.Core.Path.{ap, _∙_}
 use borrow.Author.Needs.{needs}
 use Rattle.drawing.specs.Entries.{segmentColumns}
-use Rattle.congestion.specs.Answering.{plainly}
+use Rattle.congestion.specs.Inner.Answering.{plainly}
 use Rattle.congestion_call.proofs.FromDensity.{plain-answer}
 use Rattle.congestion_call.proofs.measure.measure_parallel_congestion_profile_bounded.Statement.{statement}
 use Rattle.congestion_call.proofs.measure.measure_parallel_congestion_profile_bounded.Tie as tie

@@ -1,8 +1,8 @@
 -- `density_call::along::sweep_rows` meets its contract: the rows spread, the events in order, the ranges, the words behind them cleared, the sweep. Assumes nothing.
 use borrow.Author.Needs.{needs}
 use Rattle.density_call.proofs.AlongWires.{rows-rangeable, rows-first}
-use Rattle.density_call.specs.Sweeping.{sweptOf}
-use Rattle.laws.specs.Allowance.{within}
+use Rattle.density_call.specs.Inner.Sweeping.{sweptOf}
+use Rattle.laws.specs.Inner.Allowance.{within}
 use denote.Ref.{now}
 use mathlib.Core.Path.{ap, _∙_}
 use Rattle.density_call.proofs.along.sweep_rows.Statement.{statement}

@@ -15,7 +15,7 @@ use Rattle.drawing.specs.Held.{SegmentHeld}
 use Rattle.drawing.proofs.ListOrders.{segments-held}
 use Rattle.congestion.specs.Conditions.{congestionConditions}
 use Rattle.rows.proofs.ToSweep.{rows-to-sweep}
-use Rattle.density_call.specs.Measuring.{Cutoff, AtColumns}
+use Rattle.density_call.specs.Inner.Measuring.{Cutoff, AtColumns}
 use Rattle.congestion.proofs.Fitness.{FitList, agree, fit-list}
 use Rattle.density_call.proofs.BothWays.{too-few, stops, stops-later, went-both}
 use Rattle.density_call.proofs.SweptBoth.{nothing-swept, cutoff-above, at-columns}

@@ -1,6 +1,6 @@
 -- `density_call::measure::together` meets its contract: sums, the greater peak, the lesser gap. Assumes nothing.
 use borrow.Author.Needs.{needs}
-use Rattle.density_call.specs.Measuring.{togetherOf}
+use Rattle.density_call.specs.Inner.Measuring.{togetherOf}
 use Rattle.density_call.proofs.measure.together.Statement.{statement}
 use Rattle.density_call.proofs.measure.together.Tie as tie
 

@@ -2,7 +2,7 @@
 use borrow.Author.Needs.{needs}
 use mathlib.Core.Path.{sym, ap}
 use mathlib.Core.Bool.{Bool}
-use Rattle.density_call.specs.Meeting.{countAfter}
+use Rattle.density_call.specs.Inner.Meeting.{countAfter}
 use Rattle.density_call.proofs.meet.count_after.Statement.{statement}
 use Rattle.density_call.proofs.meet.count_after.Tie as tie
 

@@ -1,7 +1,7 @@
 -- `drawing::checks::check_entries` meets its contract: each return is the first condition of the list that holds. Assumes nothing.
 use mathlib.Core.Path.{sym, _∙_}
 use Rattle.drawing.specs.Checks.{entryConditions}
-use Rattle.drawing.specs.Lengths.{comparedEntryConditions}
+use Rattle.drawing.specs.Inner.Lengths.{comparedEntryConditions}
 use Rattle.drawing.proofs.FirstRefusal.{first-yes, first-no, first-none, segments-agree, nodes-agree}
 use borrow.Author.Needs.{needs}
 use Rattle.drawing.proofs.checks.check_entries.Statement.{statement}

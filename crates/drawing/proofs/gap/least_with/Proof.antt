@@ -2,7 +2,7 @@
 use mathlib.Core.Path.{sym}
 use lib.Ieee.{le}
 use Rattle.laws.proofs.Tests.{cond-true, cond-false}
-use Rattle.drawing.specs.LeastFloats.{leastWith}
+use Rattle.drawing.specs.Inner.LeastFloats.{leastWith}
 use Rattle.drawing.proofs.gap.least_with.Statement.{statement}
 use Rattle.drawing.proofs.gap.least_with.Tie as tie
 

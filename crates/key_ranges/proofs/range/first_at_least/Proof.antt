@@ -2,7 +2,7 @@
 use Prim.Native.Nat.{_-_}
 use borrow.Author.Needs.{needs}
 use lib.ListN.{length}
-use Rattle.key_ranges.specs.Reach.{Ascending, Passed}
+use Rattle.key_ranges.specs.Inner.Reach.{Ascending, Passed}
 use Rattle.key_ranges.proofs.KeySearch.{passed-up, bound-here, bound-end}
 use Rattle.key_ranges.proofs.range.first_at_least.Statement.{statement}
 use Rattle.key_ranges.proofs.range.first_at_least.Tie as tie

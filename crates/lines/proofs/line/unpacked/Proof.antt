@@ -3,7 +3,7 @@ use mathlib.Core.Path.{sym}
 use borrow.Author.Needs.{needs}
 use borrow.Author.Tests.{le-leb, lt-leb}
 use Rattle.laws.proofs.Tests.{cond-true, cond-false}
-use Rattle.lines.specs.Lines.{enough}
+use Rattle.lines.specs.Inner.Lines.{enough}
 use Rattle.lines.proofs.line.unpacked.Statement.{statement}
 use Rattle.lines.proofs.line.unpacked.Tie as tie
 

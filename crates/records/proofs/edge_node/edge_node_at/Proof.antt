@@ -38,7 +38,7 @@ use denote.Triple.Spec.{Meets, tripleOf}
 use denote.Triple.Table.{entered}
 use denote.Triple.Walked.{says, needs, Stays, stay-none, stay-none-slice, walkOf, goes-none, goes-none-slice, Walks, ends-at, walked, walk-meets}
 use denote.Exit.{yes}
-use Rattle.records.specs.NoRecord.{noEdgeNode}
+use Rattle.records.specs.Inner.NoRecord.{noEdgeNode}
 use Rattle.records.specs.declared.edge_node.EdgeNodeSegment.{EdgeNodeSegment}
 use Rattle.records.proofs.edge_node.EdgeNodeSegment as T
 use Rattle.records.proofs.edge_node.EdgeNodeSegment.Laws as T′

@@ -2,7 +2,7 @@
 -- `records::edge_node::edge_node_line` meets its contract: field by field. Assumes nothing.
 use borrow.Author.Needs.{needs}
 use Rattle.records.specs.Records.{ofEdgeNode}
-use Rattle.lines.specs.Lines.{entryOf}
+use Rattle.lines.specs.Inner.Lines.{entryOf}
 use Rattle.records.proofs.edge_node.edge_node_line.Statement.{statement}
 use Rattle.records.proofs.edge_node.edge_node_line.Tie as tie
 

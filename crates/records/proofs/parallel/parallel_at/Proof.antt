@@ -37,7 +37,7 @@ use denote.Triple.Spec.{Meets, tripleOf}
 use denote.Triple.Table.{entered}
 use denote.Triple.Walked.{says, needs, Stays, stay-none, stay-none-slice, walkOf, goes-none, goes-none-slice, Walks, ends-at, walked, walk-meets}
 use denote.Exit.{yes}
-use Rattle.records.specs.NoRecord.{noParallel}
+use Rattle.records.specs.Inner.NoRecord.{noParallel}
 use Rattle.records.specs.declared.parallel.ParallelSegment.{ParallelSegment}
 use Rattle.records.proofs.parallel.ParallelSegment as T
 use Rattle.records.proofs.parallel.ParallelSegment.Laws as T′

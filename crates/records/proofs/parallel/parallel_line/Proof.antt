@@ -1,7 +1,7 @@
 -- `records::parallel::parallel_line` meets its contract: field by field. Assumes nothing.
 use borrow.Author.Needs.{needs}
 use Rattle.records.specs.Records.{ofParallel}
-use Rattle.lines.specs.Lines.{entryOf}
+use Rattle.lines.specs.Inner.Lines.{entryOf}
 use Rattle.records.proofs.parallel.parallel_line.Statement.{statement}
 use Rattle.records.proofs.parallel.parallel_line.Tie as tie
 

@@ -1,6 +1,6 @@
 -- `separation::state::after_charge` meets its contract: by whether the `set` was paid. Assumes nothing.
 use borrow.Author.Needs.{needs}
-use Rattle.separation.specs.States.{chargedTo}
+use Rattle.separation.specs.Inner.States.{chargedTo}
 use mathlib.Core.Path.{sym, ap}
 use Rattle.separation.proofs.state.after_charge.Statement.{statement}
 use Rattle.separation.proofs.state.after_charge.Tie as tie

@@ -1,6 +1,6 @@
 -- `separation::state::with_own_line` meets its contract: by whether there is another net. Assumes nothing.
 use mathlib.Core.Path.{refl}
-use Rattle.separation.specs.States.{metBy}
+use Rattle.separation.specs.Inner.States.{metBy}
 use Rattle.separation.proofs.States.{own-found, own-not}
 use Rattle.separation.proofs.state.with_own_line.Statement.{statement}
 use Rattle.separation.proofs.state.with_own_line.Tie as tie

@@ -6,12 +6,12 @@ use denote.Ref.{now}
 use lib.ListN.{length}
 use Rattle.drawing.specs.declared.refusal.Check.the-variants.{Passed}
 use Rattle.drawing.specs.Entries.{Segment, SegmentColumns, segmentColumns}
-use Rattle.drawing.specs.Lengths.{SegmentsAgree}
+use Rattle.drawing.specs.Inner.Lengths.{SegmentsAgree}
 use Rattle.drawing.specs.Refusals.{firstOf}
 use Rattle.drawing.proofs.ListOrders.{segments-all, segments-held}
 use Rattle.separation.specs.Conditions.{separationConditions}
 use Rattle.separation.proofs.Checked.{separation-passes}
-use Rattle.separation_call.specs.Sweeping.{AtColumns}
+use Rattle.separation_call.specs.Inner.Sweeping.{AtColumns}
 use Rattle.separation_call.proofs.WholeCall.{at-columns, too-few, walk-stops, walk-stops-later, walk-both}
 use Rattle.separation_call.proofs.measure.walk_segments.Statement.{statement}
 use Rattle.separation_call.proofs.measure.walk_segments.Tie as tie

@@ -2,7 +2,7 @@
 use mathlib.Core.Path.{ap, _∙_}
 use borrow.Author.Needs.{needs}
 use Rattle.separation.specs.declared.summary.NetSummary.{NetSummary}
-use Rattle.separation.specs.Summaries.{hasOther}
+use Rattle.separation.specs.Inner.Summaries.{hasOther}
 use Rattle.separation_call.proofs.tree.other_below.Statement.{statement}
 use Rattle.separation_call.proofs.tree.other_below.Tie as tie
 

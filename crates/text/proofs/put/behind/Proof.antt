@@ -1,7 +1,7 @@
 -- `text::put::behind` meets its contract: the sum, or the greatest index. Assumes nothing.
 use native.Mathlib.Omega.{arith}
 use borrow.Author.Needs.{needs}
-use Rattle.text.specs.TextPut.{behind}
+use Rattle.text.specs.Inner.TextPut.{behind}
 use Rattle.text.proofs.put.behind.Statement.{statement}
 use Rattle.text.proofs.put.behind.Tie as tie
 
