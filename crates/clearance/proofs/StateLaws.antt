@@ -33,20 +33,20 @@ visit-stopped m g e = sym (rw e (visit-spent (free g)))
 visit-went : (m : ℕ) (g : Figures) → (m ≡ 0 → ⊥) → left g (m - 1) ≡ within m (visit (free g))
 visit-went m g e = let x : m ≡ suc (m - 1) = omega arith in sym (ap (λ (z : ℕ). within z (visit (free g))) x ∙ visit-paid (m - 1) (free g) ∙ within-free (m - 1) g)
 
-module _ (w : Walking) (b : Bool) (t d : Float) (paid : w .left ≡ 0 → ⊥) where
-  pub visit-passed : b ≡ true → outcomeOf (Went (record { least = w .least; violations = w .violations; left = w .left - 1 })) ≡ within (w .left) (visit (free (withPair b t d (soFar w))))
+module _ (w : Walking) (b : Bool) (t d : Float) (paid : w .remaining ≡ 0 → ⊥) where
+  pub visit-passed : b ≡ true → outcomeOf (Went (record { least = w .least; violations = w .violations; remaining = w .remaining - 1 })) ≡ within (w .remaining) (visit (free (withPair b t d (soFar w))))
   unfolding withPair outcomeOf
-  visit-passed e = rw e (visit-went (w .left) (soFar w) paid)
+  visit-passed e = rw e (visit-went (w .remaining) (soFar w) paid)
 
-  visit-counted : b ≡ false → (v : ℕ) → v ≡ w .violations + bit (lt d t) → (x : Float) → x ≡ leastWith (w .least) d → Number d → outcomeOf (Went (record { least = x; violations = v; left = w .left - 1 })) ≡ within (w .left) (visit (free (withPair b t d (soFar w))))
+  visit-counted : b ≡ false → (v : ℕ) → v ≡ w .violations + bit (lt d t) → (x : Float) → x ≡ leastWith (w .least) d → Number d → outcomeOf (Went (record { least = x; violations = v; remaining = w .remaining - 1 })) ≡ within (w .remaining) (visit (free (withPair b t d (soFar w))))
   unfolding withPair outcomeOf
-  visit-counted e v f x h num = let k : gapOfFloat x ≡ lesserGap (gapOfFloat (w .least)) (Present d) = ap gapOfFloat h ∙ least-joined (w .least) d num in rw (e, f, k) (visit-went (w .left) (withPair false t d (soFar w)) paid)
+  visit-counted e v f x h num = let k : gapOfFloat x ≡ lesserGap (gapOfFloat (w .least)) (Present d) = ap gapOfFloat h ∙ least-joined (w .least) d num in rw (e, f, k) (visit-went (w .remaining) (withPair false t d (soFar w)) paid)
 
   -- a violation more, as long as the count does not wrap
-  pub visit-below : b ≡ false → lt d t ≡ true → w .violations + w .left < 2 ^ 64 → (v : ℕ) → v ≡ (w .violations + 1) % 2 ^ 64 → (x : Float) → x ≡ leastWith (w .least) d → Number d → outcomeOf (Went (record { least = x; violations = v; left = w .left - 1 })) ≡ within (w .left) (visit (free (withPair b t d (soFar w))))
+  pub visit-below : b ≡ false → lt d t ≡ true → w .violations + w .remaining < 2 ^ 64 → (v : ℕ) → v ≡ (w .violations + 1) % 2 ^ 64 → (x : Float) → x ≡ leastWith (w .least) d → Number d → outcomeOf (Went (record { least = x; violations = v; remaining = w .remaining - 1 })) ≡ within (w .remaining) (visit (free (withPair b t d (soFar w))))
   visit-below e f room v wraps = visit-counted e v (wraps ∙ mod-eq-of-lt (omega arith) ∙ rw f)
 
-  pub visit-clear : b ≡ false → lt d t ≡ false → (x : Float) → x ≡ leastWith (w .least) d → Number d → outcomeOf (Went (record { least = x; violations = w .violations; left = w .left - 1 })) ≡ within (w .left) (visit (free (withPair b t d (soFar w))))
+  pub visit-clear : b ≡ false → lt d t ≡ false → (x : Float) → x ≡ leastWith (w .least) d → Number d → outcomeOf (Went (record { least = x; violations = w .violations; remaining = w .remaining - 1 })) ≡ within (w .remaining) (visit (free (withPair b t d (soFar w))))
   visit-clear e f = visit-counted e (w .violations) (rw f (omega arith))
 
 -- ---- the order of two halves, as the code answers it
@@ -64,6 +64,6 @@ pub answers-spent : (r : Walked) (allowance : ℕ) → r ≡ Spent → Answers r
 unfolding outcomeOf reply
 answers-spent r allowance h = rw h
 
-pub answers-went : (r : Walked) (allowance : ℕ) (w : Walking) → r ≡ Went w → (g : Gap) → g ≡ gapOfFloat (w .least) → (n : ℕ) → n ≡ allowance - w .left → Answers r allowance (Report (record { «minimum_clearance» = g; violations = w .violations; visits = n }))
+pub answers-went : (r : Walked) (allowance : ℕ) (w : Walking) → r ≡ Went w → (g : Gap) → g ≡ gapOfFloat (w .least) → (n : ℕ) → n ≡ allowance - w .remaining → Answers r allowance (Report (record { «minimum_clearance» = g; violations = w .violations; visits = n }))
 unfolding outcomeOf reply accepted
 answers-went r allowance w h g e n f = rw (h, e, f)

@@ -14,7 +14,7 @@ pub fn answer_of(walked: Walked, allowance: usize) -> ClearanceAnswer
         return ClearanceAnswer::Refused(Refusal::WorkLimitExceeded);
     };
     let least = gap_of_float(state.least);
-    let visits = visits_used(allowance, state.left);
+    let visits = visits_used(allowance, state.remaining);
     let report = EdgeNodeClearance {
         minimum_clearance: least,
         violations: state.violations,

@@ -14,7 +14,7 @@ use std::num::wrapping_add_usize;
 pub struct Walking {
     pub violations: usize,
     pub least: f64,
-    pub left: usize,
+    pub remaining: usize,
 }
 
 // The walk stops where a visit is due and none is left.
@@ -30,22 +30,22 @@ pub fn at_start(allowance: usize) -> Walking
     Walking {
         violations: 0,
         least: no_gap(),
-        left: allowance,
+        remaining: allowance,
     }
 }
 
 // The visit of a pair at the given distance: charged first, then counted unless the pair is exempt. The walk hands over distances of boxes, which are numbers, and states whose violations and visits left fit a word together, so that no count wraps.
 pub fn visit_pair(exempt: bool, distance: f64, threshold: f64, state: Walking) -> Walked
-    ensures { λ r. ⌜ (Number distance → state .violations + state .left < 2 ^ 64 → outcomeOf r ≡ within (state .left) (visit (free (withPair exempt threshold distance (soFar state))))) ⌝ }
+    ensures { λ r. ⌜ (Number distance → state .violations + state .remaining < 2 ^ 64 → outcomeOf r ≡ within (state .remaining) (visit (free (withPair exempt threshold distance (soFar state))))) ⌝ }
 {
-    if state.left == 0 {
+    if state.remaining == 0 {
         return Walked::Spent;
     }
-    let left = state.left - 1;
+    let remaining = state.remaining - 1;
     let charged = Walking {
         violations: state.violations,
         least: state.least,
-        left: left,
+        remaining: remaining,
     };
     if exempt {
         return Walked::Went(charged);
@@ -56,13 +56,13 @@ pub fn visit_pair(exempt: bool, distance: f64, threshold: f64, state: Walking) -
         Walked::Went(Walking {
             violations: violations,
             least: least,
-            left: left,
+            remaining: remaining,
         })
     } else {
         Walked::Went(Walking {
             violations: state.violations,
             least: least,
-            left: left,
+            remaining: remaining,
         })
     }
 }

@@ -44,28 +44,28 @@ by-mark marks groups w ex net l j inside t d m g o h = h ∙ ap (λ (b : Bool). 
 module _ (t : Float) (w : List ℕ) (i n : ℕ) (p : Aabb) (marks groups : List ℕ) (from : Walking) where
   -- what all leaves of the part come to
   abbrev whole : List Exemption → ℕ → Outcome Figures
-  whole ex net = within (from .left) (runs (leafVisit ex t net p) (soFar from) (leavesFrom w i n))
+  whole ex net = within (from .remaining) (runs (leafVisit ex t net p) (soFar from) (leavesFrom w i n))
 
   pub record Visiting (state : Walking) (j : ℕ) : Type 0 where
     pub part : Part w i n
     pub begun : i ≤ j
     pub below : j ≤ i + n
-    pub room : state .violations + state .left < 2 ^ 64
-    pub onwards : (ex : List Exemption) (net : ℕ) → Marked marks groups w ex net → Onwards (leafVisit ex t net p) (whole ex net) (leavesFrom w j (i + n - j)) (soFar state) (state .left)
+    pub room : state .violations + state .remaining < 2 ^ 64
+    pub onwards : (ex : List Exemption) (net : ℕ) → Marked marks groups w ex net → Onwards (leafVisit ex t net p) (whole ex net) (leavesFrom w j (i + n - j)) (soFar state) (state .remaining)
 
-  pub visiting-none : Part w i n → from .violations + from .left < 2 ^ 64 → Visiting from i
+  pub visiting-none : Part w i n → from .violations + from .remaining < 2 ^ 64 → Visiting from i
   visiting-none part room = record {
     part = part;
     begun = omega arith;
     below = omega arith;
     room = room;
-    onwards = λ ex net l. let e : i + n - i ≡ n = omega arith in record { come = ap (λ (z : ℕ). within (from .left) (runs (leafVisit ex t net p) (soFar from) (leavesFrom w i z))) e };
+    onwards = λ ex net l. let e : i + n - i ≡ n = omega arith in record { come = ap (λ (z : ℕ). within (from .remaining) (runs (leafVisit ex t net p) (soFar from) (leavesFrom w i z))) e };
   }
 
   module _ (state : Walking) (j : ℕ) (u : Visiting state j) (less : j < i + n) (b : Aabb) (box : b ≡ boxAt w (9 * j)) (d : Float) (e : d ≡ distance p b) (r : Walked)
-      (h : outcomeOf r ≡ within (state .left) (visit (free (withPair (member marks (getD groups j 0)) t d (soFar state))))) where
-    now-visited : (ex : List Exemption) (net : ℕ) → Marked marks groups w ex net → outcomeOf r ≡ within (state .left) (leafVisit ex t net p (soFar state) (leafAt w j))
-    now-visited ex net l = by-mark marks groups w ex net l j (omega (arith, u .part .inside)) t d (state .left) (soFar state) (outcomeOf r) h ∙ ap (λ (z : Float). within (state .left) (visit (free (withPair (exempt ex net (leafAt w j .id)) t z (soFar state))))) (e ∙ ap (distance p) box)
+      (h : outcomeOf r ≡ within (state .remaining) (visit (free (withPair (member marks (getD groups j 0)) t d (soFar state))))) where
+    now-visited : (ex : List Exemption) (net : ℕ) → Marked marks groups w ex net → outcomeOf r ≡ within (state .remaining) (leafVisit ex t net p (soFar state) (leafAt w j))
+    now-visited ex net l = by-mark marks groups w ex net l j (omega (arith, u .part .inside)) t d (state .remaining) (soFar state) (outcomeOf r) h ∙ ap (λ (z : Float). within (state .remaining) (visit (free (withPair (exempt ex net (leafAt w j .id)) t z (soFar state))))) (e ∙ ap (distance p) box)
 
     next : leavesFrom w j (i + n - j) ≡ leafAt w j ∷ leavesFrom w (j + 1) (i + n - (j + 1))
     unfolding leavesFrom
@@ -84,7 +84,7 @@ module _ (t : Float) (w : List ℕ) (i n : ℕ) (p : Aabb) (marks groups : List 
       part = u .part;
       begun = omega (arith, u .begun);
       below = omega arith;
-      room = omega (arith, u .room, visited-room (state .left) (soFar state) _ v (pair-violations (some .ex) t (exempt (some .ex) (some .net) (leafAt w j .id)) (distance p (boxAt w (9 * j))) (soFar state)) (ap outcomeOf (sym x) ∙ now-visited (some .ex) (some .net) (some .marked)));
+      room = omega (arith, u .room, visited-room (state .remaining) (soFar state) _ v (pair-violations (some .ex) t (exempt (some .ex) (some .net) (leafAt w j .id)) (distance p (boxAt w (9 * j))) (soFar state)) (ap outcomeOf (sym x) ∙ now-visited (some .ex) (some .net) (some .marked)));
       onwards = λ ex net l. loop-next (u .onwards ex net l) next (sym (ap outcomeOf (sym x) ∙ now-visited ex net l));
     }
 
@@ -114,8 +114,8 @@ number-gap (inf s) h = (h, tt)
 number-gap (fin s m e) h = (h, tt)
 
 pub walks-unpruned : (ex : List Exemption) (t : Float) (w : List ℕ) (i n : ℕ) (p : Aabb) (net : ℕ) (st : Walking) (r : Walked) → T (fits binary64 (st .least)) → ((k : ℕ) → n ≤ k → TreeBelow p t (storedTree k w i n))
-    → outcomeOf r ≡ within (st .left) (runs (leafVisit ex t net p) (soFar st) (leavesFrom w i n)) → Walks ex t w i n p net st r
+    → outcomeOf r ≡ within (st .remaining) (runs (leafVisit ex t net p) (soFar st) (leavesFrom w i n)) → Walks ex t w i n p net st r
 walks-unpruned ex t w i n p net st r h below e s on of k q =
     e
-    ∙ (λ j. within (st .left) (runs (leafVisit ex t (sym of j) (sym on j)) (soFar st) (sym (stored-leaves k w i n q) j)))
-    ∙ ap (within (st .left)) (sym (walk-unpruned ex t s (storedTree k w i n) (rw on (below k q)) (soFar st) (number-gap (st .least) h)))
+    ∙ (λ j. within (st .remaining) (runs (leafVisit ex t (sym of j) (sym on j)) (soFar st) (sym (stored-leaves k w i n q) j)))
+    ∙ ap (within (st .remaining)) (sym (walk-unpruned ex t s (storedTree k w i n) (rw on (below k q)) (soFar st) (number-gap (st .least) h)))

@@ -126,7 +126,7 @@ module _ (t : Float) (w : List ℕ) (p : Aabb) where
       pub low : top ≤ 12
       pub long : length l ≡ 12
       pub waits : (j : ℕ) → j < top → Waits (getD l j noPart) j
-      pub onwards : (ex : List Exemption) (s : Segment) → Marked marks groups w ex (s .net) → segmentBox s ≡ p → within (state .left) (after (walk ex t s (tree part) (soFar state)) (λ f. restWalk ex s l top f)) ≡ within (from .left) (walk ex t s (tree whole) (soFar from))
+      pub onwards : (ex : List Exemption) (s : Segment) → Marked marks groups w ex (s .net) → segmentBox s ≡ p → within (state .remaining) (after (walk ex t s (tree part) (soFar state)) (λ f. restWalk ex s l top f)) ≡ within (from .remaining) (walk ex t s (tree whole) (soFar from))
 
     pub underway-start : (l : List Subtree) → Walkable w (whole .first) (whole .count) (whole .lower) p from → whole .count ≤ 4096 → length l ≡ 12 → Underway whole from l 0
     unfolding restWalk
@@ -136,30 +136,30 @@ module _ (t : Float) (w : List ℕ) (p : Aabb) where
       low = omega arith;
       long = long;
       waits = λ j h. absurd (omega arith);
-      onwards = λ ex s h on. ap (within (from .left)) (after-nothing (walk ex t s (tree whole) (soFar from)));
+      onwards = λ ex s h on. ap (within (from .remaining)) (after-nothing (walk ex t s (tree whole) (soFar from)));
     }
 
     -- what the whole walk answers, for every bound of the tree's depth
-    answers : (r : Walked) → ((ex : List Exemption) (s : Segment) → Marked marks groups w ex (s .net) → segmentBox s ≡ p → outcomeOf r ≡ within (from .left) (walk ex t s (tree whole) (soFar from)))
+    answers : (r : Walked) → ((ex : List Exemption) (s : Segment) → Marked marks groups w ex (s .net) → segmentBox s ≡ p → outcomeOf r ≡ within (from .remaining) (walk ex t s (tree whole) (soFar from)))
         → (ex : List Exemption) (net : ℕ) → Marked marks groups w ex net → Walks ex t w (whole .first) (whole .count) p net from r
-    answers r h ex net l s on of k q = h ex s (rw of l) on ∙ ap (λ (z : Tree). within (from .left) (walk ex t s z (soFar from))) (stored-same (whole .count) k w (whole .first) (whole .count) (le-refl (whole .count)) q)
+    answers r h ex net l s on of k q = h ex s (rw of l) on ∙ ap (λ (z : Tree). within (from .remaining) (walk ex t s z (soFar from))) (stored-same (whole .count) k w (whole .first) (whole .count) (le-refl (whole .count)) q)
 
     module _ (part : Subtree) (state : Walking) (l : List Subtree) (top : ℕ) (u : Underway part state l top) (q : Step) (h : (ex : List Exemption) (net : ℕ) → Marked marks groups w ex net → Steps ex t w p net part state q) where
       -- the walk of the part, and then those of the others
       onward-rest-walk : (ex : List Exemption) (s : Segment) → Marked marks groups w ex (s .net) → segmentBox s ≡ p
-          → onward (within (state .left) (walk ex t s (tree part) (soFar state))) (λ g m. within m (restWalk ex s l top g)) ≡ within (from .left) (walk ex t s (tree whole) (soFar from))
-      onward-rest-walk ex s k on = sym (within-after (state .left) (walk ex t s (tree part) (soFar state)) (λ f. restWalk ex s l top f)) ∙ u .onwards ex s k on
+          → onward (within (state .remaining) (walk ex t s (tree part) (soFar state))) (λ g m. within m (restWalk ex s l top g)) ≡ within (from .remaining) (walk ex t s (tree whole) (soFar from))
+      onward-rest-walk ex s k on = sym (within-after (state .remaining) (walk ex t s (tree part) (soFar state)) (λ f. restWalk ex s l top f)) ∙ u .onwards ex s k on
 
       pub underway-stopped : q ≡ Stopped → (ex : List Exemption) (net : ℕ) → Marked marks groups w ex net → Walks ex t w (whole .first) (whole .count) p net from Spent
       underway-stopped e = answers Spent (λ ex s k on. onward-stopped _ _ Spent refl ((rw e at h ex (s .net) k) s on refl (part .count) (le-refl (part .count))) ∙ onward-rest-walk ex s k on)
 
       module _ (v : Walking) (e : q ≡ Done v) where
-        went : (ex : List Exemption) (s : Segment) → Marked marks groups w ex (s .net) → segmentBox s ≡ p → within (v .left) (restWalk ex s l top (soFar v)) ≡ within (from .left) (walk ex t s (tree whole) (soFar from))
+        went : (ex : List Exemption) (s : Segment) → Marked marks groups w ex (s .net) → segmentBox s ≡ p → within (v .remaining) (restWalk ex s l top (soFar v)) ≡ within (from .remaining) (walk ex t s (tree whole) (soFar from))
         went ex s k on = onward-went _ (λ g m. within m (restWalk ex s l top g)) (Went v) v refl ((rw e at h ex (s .net) k) s on refl (part .count) (le-refl (part .count))) ∙ onward-rest-walk ex s k on
 
         pub underway-done : top ≡ 0 → (ex : List Exemption) (net : ℕ) → Marked marks groups w ex net → Walks ex t w (whole .first) (whole .count) p net from (Went v)
         unfolding restWalk outcomeOf
-        underway-done z = answers (Went v) (λ ex s k on. sym (ap (λ (y : ℕ). within (v .left) (restWalk ex s l y (soFar v))) z ∙ within-free (v .left) (soFar v)) ∙ went ex s k on)
+        underway-done z = answers (Went v) (λ ex s k on. sym (ap (λ (y : ℕ). within (v .remaining) (restWalk ex s l y (soFar v))) z ∙ within-free (v .remaining) (soFar v)) ∙ went ex s k on)
 
         -- the last of those that wait is the next part
         module _ (j : ℕ) (z : top ≡ suc j) (next : Subtree) (x : next ≡ getD l j noPart) where
@@ -175,7 +175,7 @@ module _ (t : Float) (w : List ℕ) (p : Aabb) where
                 low = omega (arith, u .low);
                 long = u .long;
                 waits = λ m g. u .waits m (omega arith);
-                onwards = λ ex s k on. ap (λ (y : ℕ). within (v .left) (restWalk ex s l y (soFar v))) (sym z) ∙ went ex s k on;
+                onwards = λ ex s k on. ap (λ (y : ℕ). within (v .remaining) (restWalk ex s l y (soFar v))) (sym z) ∙ went ex s k on;
               })
 
           pub next-less : 2 * next .count - 1 + stepsLeft l j < 2 * part .count - 1 + stepsLeft l top
@@ -229,7 +229,7 @@ module _ (t : Float) (w : List ℕ) (p : Aabb) where
             ];
             onwards = λ ex s k on.
                 let c = walk ex t s (tree (x .nearer)) (soFar state) in
-                (λ j. within (state .left) (after c (λ f. both ex s f j)))
-                ∙ ap (within (state .left)) (sym (after-after c (λ f. walk ex t s (tree (x .farther)) f) (λ y. restWalk ex s l top y)) ∙ ap (λ (y : Charged Figures). after y (λ f. restWalk ex s l top f)) (sym (turned ex s on)))
+                (λ j. within (state .remaining) (after c (λ f. both ex s f j)))
+                ∙ ap (within (state .remaining)) (sym (after-after c (λ f. walk ex t s (tree (x .farther)) f) (λ y. restWalk ex s l top y)) ∙ ap (λ (y : Charged Figures). after y (λ f. restWalk ex s l top f)) (sym (turned ex s on)))
                 ∙ u .onwards ex s k on;
           }

@@ -57,7 +57,7 @@ pub onward-stopped : (o : Outcome Figures) (f : Figures → ℕ → Outcome Figu
 unfolding outcomeOf onward
 onward-stopped o f r x e = ap (λ (z : Outcome Figures). onward z f) (ap outcomeOf (sym x) ∙ e)
 
-pub onward-went : (o : Outcome Figures) (f : Figures → ℕ → Outcome Figures) (r : Walked) (w : Walking) → r ≡ Went w → outcomeOf r ≡ o → f (soFar w) (w .left) ≡ onward o f
+pub onward-went : (o : Outcome Figures) (f : Figures → ℕ → Outcome Figures) (r : Walked) (w : Walking) → r ≡ Went w → outcomeOf r ≡ o → f (soFar w) (w .remaining) ≡ onward o f
 unfolding outcomeOf onward
 onward-went o f r w x e = ap (λ (z : Outcome Figures). onward z f) (ap outcomeOf (sym x) ∙ e)
 
@@ -65,13 +65,13 @@ onward-went o f r w x e = ap (λ (z : Outcome Figures). onward z f) (ap outcomeO
 abbrev pub Visited : Figures → Charged Figures → Type 0
 Visited g c = c .value .violations ≤ g .violations + c .cost
 
-pub visited-room : (m : ℕ) (g : Figures) (c : Charged Figures) (v : Walking) → Visited g c → outcomeOf (Went v) ≡ within m c → v .violations + v .left ≤ g .violations + m
+pub visited-room : (m : ℕ) (g : Figures) (c : Charged Figures) (v : Walking) → Visited g c → outcomeOf (Went v) ≡ within m c → v .violations + v .remaining ≤ g .violations + m
 unfolding outcomeOf
-visited-room m g c v h e = let p = within-left m c (soFar v) (v .left) (sym e) in omega (arith, p .0, p .2, ap (λ (f : Figures). f .violations) (p .1))
+visited-room m g c v h e = let p = within-left m c (soFar v) (v .remaining) (sym e) in omega (arith, p .0, p .2, ap (λ (f : Figures). f .violations) (p .1))
 
 -- the state that a walk hands on has as much room
-pub walk-room : (ex : List Exemption) (t : Float) (s : Segment) (tree : Tree) (st : Walking) (r : Walked) → outcomeOf r ≡ within (st .left) (walk ex t s tree (soFar st)) → (v : Walking) → r ≡ Went v → v .violations + v .left ≤ st .violations + st .left
-walk-room ex t s tree st r e v h = visited-room (st .left) (soFar st) _ v (walk-violations ex t s tree (soFar st)) (ap outcomeOf (sym h) ∙ e)
+pub walk-room : (ex : List Exemption) (t : Float) (s : Segment) (tree : Tree) (st : Walking) (r : Walked) → outcomeOf r ≡ within (st .remaining) (walk ex t s tree (soFar st)) → (v : Walking) → r ≡ Went v → v .violations + v .remaining ≤ st .violations + st .remaining
+walk-room ex t s tree st r e v h = visited-room (st .remaining) (soFar st) _ v (walk-violations ex t s tree (soFar st)) (ap outcomeOf (sym h) ∙ e)
 
 -- ---- what the walk of a part answers
 pub near-box : (d : Float) (p b : Aabb) (w : List ℕ) (i n : ℕ) → d ≡ distance p b → ((k : ℕ) → n ≤ k → b ≡ boundsOf (storedTree k w i n)) → Near d p w i n
@@ -85,7 +85,7 @@ known : (s : Segment) (p : Aabb) → segmentBox s ≡ p → (tree : Tree) (d : F
 known s p on tree d e = ap (λ (q : Aabb). distance q (boundsOf tree)) on ∙ sym e
 
 module _ (ex : List Exemption) (t : Float) {w : List ℕ} {i n : ℕ} {d : Float} {p : Aabb} {st : Walking} (ready : Walkable w i n d p st) where
-  pub next-room : (net : ℕ) (r : Walked) → Walks ex t w i n p net st r → (v : Walking) → r ≡ Went v → v .violations + v .left ≤ st .violations + st .left
+  pub next-room : (net : ℕ) (r : Walked) → Walks ex t w i n p net st r → (v : Walking) → r ≡ Went v → v .violations + v .remaining ≤ st .violations + st .remaining
   unfolding segmentBox
   next-room net r e v h =
       let s : Segment = record { net = net; orientation = ready .segment .orientation; fixed = ready .segment .fixed; start = ready .segment .start; end = ready .segment .end } in
@@ -96,20 +96,20 @@ module _ (ex : List Exemption) (t : Float) {w : List ℕ} {i n : ℕ} {d : Float
 
   pub walks-pruned : contributes d t (gapOfFloat (st .least)) ≡ false → (net : ℕ) → Walks ex t w i n p net st (Went st)
   unfolding outcomeOf
-  walks-pruned far net s on of k h = sym (ap (within (st .left)) (walk-pruned ex t s (storedTree k w i n) (soFar st) (reaches s on k h (storedTree k w i n) refl false far)) ∙ within-free (st .left) (soFar st))
+  walks-pruned far net s on of k h = sym (ap (within (st .remaining)) (walk-pruned ex t s (storedTree k w i n) (soFar st) (reaches s on k h (storedTree k w i n) refl false far)) ∙ within-free (st .remaining) (soFar st))
 
   module _ (close : contributes d t (gapOfFloat (st .least)) ≡ true) where
-    pub walks-leaf : n ≡ 1 → (net : ℕ) (r : Walked) → outcomeOf r ≡ within (st .left) (visit (free (withPair (exempt ex net (leafAt w i .id)) t d (soFar st)))) → Walks ex t w i n p net st r
+    pub walks-leaf : n ≡ 1 → (net : ℕ) (r : Walked) → outcomeOf r ≡ within (st .remaining) (visit (free (withPair (exempt ex net (leafAt w i .id)) t d (soFar st)))) → Walks ex t w i n p net st r
     unfolding boundsOf
     walks-leaf one net r e s on of k h =
         let x = one-leaf w i n one k h in
         let y : distance (segmentBox s) (leafAt w i .bounds) ≡ d = known s p on (leaf (leafAt w i)) d (ready .near k h ∙ ap (λ (z : Tree). distance p (boundsOf z)) x) in
-        e ∙ sym (ap (within (st .left))
+        e ∙ sym (ap (within (st .remaining))
         (ap (λ (z : Tree). walk ex t s z (soFar st)) x ∙ walk-leaf ex t s (leafAt w i) (soFar st) (reaches s on k h (leaf (leafAt w i)) x true close)
         ∙ (λ j. visit (free (withPair (exempt ex (of j) (leafAt w i .id)) t (y j) (soFar st))))))
 
 -- a smaller part may be walked from a state that has as much room
-pub half-walkable : {w : List ℕ} {i n : ℕ} {d : Float} {p : Aabb} {st : Walking} → Walkable w i n d p st → {h : Subtree} → Smaller w n p h → (v : Walking) → v .violations + v .left ≤ st .violations + st .left → Walkable w (h .first) (h .count) (h .lower) p v
+pub half-walkable : {w : List ℕ} {i n : ℕ} {d : Float} {p : Aabb} {st : Walking} → Walkable w i n d p st → {h : Subtree} → Smaller w n p h → (v : Walking) → v .violations + v .remaining ≤ st .violations + st .remaining → Walkable w (h .first) (h .count) (h .lower) p v
 half-walkable ready half v q = record { part = half .part; near = half .near; room = omega (arith, ready .room); segment = ready .segment; box = ready .box; fit = ready .fit; nested = half .nested }
 
 -- ---- a part is halved: the nearer half first, the left one on a tie

@@ -38,7 +38,7 @@ pub marks-lent : (marks : List ℕ) (n : ℕ) (groups w : List ℕ) (ex : List E
 marks-lent marks n groups w ex net h = let e : n ≡ n - 0 = omega arith in subst (λ (x : ℕ). Marked (take x marks) groups w ex net) e h
 
 -- one segment may be walked over the whole tree
-pub walkable-whole : (s : Segment) (w : List ℕ) (m : ℕ) (d : Float) (p b : Aabb) (st : Walking) → Part w 0 m → p ≡ segmentBox s → ((k : ℕ) → m ≤ k → b ≡ boundsOf (storedTree k w 0 m)) → d ≡ distance p b → st .violations + st .left < 2 ^ 64
+pub walkable-whole : (s : Segment) (w : List ℕ) (m : ℕ) (d : Float) (p b : Aabb) (st : Walking) → Part w 0 m → p ≡ segmentBox s → ((k : ℕ) → m ≤ k → b ≡ boundsOf (storedTree k w 0 m)) → d ≡ distance p b → st .violations + st .remaining < 2 ^ 64
     → FitBox (segmentBox s) → Nested (storedTree m w 0 m) → Walkable w 0 m d p st
 walkable-whole s w m d p b st part box bounds e room fit nested = record { part = part; near = near-box d p b w 0 m e bounds; room = room; segment = s; box = sym box; fit = subst FitBox (sym box) fit; nested = nested }
 
@@ -55,19 +55,19 @@ module _ (t : ℕ → Float) (w : List ℕ) (m : ℕ) (order packed groups : Lis
   -- q segments have been walked: the others, from the state, come to the same
   pub record Turned (state : Walking) (marks : List ℕ) (used marked q : ℕ) : Type 0 where
     pub turns : InTurns order c
-    pub room : state .violations + state .left < 2 ^ 64
+    pub room : state .violations + state .remaining < 2 ^ 64
     pub below : q ≤ length (c .net)
     pub long : length marks ≡ 64
     pub low : used ≤ 64
     pub stand : (ex : List Exemption) → Holds packed ex → length ex ≡ k → MarkedFor (take used marks) groups w ex marked
-    pub onwards : (ex : List Exemption) → Holds packed ex → length ex ≡ k → Onwards (step ex) (within allowance (allWalks ex t w m order c)) (rest q) (soFar state) (state .left)
+    pub onwards : (ex : List Exemption) → Holds packed ex → length ex ≡ k → Onwards (step ex) (within allowance (allWalks ex t w m order c)) (rest q) (soFar state) (state .remaining)
 
-  pub turned-none : InTurns order c → allowance < 2 ^ 64 → (state : Walking) → state .least ≡ nan → state .violations ≡ 0 → state .left ≡ allowance → (marks : List ℕ) → length marks ≡ 64 → Turned state marks 0 4294967296 0
+  pub turned-none : InTurns order c → allowance < 2 ^ 64 → (state : Walking) → state .least ≡ nan → state .violations ≡ 0 → state .remaining ≡ allowance → (marks : List ℕ) → length marks ≡ 64 → Turned state marks 0 4294967296 0
   unfolding gapOfFloat
   turned-none p h state e v l marks long = record { turns = p; room = omega arith; below = omega arith; long = long; low = omega arith; stand = λ ex a b h. absurd (omega arith); onwards = λ ex a b. record { come = λ i. within (l i) (runs (step ex) (record { least = gapOfFloat (e i); violations = v i }) (rest 0)) } }
 
   module _ (state : Walking) (marks : List ℕ) (used marked q : ℕ) (u : Turned state marks used marked q) (less : q < length (c .net)) (r : Walked)
-      (e : (ex : List Exemption) → Holds packed ex → length ex ≡ k → outcomeOf r ≡ within (state .left) (walk ex (t (segmentAt c (getD order q 0) .net)) (segmentAt c (getD order q 0)) (storedTree m w 0 m) (soFar state))) where
+      (e : (ex : List Exemption) → Holds packed ex → length ex ≡ k → outcomeOf r ≡ within (state .remaining) (walk ex (t (segmentAt c (getD order q 0) .net)) (segmentAt c (getD order q 0)) (storedTree m w 0 m) (soFar state))) where
     next : rest q ≡ segmentAt c (getD order q 0) ∷ rest (q + 1)
     next = told-next 0 (segmentAt c) (length (c .net)) order (u .turns .inside) (rest 0) refl q less
 

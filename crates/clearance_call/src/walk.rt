@@ -53,11 +53,11 @@ fn visit_leaf(
 ) -> Walked
     requires { ⌜ i < length (now groups) ⌝ }
     requires { ⌜ Number distance ⌝ }
-    requires { ⌜ state .violations + state .left < 2 ^ 64 ⌝ }
-    ensures { λ r. ⌜ outcomeOf r ≡ within (state .left) (visit (free (withPair (member (now (marks .entry)) (getD (now (groups .entry)) i 0)) threshold distance (soFar state)))) ⌝ }
+    requires { ⌜ state .violations + state .remaining < 2 ^ 64 ⌝ }
+    ensures { λ r. ⌜ outcomeOf r ≡ within (state .remaining) (visit (free (withPair (member (now (marks .entry)) (getD (now (groups .entry)) i 0)) threshold distance (soFar state)))) ⌝ }
 {
     // `visit_pair` tests this too. With the test before the mark is read, the compiler bounds the loop over leaves by the visits left, so that the test costs nothing there.
-    if state.left == 0 {
+    if state.remaining == 0 {
         return Walked::Spent;
     }
     // Each side has a call with a constant: with the mark itself as an argument, `visit_pair` would test it once more.
@@ -115,9 +115,9 @@ fn visit_leaves(
 ) -> Walked
     requires { ⌜ Part (now words) i n ⌝ }
     requires { ⌜ NetMarks (now marks) (now groups) (now words) ⌝ }
-    requires { ⌜ start .violations + start .left < 2 ^ 64 ⌝ }
+    requires { ⌜ start .violations + start .remaining < 2 ^ 64 ⌝ }
     requires { ⌜ Nested (storedTree n (now words) i n) ⌝ }
-    ensures { λ r. ⌜ ((ex : List Exemption) (net : ℕ) → Marked (now (marks .entry)) (now (groups .entry)) (now (words .entry)) ex net → outcomeOf r ≡ within (start .left) (runs (leafVisit ex threshold net bounds) (soFar start) (leavesFrom (now (words .entry)) i n))) ⌝ }
+    ensures { λ r. ⌜ ((ex : List Exemption) (net : ℕ) → Marked (now (marks .entry)) (now (groups .entry)) (now (words .entry)) ex net → outcomeOf r ≡ within (start .remaining) (runs (leafVisit ex threshold net bounds) (soFar start) (leavesFrom (now (words .entry)) i n))) ⌝ }
 {
     let mut state = start;
     let mut j = i;
@@ -160,11 +160,11 @@ fn look_at_part(
     groups: &[u64],
     violations: usize,
     least: f64,
-    left: usize,
+    remaining: usize,
 ) -> Step
-    requires { ⌜ Walkable (now words) (part .first) (part .count) (part .lower) bounds (record { violations = violations; least = least; left = left }) ⌝ }
+    requires { ⌜ Walkable (now words) (part .first) (part .count) (part .lower) bounds (record { violations = violations; least = least; remaining = remaining }) ⌝ }
     requires { ⌜ NetMarks (now marks) (now groups) (now words) ⌝ }
-    ensures { λ r. ⌜ ((ex : List Exemption) (net : ℕ) → Marked (now (marks .entry)) (now (groups .entry)) (now (words .entry)) ex net → Steps ex threshold (now (words .entry)) bounds net part (record { violations = violations; least = least; left = left }) r) ⌝ }
+    ensures { λ r. ⌜ ((ex : List Exemption) (net : ℕ) → Marked (now (marks .entry)) (now (groups .entry)) (now (words .entry)) ex net → Steps ex threshold (now (words .entry)) bounds net part (record { violations = violations; least = least; remaining = remaining }) r) ⌝ }
 {
     let i = part.first;
     let n = part.count;
@@ -172,7 +172,7 @@ fn look_at_part(
     let state = Walking {
         violations: violations,
         least: least,
-        left: left,
+        remaining: remaining,
     };
     if !clearance_subtree_can_contribute(lower, threshold, least) {
         return Step::Done(state);
@@ -217,7 +217,7 @@ pub(crate) fn visit_segment_candidates(
             groups,
             state.violations,
             state.least,
-            state.left,
+            state.remaining,
         );
         match step {
             Step::Stopped => {

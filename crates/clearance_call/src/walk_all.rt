@@ -40,9 +40,9 @@ fn walk_segment(
 ) -> Walked
     requires { ⌜ Part (now tree) 0 m × (m ≤ 4096) ⌝ }
     requires { ⌜ NetMarks (now marks) (now groups) (now tree) ⌝ }
-    requires { ⌜ state .violations + state .left < 2 ^ 64 ⌝ }
+    requires { ⌜ state .violations + state .remaining < 2 ^ 64 ⌝ }
     requires { ⌜ FitBox (segmentBox (record { net = net; orientation = orientation; fixed = fixed; start = start; end = end })) × Nested (storedTree m (now tree) 0 m) ⌝ }
-    ensures { λ r. ⌜ ((ex : List Exemption) → Marked (now (marks .entry)) (now (groups .entry)) (now (tree .entry)) ex net → outcomeOf r ≡ within (state .left) (walk ex threshold (record { net = net; orientation = orientation; fixed = fixed; start = start; end = end }) (storedTree m (now (tree .entry)) 0 m) (soFar state))) ⌝ }
+    ensures { λ r. ⌜ ((ex : List Exemption) → Marked (now (marks .entry)) (now (groups .entry)) (now (tree .entry)) ex net → outcomeOf r ≡ within (state .remaining) (walk ex threshold (record { net = net; orientation = orientation; fixed = fixed; start = start; end = end }) (storedTree m (now (tree .entry)) 0 m) (soFar state))) ⌝ }
 {
     let bounds = Aabb::from_segment(orientation == 1, fixed, start, end);
     let whole = Subtree {

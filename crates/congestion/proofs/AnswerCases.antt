@@ -13,7 +13,7 @@ pub answer-spent : (r : Swept) (total : Float) (allowance : ℕ) → r ≡ Spent
 unfolding answerOf
 answer-spent r total allowance h = sym (ap (λ (o : Swept). answerOf o total allowance) h)
 
-pub answer-went : (r : Swept) (total : Float) (allowance : ℕ) (f : Found) (visits : ℕ) → r ≡ Went f → visits ≡ allowance - f .left
+pub answer-went : (r : Swept) (total : Float) (allowance : ℕ) (f : Found) (visits : ℕ) → r ≡ Went f → visits ≡ allowance - f .remaining
     → Report (record {
       congestion = record { «total_length» = total; «congested_length» = f .«congested_length»; «pair_overlap_length» = f .«pair_overlap_length»; «peak_close_neighbors» = f .«peak_close_neighbors» };
       «minimum_positive» = f .«minimum_positive»;

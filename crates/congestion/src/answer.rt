@@ -16,7 +16,7 @@ pub fn answer_of(swept: Swept, total: f64, allowance: usize) -> CongestionAnswer
         return CongestionAnswer::Refused(Refusal::WorkLimitExceeded);
     };
     let minimum = found.minimum_positive;
-    let visits = visits_used(allowance, found.left);
+    let visits = visits_used(allowance, found.remaining);
     let congestion = ParallelCongestion {
         total_length: total,
         congested_length: found.congested_length,

@@ -7,7 +7,7 @@ pub struct Found {
     pub pair_overlap_length: f64,
     pub peak_close_neighbors: usize,
     pub minimum_positive: Gap,
-    pub left: usize,
+    pub remaining: usize,
 }
 
 // What the sweep found, or that the allowance is spent.

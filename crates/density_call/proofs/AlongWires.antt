@@ -184,11 +184,11 @@ module _ (s e : List ℕ) (o n : ℕ) (c : SegmentColumns) (a : AtColumns (lengt
   count = rows-count s e o n c (a .agree) narrow orders
 
   -- fewer than two wires cost nothing
-  pub few-swept : (b : Bool) (cut allowance : ℕ) (z : Float) → z ≡ ofUnits 0 → n < 2 → Went (record { «congested_length» = z; «pair_overlap_length» = z; «peak_close_neighbors» = 0; «minimum_positive» = Absent; left = allowance }) ≡ sweptOf (within allowance (along cut (map (wireOfRow b) l)))
+  pub few-swept : (b : Bool) (cut allowance : ℕ) (z : Float) → z ≡ ofUnits 0 → n < 2 → Went (record { «congested_length» = z; «pair_overlap_length» = z; «peak_close_neighbors» = 0; «minimum_positive» = Absent; remaining = allowance }) ≡ sweptOf (within allowance (along cut (map (wireOfRow b) l)))
   unfolding along sweptOf
   few-swept b cut allowance z u h =
       let k : length (map (wireOfRow b) l) < 2 = omega (arith, length-map l (wireOfRow b), count) in
-      (λ i. Went (record { «congested_length» = u i; «pair_overlap_length» = u i; «peak_close_neighbors» = 0; «minimum_positive» = Absent; left = allowance }))
+      (λ i. Went (record { «congested_length» = u i; «pair_overlap_length» = u i; «peak_close_neighbors» = 0; «minimum_positive» = Absent; remaining = allowance }))
       ∙ sym (ap sweptOf (within-free allowance (begin [])))
       ∙ ap (λ r. sweptOf (within allowance r)) (sym (cond-true (ltb (length (map (wireOfRow b) l)) 2) (free (begin [])) (sweep cut (map (wireOfRow b) l)) (lt-ltb (length (map (wireOfRow b) l)) 2 k)))
 

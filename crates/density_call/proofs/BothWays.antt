@@ -63,7 +63,7 @@ figures st m = record {
   «pair_overlap_length» = ofUnits (st .pairOverlapLength);
   «peak_close_neighbors» = st .peakCloseNeighbors;
   «minimum_positive» = gapOfUnits (st .minimumPositive);
-  left = m;
+  remaining = m;
 }
 
 spent-is : (o : Outcome State) → Spent ≡ sweptOf o → o ≡ spent
@@ -73,8 +73,8 @@ spent-is (left st m) e = cc
 
 -- the allowance was enough, and these are the figures of the state that the sweep reached
 record Reached (m : ℕ) (c : Charged State) (f : Found) : Type 0 where
-  paid : within m c ≡ left (c .value) (f .left)
-  is : f ≡ figures (c .value) (f .left)
+  paid : within m c ≡ left (c .value) (f .remaining)
+  is : f ≡ figures (c .value) (f .remaining)
 
 reached : (m : ℕ) (c : Charged State) (f : Found) → Went f ≡ sweptOf (within m c) → Reached m c f
 unfolding sweptOf
@@ -82,7 +82,7 @@ reached m c f e = elim (le-or-lt (c .cost) m) [
   | inl h ↦
       let a = within-enough m c h in
       let b = one f (figures (c .value) (m - c .cost)) (e ∙ ap sweptOf a) in
-      let k : m - c .cost ≡ f .left = sym (ap (λ (x : Found). x .left) b) in
+      let k : m - c .cost ≡ f .remaining = sym (ap (λ (x : Found). x .remaining) b) in
       record { paid = a ∙ ap (left (c .value)) k; is = b ∙ ap (figures (c .value)) k }
   | inr h ↦ absurd (never (e ∙ ap sweptOf (within-short m c h)))
 ]
@@ -210,28 +210,28 @@ module _ (cutoff : Float) (grid : T (onGrid cutoff)) (l : List Segment) (fit : F
           let z : onward (within m (across c some l)) (second c some l) ≡ spent = rw (spent-is (within m (across c some l)) (sym e ∙ one)) (onward-spent (second c some l)) in
           sym (ap foundOf (whole ∙ z))
 
-      module _ (a : Found) (went : first ≡ Went a) (next : Swept) (other : next ≡ sweptOf (within (a .left) (down c some l))) where
-        on : within m (allPairs cutoff l) ≡ second c some l h (a .left)
-        on = whole ∙ rw (reached m (across c some l) a (sym went ∙ one) .paid) (onward-left h (a .left) (second c some l))
+      module _ (a : Found) (went : first ≡ Went a) (next : Swept) (other : next ≡ sweptOf (within (a .remaining) (down c some l))) where
+        on : within m (allPairs cutoff l) ≡ second c some l h (a .remaining)
+        on = whole ∙ rw (reached m (across c some l) a (sym went ∙ one) .paid) (onward-left h (a .remaining) (second c some l))
 
         pub stops-later : next ≡ Spent → Spent ≡ foundOf (within m (allPairs cutoff l))
         unfolding foundOf
         stops-later e =
-            let z : second c some l h (a .left) ≡ spent = rw (spent-is (within (a .left) (down c some l)) (sym e ∙ other)) (onward-spent (λ w r. left (together c some l h w) r)) in
+            let z : second c some l h (a .remaining) ≡ spent = rw (spent-is (within (a .remaining) (down c some l)) (sym e ∙ other)) (onward-spent (λ w r. left (together c some l h w) r)) in
             sym (ap foundOf (on ∙ z))
 
         pub went-both : (d r : Found) → next ≡ Went d → r ≡ togetherOf a d → Went r ≡ foundOf (within m (allPairs cutoff l))
         unfolding foundOf lengths
         went-both d r e t =
             let p = reached m (across c some l) a (sym went ∙ one) in
-            let q = reached (a .left) (down c some l) d (sym e ∙ other) in
-            let z : second c some l h (a .left) ≡ left (together c some l h v) (d .left) = rw (q .paid) (onward-left v (d .left) (λ w r. left (together c some l h w) r)) in
+            let q = reached (a .remaining) (down c some l) d (sym e ∙ other) in
+            let z : second c some l h (a .remaining) ≡ left (together c some l h v) (d .remaining) = rw (q .paid) (onward-left v (d .remaining) (λ w r. left (together c some l h w) r)) in
             ap Went (t ∙ (λ i. togetherOf (p .is i) (q .is i)))
             ∙ (λ i. Went (record {
               «congested_length» = congested-sum i;
               «pair_overlap_length» = overlap-sum i;
               «peak_close_neighbors» = max (h .peakCloseNeighbors) (v .peakCloseNeighbors);
               «minimum_positive» = least-lesser i;
-              left = d .left;
+              remaining = d .remaining;
             }))
             ∙ sym (ap foundOf (on ∙ z))

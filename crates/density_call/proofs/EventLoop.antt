@@ -145,7 +145,7 @@ module _ (s₀ : List ℕ) (n allowance : ℕ) (a : AtFirst s₀ n) where
     pub follows : Follows state st
     pub reached : Reached (a .c) items (drop q order) st
     pub whole : run (a .c) (drop q order) st ≡ all .value
-    pub onwards : Onwards (step (a .c)) (within allowance all) (drop q order) st (state .left)
+    pub onwards : Onwards (step (a .c)) (within allowance all) (drop q order) st (state .remaining)
 
   -- event q, and those behind it
   module _ (s : List ℕ) (room : 10 * n + 1 ≤ length s) (tabled : Tabled (a .c) (a .L) s) (q : ℕ) where
@@ -165,7 +165,7 @@ module _ (s₀ : List ℕ) (n allowance : ℕ) (a : AtFirst s₀ n) where
     none-ahead h = told-none 0 (eventAt (a .L)) (2 * length (a .L)) s long order (tabled .ordered) q (omega (arith, a .size))
 
   -- ---- before the first event
-  pub going-first : (x top : Float) → x ≡ floatAt (getD s₀ (2 * n + getD s₀ 0 0) 0) → top ≡ nan → Going (record { «congested_active» = 0; «congested_length» = ofBits binary64 0; «close_pairs» = 0; «pair_overlap_length» = ofBits binary64 0; «peak_close_neighbors» = 0; «minimum_positive» = top; previous = x; left = allowance }) s₀ 0
+  pub going-first : (x top : Float) → x ≡ floatAt (getD s₀ (2 * n + getD s₀ 0 0) 0) → top ≡ nan → Going (record { «congested_active» = 0; «congested_length» = ofBits binary64 0; «close_pairs» = 0; «pair_overlap_length» = ofBits binary64 0; «peak_close_neighbors» = 0; «minimum_positive» = top; previous = x; remaining = allowance }) s₀ 0
   unfolding sweep ofBits
   going-first x top e f = record {
     st = begin items;
@@ -236,22 +236,22 @@ module _ (s₀ : List ℕ) (n allowance : ℕ) (a : AtFirst s₀ n) where
       abbrev taken : Charged State
       taken = step (a .c) (g .st) now
 
-      module _ (r : Handled) (t : List ℕ) (steps : Steps (a .c) (a .L) n (g .st) now t (state .left) r) where
+      module _ (r : Handled) (t : List ℕ) (steps : Steps (a .c) (a .L) n (g .st) now t (state .remaining) r) where
         pub going-stops : r ≡ Spent → Short ≡ sweptOf (within allowance all)
         unfolding sweptOf
-        going-stops e = elim (le-or-lt (taken .cost) (state .left)) [
+        going-stops e = elim (le-or-lt (taken .cost) (state .remaining)) [
           | inl h ↦ never (steps .1 h .to) (sym (steps .1 h .went) ∙ e)
-          | inr h ↦ sym (ap sweptOf (loop-stops (g .onwards) ahead (within-short (state .left) taken h)))
+          | inr h ↦ sym (ap sweptOf (loop-stops (g .onwards) ahead (within-short (state .remaining) taken h)))
         ]
 
         pub going-next : (to : Sweeping) → r ≡ Went to → length t ≡ length s → Going to t (q + 1)
         unfolding runs
-        going-next to e same = elim (le-or-lt (taken .cost) (state .left)) [
+        going-next to e same = elim (le-or-lt (taken .cost) (state .remaining)) [
           | inr h ↦ never to (sym e ∙ steps .0 h)
           | inl h ↦
               let o = steps .1 h in
               let is : o .to ≡ to = same-state (o .to) to (sym (o .went) ∙ e) in
-              let remains : to .left ≡ state .left - taken .cost = sym (ap (λ (z : Sweeping). z .left) is) ∙ o .left in
+              let remains : to .remaining ≡ state .remaining - taken .cost = sym (ap (λ (z : Sweeping). z .remaining) is) ∙ o .remaining in
               record {
                 st = taken .value;
                 room = omega (arith, g .room);
@@ -260,17 +260,17 @@ module _ (s₀ : List ℕ) (n allowance : ℕ) (a : AtFirst s₀ n) where
                 follows = subst (λ (z : Sweeping). Follows z (taken .value)) is (o .follows);
                 reached = one-more (a .c) items fit now rest (g .st) reached-now;
                 whole = whole-now;
-                onwards = loop-next (g .onwards) ahead (within-enough (state .left) taken h ∙ ap (left (taken .value)) (sym remains));
+                onwards = loop-next (g .onwards) ahead (within-enough (state .remaining) taken h ∙ ap (left (taken .value)) (sym remains));
               }
         ]
 
     -- ---- after the last
-    pub going-all : 2 * n ≤ q → (r : Gap) → r ≡ gapOfFloat (state .«minimum_positive») → Done (record { «congested_length» = state .«congested_length»; «pair_overlap_length» = state .«pair_overlap_length»; «peak_close_neighbors» = state .«peak_close_neighbors»; «minimum_positive» = r; left = state .left }) ≡ sweptOf (within allowance all)
+    pub going-all : 2 * n ≤ q → (r : Gap) → r ≡ gapOfFloat (state .«minimum_positive») → Done (record { «congested_length» = state .«congested_length»; «pair_overlap_length» = state .«pair_overlap_length»; «peak_close_neighbors» = state .«peak_close_neighbors»; «minimum_positive» = r; remaining = state .remaining }) ≡ sweptOf (within allowance all)
     unfolding sweptOf
     going-all h r f =
         let gap = f ∙ ap gapOfFloat (g .follows .least) ∙ gap-again (g .st .minimumPositive) (g .follows .held) in
-        let z : within allowance all ≡ left (g .st) (state .left) = loop-ends (g .onwards) (none-ahead s (g .room) (g .tabled) q h) in
-        (λ i. Done (record { «congested_length» = g .follows .congested i; «pair_overlap_length» = g .follows .overlap i; «peak_close_neighbors» = g .follows .peak i; «minimum_positive» = gap i; left = state .left })) ∙ sym (ap sweptOf z)
+        let z : within allowance all ≡ left (g .st) (state .remaining) = loop-ends (g .onwards) (none-ahead s (g .room) (g .tabled) q h) in
+        (λ i. Done (record { «congested_length» = g .follows .congested i; «pair_overlap_length» = g .follows .overlap i; «peak_close_neighbors» = g .follows .peak i; «minimum_positive» = gap i; remaining = state .remaining })) ∙ sym (ap sweptOf z)
 
 pub first-small : (s₀ : List ℕ) (n : ℕ) → AtFirst s₀ n → getD s₀ 0 0 < 2 * n
 first-small s₀ n a = number-small s₀ n 0 a s₀ (a .room) (a .tabled) 0 (omega (arith, a .some))

@@ -161,7 +161,7 @@ module _ (s : List ℕ) (n j : ℕ) (state : Sweeping) where
       changed = count (λ x. neighbor (a .c) (starting .wire) x && eqb (x .neighbors) 0) (a .st .rows);
       highest = fold max 0 (λ x. cond (neighbor (a .c) (starting .wire) x) (x .neighbors + 1) 0) (a .st .rows);
       least = leastFloat (lesser ltb (a .st .minimumPositive) (leastHere (a .c) starting (a .st)));
-      left = m - visitsOf (a .c) (a .L) j (a .st);
+      remaining = m - visitsOf (a .c) (a .L) j (a .st);
     }
 
     abbrev rowsAtStart : List ℕ → Type 0
@@ -181,24 +181,24 @@ module _ (s : List ℕ) (n j : ℕ) (state : Sweeping) where
       key = key-start;
     }
 
-  module _ (t : List ℕ) (x : Float) (passed : Sweeping) (met : Met) (read : x ≡ floatAt startWord) (pass : passed ≡ passedTo state x) (meets : Meets true s t n j (passed .«minimum_positive») (passed .left) met) where
-    start-answer : (a : AtEvent s n (n + j) state) → Answered (state .left) (visitsOf (a .c) (a .L) j (a .st)) met (metAtStart a (state .left)) (rowsAtStart a t)
+  module _ (t : List ℕ) (x : Float) (passed : Sweeping) (met : Met) (read : x ≡ floatAt startWord) (pass : passed ≡ passedTo state x) (meets : Meets true s t n j (passed .«minimum_positive») (passed .remaining) met) where
+    start-answer : (a : AtEvent s n (n + j) state) → Answered (state .remaining) (visitsOf (a .c) (a .L) j (a .st)) met (metAtStart a (state .remaining)) (rowsAtStart a t)
     start-answer a =
-        subst (λ (m : ℕ). Answered m (visitsOf (a .c) (a .L) j (a .st)) met (metAtStart a m) (rowsAtStart a t)) (ap (λ (z : Sweeping). z .left) pass)
+        subst (λ (m : ℕ). Answered m (visitsOf (a .c) (a .L) j (a .st)) met (metAtStart a m) (rowsAtStart a t)) (ap (λ (z : Sweeping). z .remaining) pass)
         (meets (a .c) (a .L) (a .st) (a .st .minimumPositive) (a .size) (a .tabled) (a .stored) (ap (λ (z : Sweeping). z .«minimum_positive») pass ∙ a .follows .least) (a .follows .held))
 
     pub start-stops : met ≡ Short → Handles s t n (n + j) state Spent
     start-stops h a =
-        subst (λ (e : Event). Steps (a .c) (a .L) n (a .st) e t (state .left) Spent) (sym (starts-at (a .L) n j (a .size)))
-        (stops (a .c) (a .L) n (a .st) (event false (starting a)) (state .left) met (metAtStart a (state .left)) (rowsAtStart a t) (start-answer a) t h)
+        subst (λ (e : Event). Steps (a .c) (a .L) n (a .st) e t (state .remaining) Spent) (sym (starts-at (a .L) n j (a .size)))
+        (stops (a .c) (a .L) n (a .st) (event false (starting a)) (state .remaining) met (metAtStart a (state .remaining)) (rowsAtStart a t) (start-answer a) t h)
 
     module _ (meeting : Meeting) (went : met ≡ Paid meeting) where
       -- the sums fit
       pub start-fits : AtEvent s n (n + j) state → (passed .«congested_active» + meeting .changed + 1 < 2 ^ 64) × (passed .«close_pairs» + meeting .neighbors < 2 ^ 64)
       start-fits a =
-          let q = known (a .c) (a .L) n (a .st) (event false (starting a)) (state .left) met (metAtStart a (state .left)) (rowsAtStart a t) (start-answer a) meeting went in
-          let changed : meeting .changed ≡ metAtStart a (state .left) .changed = ap (λ (m : Meeting). m .changed) q in
-          let met : meeting .neighbors ≡ metAtStart a (state .left) .neighbors = ap (λ (m : Meeting). m .neighbors) q in
+          let q = known (a .c) (a .L) n (a .st) (event false (starting a)) (state .remaining) met (metAtStart a (state .remaining)) (rowsAtStart a t) (start-answer a) meeting went in
+          let changed : meeting .changed ≡ metAtStart a (state .remaining) .changed = ap (λ (m : Meeting). m .changed) q in
+          let met : meeting .neighbors ≡ metAtStart a (state .remaining) .neighbors = ap (λ (m : Meeting). m .neighbors) q in
           let active : passed .«congested_active» ≡ a .st .congestedActive = ap (λ (z : Sweeping). z .«congested_active») pass ∙ a .follows .active in
           let pairs : passed .«close_pairs» ≡ a .st .closePairs = ap (λ (z : Sweeping). z .«close_pairs») pass ∙ a .follows .pairs in (
             omega (arith, a .due .active, count-few s n (n + j) state a j (start-inside a) (λ x. neighbor (a .c) (starting a .wire) x && eqb (x .neighbors) 0)),
@@ -207,17 +207,17 @@ module _ (s : List ℕ) (n j : ℕ) (state : Sweeping) where
 
       pub start-goes : (u : List ℕ) (to : Sweeping) → CountsOnly n s t → length t ≡ length s → u ≡ activated n j (meeting .neighbors) t → to ≡ startedBy passed meeting → Handles s u n (n + j) state (Went to)
       start-goes u to only long put done a =
-          subst (λ (e : Event). Steps (a .c) (a .L) n (a .st) e u (state .left) (Went to)) (sym (starts-at (a .L) n j (a .size)))
-          (goes (a .c) (a .L) n (a .st) (event false (starting a)) (state .left) met (metAtStart a (state .left)) (rowsAtStart a t) (start-answer a) meeting to u went (λ q rows.
+          subst (λ (e : Event). Steps (a .c) (a .L) n (a .st) e u (state .remaining) (Went to)) (sym (starts-at (a .L) n j (a .size)))
+          (goes (a .c) (a .L) n (a .st) (event false (starting a)) (state .remaining) met (metAtStart a (state .remaining)) (rowsAtStart a t) (start-answer a) meeting to u went (λ q rows.
           let room : 10 * n + 1 ≤ length t = omega (arith, a .room) in
           let some : 10 * n ≤ length t = omega arith in
-          let is : to ≡ startedBy (passedTo state (floatAt startWord)) (metAtStart a (state .left)) = done ∙ (λ i. startedBy ((pass ∙ ap (passedTo state) read) i) (q i)) in
-          let new : u ≡ activated n j (metAtStart a (state .left) .neighbors) t = put ∙ ap (λ (m : Meeting). activated n j (m .neighbors) t) q in
+          let is : to ≡ startedBy (passedTo state (floatAt startWord)) (metAtStart a (state .remaining)) = done ∙ (λ i. startedBy ((pass ∙ ap (passedTo state) read) i) (q i)) in
+          let new : u ≡ activated n j (metAtStart a (state .remaining) .neighbors) t = put ∙ ap (λ (m : Meeting). activated n j (m .neighbors) t) q in
           record {
             to = to;
             went = refl;
-            left = ap (λ (z : Sweeping). z .left) is;
-            follows = subst (λ (z : Sweeping). Follows z (atStart (a .c) (starting a) (a .st) (starting a .wire .start))) (sym is) (follows-start a (state .left));
+            remaining = ap (λ (z : Sweeping). z .remaining) is;
+            follows = subst (λ (z : Sweeping). Follows z (atStart (a .c) (starting a) (a .st) (starting a .wire .start))) (sym is) (follows-start a (state .remaining));
             tabled = tabled-then s n (n + j) state a j (start-inside a) t u only (ap (take (8 * n)) put ∙ activated-front n j t (start-inside a) some (meeting .neighbors));
             stored = subst (λ (z : List ℕ). Stored (a .L) (atStart (a .c) (starting a) (a .st) (starting a .wire .start)) (drop (8 * n) z)) (sym new) (activated-rows n j t (start-inside a) some (a .c) (a .L) (a .st) (drop (8 * n) s) (starting a .wire .start) (a .size) (a .stored .rows) room rows);
           }))
@@ -258,7 +258,7 @@ module _ (s : List ℕ) (n j : ℕ) (state : Sweeping) (inside : j < n) where
       changed = count (λ x. neighbor (a .c) (ending .wire) x && eqb (x .neighbors) 1) (a .st .rows);
       highest = 0;
       least = leastFloat (lesser ltb (a .st .minimumPositive) (leastHere (a .c) ending (a .st)));
-      left = m - visitsOf (a .c) (a .L) j (a .st);
+      remaining = m - visitsOf (a .c) (a .L) j (a .st);
     }
 
     abbrev rowsAtEnd : List ℕ → Type 0
@@ -278,24 +278,24 @@ module _ (s : List ℕ) (n j : ℕ) (state : Sweeping) (inside : j < n) where
       key = key-end;
     }
 
-  module _ (t : List ℕ) (x : Float) (own : ℕ) (passed : Sweeping) (met : Met) (read : x ≡ floatAt endWord) (counted : own ≡ ownCount) (pass : passed ≡ passedTo state x) (meets : Meets false s t n j (passed .«minimum_positive») (passed .left) met) where
-    end-answer : (a : AtEvent s n j state) → Answered (state .left) (visitsOf (a .c) (a .L) j (a .st)) met (metAtEnd a (state .left)) (rowsAtEnd a t)
+  module _ (t : List ℕ) (x : Float) (own : ℕ) (passed : Sweeping) (met : Met) (read : x ≡ floatAt endWord) (counted : own ≡ ownCount) (pass : passed ≡ passedTo state x) (meets : Meets false s t n j (passed .«minimum_positive») (passed .remaining) met) where
+    end-answer : (a : AtEvent s n j state) → Answered (state .remaining) (visitsOf (a .c) (a .L) j (a .st)) met (metAtEnd a (state .remaining)) (rowsAtEnd a t)
     end-answer a =
-        subst (λ (m : ℕ). Answered m (visitsOf (a .c) (a .L) j (a .st)) met (metAtEnd a m) (rowsAtEnd a t)) (ap (λ (z : Sweeping). z .left) pass)
+        subst (λ (m : ℕ). Answered m (visitsOf (a .c) (a .L) j (a .st)) met (metAtEnd a m) (rowsAtEnd a t)) (ap (λ (z : Sweeping). z .remaining) pass)
         (meets (a .c) (a .L) (a .st) (a .st .minimumPositive) (a .size) (a .tabled) (a .stored) (ap (λ (z : Sweeping). z .«minimum_positive») pass ∙ a .follows .least) (a .follows .held))
 
     pub end-stops : met ≡ Short → Handles s t n j state Spent
     end-stops h a =
-        subst (λ (e : Event). Steps (a .c) (a .L) n (a .st) e t (state .left) Spent) (sym (ends-at (a .L) j (place a)))
-        (stops (a .c) (a .L) n (a .st) (event true (ending a)) (state .left) met (metAtEnd a (state .left)) (rowsAtEnd a t) (end-answer a) t h)
+        subst (λ (e : Event). Steps (a .c) (a .L) n (a .st) e t (state .remaining) Spent) (sym (ends-at (a .L) j (place a)))
+        (stops (a .c) (a .L) n (a .st) (event true (ending a)) (state .remaining) met (metAtEnd a (state .remaining)) (rowsAtEnd a t) (end-answer a) t h)
 
     module _ (meeting : Meeting) (went : met ≡ Paid meeting) where
       -- what is taken away is there
       pub end-fits : AtEvent s n j state → (bit (not (eqb own 0)) + meeting .changed ≤ passed .«congested_active») × (meeting .neighbors ≤ passed .«close_pairs»)
       end-fits a =
-          let q = known (a .c) (a .L) n (a .st) (event true (ending a)) (state .left) met (metAtEnd a (state .left)) (rowsAtEnd a t) (end-answer a) meeting went in
-          let changed : meeting .changed ≡ metAtEnd a (state .left) .changed = ap (λ (m : Meeting). m .changed) q in
-          let met : meeting .neighbors ≡ metAtEnd a (state .left) .neighbors = ap (λ (m : Meeting). m .neighbors) q in
+          let q = known (a .c) (a .L) n (a .st) (event true (ending a)) (state .remaining) met (metAtEnd a (state .remaining)) (rowsAtEnd a t) (end-answer a) meeting went in
+          let changed : meeting .changed ≡ metAtEnd a (state .remaining) .changed = ap (λ (m : Meeting). m .changed) q in
+          let met : meeting .neighbors ≡ metAtEnd a (state .remaining) .neighbors = ap (λ (m : Meeting). m .neighbors) q in
           let active : passed .«congested_active» ≡ a .st .congestedActive = ap (λ (z : Sweeping). z .«congested_active») pass ∙ a .follows .active in
           let pairs : passed .«close_pairs» ≡ a .st .closePairs = ap (λ (z : Sweeping). z .«close_pairs») pass ∙ a .follows .pairs in
           let mine : bit (not (eqb own 0)) ≡ wasCongested (a .c) (ending a) (a .st) = ap (λ (k : ℕ). bit (not (eqb k 0))) counted ∙ sym (was-congested a) in
@@ -303,16 +303,16 @@ module _ (s : List ℕ) (n j : ℕ) (state : Sweeping) (inside : j < n) where
 
       pub end-goes : (u : List ℕ) (to : Sweeping) → CountsOnly n s t → length t ≡ length s → u ≡ deactivated n j t → to ≡ endedBy passed own meeting → Handles s u n j state (Went to)
       end-goes u to only long put done a =
-          subst (λ (e : Event). Steps (a .c) (a .L) n (a .st) e u (state .left) (Went to)) (sym (ends-at (a .L) j (place a)))
-          (goes (a .c) (a .L) n (a .st) (event true (ending a)) (state .left) met (metAtEnd a (state .left)) (rowsAtEnd a t) (end-answer a) meeting to u went (λ q rows.
+          subst (λ (e : Event). Steps (a .c) (a .L) n (a .st) e u (state .remaining) (Went to)) (sym (ends-at (a .L) j (place a)))
+          (goes (a .c) (a .L) n (a .st) (event true (ending a)) (state .remaining) met (metAtEnd a (state .remaining)) (rowsAtEnd a t) (end-answer a) meeting to u went (λ q rows.
           let room : 10 * n + 1 ≤ length t = omega (arith, a .room) in
           let some : 10 * n ≤ length t = omega arith in
-          let is : to ≡ endedBy (passedTo state (floatAt endWord)) ownCount (metAtEnd a (state .left)) = done ∙ (λ i. endedBy ((pass ∙ ap (passedTo state) read) i) (counted i) (q i)) in
+          let is : to ≡ endedBy (passedTo state (floatAt endWord)) ownCount (metAtEnd a (state .remaining)) = done ∙ (λ i. endedBy ((pass ∙ ap (passedTo state) read) i) (counted i) (q i)) in
           record {
             to = to;
             went = refl;
-            left = ap (λ (z : Sweeping). z .left) is;
-            follows = subst (λ (z : Sweeping). Follows z (atEnd (a .c) (ending a) (a .st) (ending a .wire .end))) (sym is) (follows-end a (state .left));
+            remaining = ap (λ (z : Sweeping). z .remaining) is;
+            follows = subst (λ (z : Sweeping). Follows z (atEnd (a .c) (ending a) (a .st) (ending a .wire .end))) (sym is) (follows-end a (state .remaining));
             tabled = tabled-then s n j state a j inside t u only (ap (take (8 * n)) put ∙ deactivated-front n j t inside some);
             stored = subst (λ (z : List ℕ). Stored (a .L) (atEnd (a .c) (ending a) (a .st) (ending a .wire .end)) (drop (8 * n) z)) (sym put) (deactivated-rows n j t inside some (a .c) (a .L) (a .st) (drop (8 * n) s) (ending a .wire .end) (a .size) (a .stored .rows) room rows);
           }))

@@ -106,7 +106,7 @@ module _ (starts : Bool) (n j : ℕ) (s₀ : List ℕ) (least₀ : Float) (allow
     pub only : CountsOnly n s₀ s
     pub within : p ≤ hi
     pub counts : (k : ℕ) → k < n → getD (drop (8 * n) s) k 0 ≡ cond (leb p k) (countAt k) (row k .neighbors)
-    pub paid : met .left + since _+_ 0 n p (λ k. bit (seen k)) ≡ allowance
+    pub paid : met .remaining + since _+_ 0 n p (λ k. bit (seen k)) ≡ allowance
     pub neighbors : met .neighbors ≡ since _+_ 0 n p (λ k. bit (near k))
     pub changed : met .changed ≡ since _+_ 0 n p (λ k. bit (turned k))
     pub highest : met .highest ≡ since max 0 n p reached
@@ -137,7 +137,7 @@ module _ (starts : Bool) (n j : ℕ) (s₀ : List ℕ) (least₀ : Float) (allow
     pub only : CountsOnly n s t
     pub count : getD (drop (8 * n) t) i 0 ≡ countAt i
     pub counts : (k : ℕ) → (k ≡ i → ⊥) → getD (drop (8 * n) t) k 0 ≡ getD (drop (8 * n) s) k 0
-    pub paid : next .left + 1 ≡ met .left
+    pub paid : next .remaining + 1 ≡ met .remaining
     pub neighbors : next .neighbors ≡ met .neighbors + bit (near i)
     pub changed : next .changed ≡ met .changed + bit (turned i)
     pub highest : next .highest ≡ max (met .highest) (reached i)
@@ -223,7 +223,7 @@ module _ (starts : Bool) (n j : ℕ) (s₀ : List ℕ) (least₀ : Float) (allow
     past-range k h a = seen-is k h ∙ rw (le-ltb k hi a, and-false (leb lo k)) (and-false (member (drop (9 * n) s₀) k))
 
     -- ---- before the loop
-    pub going-none : (met : Meeting) → met ≡ record { neighbors = 0; changed = 0; highest = 0; least = least₀; left = allowance } → Going met s₀ hi
+    pub going-none : (met : Meeting) → met ≡ record { neighbors = 0; changed = 0; highest = 0; least = least₀; remaining = allowance } → Going met s₀ hi
     going-none met e = subst (λ (m : Meeting). Going m s₀ hi) (sym e) (record {
       only = record { front = refl; behind = refl };
       within = omega arith;
@@ -277,7 +277,7 @@ module _ (starts : Bool) (n j : ℕ) (s₀ : List ℕ) (least₀ : Float) (allow
           pub differ : (getD s (5 * n + i) 0 ≡ net → ⊥) → near i ≡ true
           differ d = near-is ∙ ap not (ne-eqb (wire .net) (itemAt L i .wire .net) (λ e. d (net-here ∙ sym e ∙ sym net-wire)))
 
-          passing : 1 ≤ met .left → near i ≡ false → Adds met (paid met) s s i
+          passing : 1 ≤ met .remaining → near i ≡ false → Adds met (paid met) s s i
           passing left e = record {
             only = record { front = refl; behind = refl };
             count = getD-drop (8 * n) s i 0 ∙ old-count i (next-place .inside) (next-place .below) ∙ ap (λ (r : Row). r .neighbors) (sym (moved-not starts (row i))) ∙ ap (λ (b : Bool). moved starts b (row i) .neighbors) (sym e);
@@ -305,7 +305,7 @@ module _ (starts : Bool) (n j : ℕ) (s₀ : List ℕ) (least₀ : Float) (allow
             gap-is : met-gap ≡ gapOf (floatAt (getD s₀ (4 * n + i) 0)) (floatAt (getD s₀ (4 * n + j) 0))
             gap-is = ap₂ (λ (w : ℕ) (x : Float). gapOf (floatAt w) x) (front-word (4 * n + i) (omega (arith, next-place .inside))) at
 
-            meeting : 1 ≤ met .left → near i ≡ true → Adds met (withNeighbor starts met-count met-gap met) s (set s (8 * n + i) (countAfter starts met-count)) i
+            meeting : 1 ≤ met .remaining → near i ≡ true → Adds met (withNeighbor starts met-count met-gap met) s (set s (8 * n + i) (countAfter starts met-count)) i
             meeting left e = record {
               only = record { front = take-set-le (8 * n) s (8 * n + i) (countAfter starts met-count) (omega arith); behind = drop-set-lt (9 * n) s (8 * n + i) (countAfter starts met-count) (omega (arith, next-place .inside)) };
               count = getD-drop (8 * n) (set s (8 * n + i) (countAfter starts met-count)) i 0 ∙ getD-set-same s (8 * n + i) (countAfter starts met-count) 0 inside-counts ∙ ap (countAfter starts) count-is ∙ sym (moved-count starts (row i)) ∙ ap (λ (b : Bool). moved starts b (row i) .neighbors) (sym e);
@@ -319,7 +319,7 @@ module _ (starts : Bool) (n j : ℕ) (s₀ : List ℕ) (least₀ : Float) (allow
                   rw e (ap₂ withGap f gap-is ∙ k .0, k .1);
             }
 
-            pub visit-next : 1 ≤ met .left → (t : List ℕ) (next : Meeting) → Visits s t n i net here starts met next → Going next t i
+            pub visit-next : 1 ≤ met .remaining → (t : List ℕ) (next : Meeting) → Visits s t n i net here starts met next → Going next t i
             visit-next left t next v = elim (same-or-not (getD s (5 * n + i) 0) net) [
               | inl d ↦ let q = v .passes d in arrive (paid met) s (q .0) (q .1) (passing left (alike d))
               | inr d ↦ let q = v .meets d in arrive (withNeighbor starts met-count met-gap met) (set s (8 * n + i) (countAfter starts met-count)) (q .0) (q .1) (meeting left (differ d))
@@ -328,7 +328,7 @@ module _ (starts : Bool) (n j : ℕ) (s₀ : List ℕ) (least₀ : Float) (allow
                 arrive : (m : Meeting) (l : List ℕ) → next ≡ m → t ≡ l → Adds met m s l i → Going next t i
                 arrive m l e x a = subst (λ (z : Meeting). Going z t i) (sym e) (subst (λ (z : List ℕ). Going m z i) (sym x) (going-next met s p g i next-place m l a))
 
-        pub visit-stops : met .left ≡ 0 → allowance < fold _+_ 0 (λ k. bit (seen k)) (upTo n)
+        pub visit-stops : met .remaining ≡ 0 → allowance < fold _+_ 0 (λ k. bit (seen k)) (upTo n)
         visit-stops e =
             let a = g .paid in
             let b = paid-since met s p g i next-place in
@@ -352,7 +352,7 @@ module _ (starts : Bool) (n j : ℕ) (s₀ : List ℕ) (least₀ : Float) (allow
         changed = count (λ x. neighbor c wire x && eqb (x .neighbors) (turning starts)) (st .rows);
         highest = topmost starts (neighbor c wire) (st .rows);
         least = leastFloat (lesser ltb m (leastHere c (itemAt L j) st));
-        left = allowance - visits;
+        remaining = allowance - visits;
       }
 
       pub spent-meets : allowance < fold _+_ 0 (λ k. bit (seen k)) (upTo n) → (m : Option ℕ) (t : List ℕ) → (allowance < visits → Spent ≡ Spent) × (visits ≤ allowance → (Spent ≡ Went (outcome m)) × (rowsFrom L (drop (8 * n) t) ≡ map (λ x. moved starts (neighbor c wire x) x) (st .rows)))
@@ -365,7 +365,7 @@ module _ (starts : Bool) (n j : ℕ) (s₀ : List ℕ) (least₀ : Float) (allow
           | inr b ↦ below-range k h b
         ]
 
-        left-is : met .left + visits ≡ allowance
+        left-is : met .remaining + visits ≡ allowance
         left-is = let e = visits-are in let d = since-all plus n p (λ k. bit (seen k)) (λ k h a. ap bit (rest-unseen k h a)) in let f = g .paid in omega arith
 
         met-is : (m : Option ℕ) → least₀ ≡ leastFloat m → Held m → met ≡ outcome m
@@ -375,8 +375,8 @@ module _ (starts : Bool) (n j : ℕ) (s₀ : List ℕ) (least₀ : Float) (allow
             let d : met .highest ≡ topmost starts (neighbor c wire) (st .rows) = g .highest ∙ since-all greatest n p reached (λ k h a. unseen-reached k (rest-unseen k h a)) ∙ sym (over-rows greatest (λ x. cond (neighbor c wire x) (top starts (x .neighbors)) 0)) ∙ topmost-is starts (neighbor c wire) (st .rows) in
             let k = g .least m e h in
             let f : met .least ≡ leastFloat (lesser ltb m (leastHere c (itemAt L j) st)) = k .0 ∙ ap (λ (o : Option ℕ). leastFloat (lesser ltb m o)) (since-all fewest n p gapAt (λ k h a. unseen-gap k (rest-unseen k h a)) ∙ sym (over-rows fewest (λ x. cond (neighbor c wire x) (gap wire (x .item .wire)) none))) in
-            let l : met .left ≡ allowance - visits = omega (arith, left-is) in
-            λ i. record { neighbors = a i; changed = b i; highest = d i; least = f i; left = l i }
+            let l : met .remaining ≡ allowance - visits = omega (arith, left-is) in
+            λ i. record { neighbors = a i; changed = b i; highest = d i; least = f i; remaining = l i }
 
         counted : (k : ℕ) → k < n → getD (drop (8 * n) s) k 0 ≡ countAt k
         counted k h = g .counts k h ∙ elim (le-or-lt p k) [

@@ -35,7 +35,7 @@ pub record Turn (starts : Bool) (n j : ℕ) (s₀ : List ℕ) (least₀ : Float)
   pub rest-is : rest ≡ restBelow (drop (9 * n) s₀) to
 
 pub first-turn : {starts : Bool} {n j : ℕ} {s₀ : List ℕ} {least₀ : Float} {allowance : ℕ} {met : Meeting} {rest : ℕ} → Meetable starts s₀ n j
-    → met ≡ record { neighbors = 0; changed = 0; highest = 0; least = least₀; left = allowance }
+    → met ≡ record { neighbors = 0; changed = 0; highest = 0; least = least₀; remaining = allowance }
     → rest ≡ restBelow (midOf (9 * n) (length s₀ - 9 * n) s₀) (getD s₀ (7 * n + j) 0)
     → Turn starts n j s₀ least₀ allowance met s₀ (getD s₀ (7 * n + j) 0) rest
 first-turn {starts} {n} {j} {s₀} {least₀} {allowance} {met} a e b = record {
@@ -88,10 +88,10 @@ module _ {starts : Bool} {n j : ℕ} {s₀ : List ℕ} {least₀ : Float} {allow
       few : (met .neighbors ≤ n) × (met .changed ≤ n)
       few = going-few starts n j s₀ least₀ allowance (known .c) (known .L) met s to the-going
 
-      pub turn-stops : met .left ≡ 0 → Meets starts s₀ s n j least₀ allowance Spent
+      pub turn-stops : met .remaining ≡ 0 → Meets starts s₀ s n j least₀ allowance Spent
       turn-stops e c L st m size tabled stored f h = spent-meets starts n j s₀ least₀ allowance c L size tabled (known .inside) st stored (visit-stops starts n j s₀ least₀ allowance c L size tabled (known .inside) met s to (a .going c L size tabled) i (last .0) e) m s
 
-      module _ (left : met .left ≡ 0 → ⊥) {net : ℕ} (of : net ≡ getD s₀ (5 * n + j) 0) where
+      module _ (left : met .remaining ≡ 0 → ⊥) {net : ℕ} (of : net ≡ getD s₀ (5 * n + j) 0) where
         pub turn-visitable : Visitable s n i net starts met
         turn-visitable = record {
           few = known .few;
@@ -105,7 +105,7 @@ module _ {starts : Bool} {n j : ℕ} {s₀ : List ℕ} {least₀ : Float} {allow
               omega arith;
           neighbors = omega (arith, few .0, known .few);
           changed = omega (arith, few .1, known .few);
-          left = omega arith;
+          remaining = omega arith;
         }
 
         pub next-turn : {here : Float} → here ≡ floatAt (getD s₀ (4 * n + j) 0) → {t : List ℕ} {next : Meeting} → length t ≡ length s → Visits s t n i net here starts met next → Turn starts n j s₀ least₀ allowance next t i x

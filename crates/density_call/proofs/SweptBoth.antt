@@ -55,12 +55,12 @@ module _ (x : Float) (g : T (onGrid x)) where
 -- ---- what the checks leave
 module _ (s : SegmentColumns) (cutoff : Float) (words : ℕ) (passed : firstOf (congestionConditions s cutoff words) ≡ Passed) where
   -- nothing is swept
-  pub nothing-swept : le cutoff plusZero ≡ true → (m : ℕ) → Went (record { «congested_length» = plusZero; «pair_overlap_length» = plusZero; «peak_close_neighbors» = 0; «minimum_positive» = Absent; left = m }) ≡ foundOf (within m (allPairs cutoff (segments s)))
+  pub nothing-swept : le cutoff plusZero ≡ true → (m : ℕ) → Went (record { «congested_length» = plusZero; «pair_overlap_length» = plusZero; «peak_close_neighbors» = 0; «minimum_positive» = Absent; remaining = m }) ≡ foundOf (within m (allPairs cutoff (segments s)))
   unfolding foundOf lengths
   nothing-swept e m =
       let g = fit-cutoff s cutoff words passed in
       let k = lt-units plusZero cutoff (zero-stands .grid) g ∙ le-ltb (unit plusZero) (unit cutoff) (not-above cutoff g e) in
-      (λ i. Went (record { «congested_length» = sym zero-units i; «pair_overlap_length» = sym zero-units i; «peak_close_neighbors» = 0; «minimum_positive» = Absent; left = m }))
+      (λ i. Went (record { «congested_length» = sym zero-units i; «pair_overlap_length» = sym zero-units i; «peak_close_neighbors» = 0; «minimum_positive» = Absent; remaining = m }))
       ∙ sym (ap foundOf (ap (within m) (no-cutoff cutoff g k (segments s) (fit-list s cutoff words passed)) ∙ within-free m (lengths (total (map wireOf (segments s))) 0 0 0, Absent)))
 
   pub cutoff-above : le cutoff plusZero ≡ false → Cutoff cutoff

@@ -47,12 +47,12 @@ highest-of false h k = refl
 
 pub neighbor-met : (starts : Bool) (s : List ℕ) (at after lower x z : ℕ) (gap y : Float) (t : Meeting) → (starts ≡ false → 1 ≤ getD s at 0)
     → after ≡ countAfter starts (getD s at 0) → lower ≡ cond starts (getD s at 0) after → x ≡ t .changed + bit (eqb lower 0) → z ≡ cond starts (max (t .highest) after) (t .highest) → y ≡ withGap (t .least) gap
-    → (record { neighbors = t .neighbors + 1; changed = x; highest = z; least = y; left = t .left - 1 } ≡ withNeighbor starts (getD s at 0) gap t) × (set s at after ≡ set s at (countAfter starts (getD s at 0)))
+    → (record { neighbors = t .neighbors + 1; changed = x; highest = z; least = y; remaining = t .remaining - 1 } ≡ withNeighbor starts (getD s at 0) gap t) × (set s at after ≡ set s at (countAfter starts (getD s at 0)))
 neighbor-met starts s at after lower x z gap y t some a l e h f =
     let k = getD s at 0 in
     let turns : x ≡ t .changed + bit (eqb k (turning starts)) = e ∙ ap (λ (q : ℕ). t .changed + bit (eqb q 0)) (l ∙ ap (cond starts k) a) ∙ ap (λ (q : Bool). t .changed + bit q) (lower-turning starts k some) in
     let top : z ≡ highestAfter starts (t .highest) k = h ∙ ap (λ (q : ℕ). cond starts (max (t .highest) q) (t .highest)) a ∙ highest-of starts (t .highest) k in
-    ((λ i. record { neighbors = t .neighbors + 1; changed = turns i; highest = top i; least = f i; left = t .left - 1 }), ap (set s at) a)
+    ((λ i. record { neighbors = t .neighbors + 1; changed = turns i; highest = top i; least = f i; remaining = t .remaining - 1 }), ap (set s at) a)
 
 -- ---- a visit
 module _ (s : List ℕ) (n i net : ℕ) (here : Float) (starts : Bool) (t : Meeting) where
@@ -67,7 +67,7 @@ module _ (s : List ℕ) (n i net : ℕ) (here : Float) (starts : Bool) (t : Meet
       some = λ e. v .some e d;
       neighbors = v .neighbors;
       changed = v .changed;
-      left = v .left;
+      remaining = v .remaining;
     }
 
     pub visit-meets : (there gap : Float) (r : Meeting) (u : List ℕ) → there ≡ floatAt (getD s (4 * n + i) 0) → gap ≡ absOf (sub binary64 there here)

@@ -66,7 +66,7 @@ pub(crate) fn sweep_along(
             pair_overlap_length: 0.0,
             peak_close_neighbors: 0,
             minimum_positive: Gap::Absent,
-            left: allowance,
+            remaining: allowance,
         });
     }
     sweep_rows(s, n, from, total, cutoff, allowance)

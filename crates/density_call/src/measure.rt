@@ -37,7 +37,7 @@ fn together(across: Found, down: Found) -> Found
         pair_overlap_length: across.pair_overlap_length + down.pair_overlap_length,
         peak_close_neighbors: peak,
         minimum_positive: minimum,
-        left: down.left,
+        remaining: down.remaining,
     }
 }
 
@@ -62,7 +62,7 @@ fn sweep_both(
             pair_overlap_length: 0.0,
             peak_close_neighbors: 0,
             minimum_positive: Gap::Absent,
-            left: allowance,
+            remaining: allowance,
         });
     }
     if allowance < segments_to_sweep(orientation) {
@@ -91,7 +91,7 @@ fn sweep_both(
         start,
         end,
         cutoff,
-        across.left,
+        across.remaining,
     );
     let Swept::Went(down) = second else {
         return Swept::Spent;

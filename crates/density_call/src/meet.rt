@@ -20,7 +20,7 @@ pub(crate) struct Meeting {
     pub changed: usize,
     pub highest: usize,
     pub least: f64,
-    pub left: usize,
+    pub remaining: usize,
 }
 
 // The sweep stops where a visit is due and none is left.
@@ -91,7 +91,7 @@ fn meet_neighbor(s: &mut [u64], at: usize, starts: bool, gap: f64, meeting: Meet
         changed: changed,
         highest: highest_after(starts, meeting.highest, after),
         least: with_gap(meeting.least, gap),
-        left: meeting.left - 1,
+        remaining: meeting.remaining - 1,
     }
 }
 
@@ -111,7 +111,7 @@ fn visit(
     let other = s[5 * n + i];
     if other == net {
         let mut paid = meeting;
-        paid.left = meeting.left - 1;
+        paid.remaining = meeting.remaining - 1;
         return paid;
     }
     let there = float_of_key(s[4 * n + i]);
@@ -120,9 +120,16 @@ fn visit(
 }
 
 // The start or the end of wire j: the active wires of its range are visited from the greatest place down.
-pub(crate) fn meet(s: &mut [u64], n: usize, j: usize, starts: bool, least: f64, left: usize) -> Met
+pub(crate) fn meet(
+    s: &mut [u64],
+    n: usize,
+    j: usize,
+    starts: bool,
+    least: f64,
+    remaining: usize,
+) -> Met
     requires { ⌜ Meetable starts (now s) n j ⌝ }
-    ensures { λ r. ⌜ Meets starts (now (s .entry)) (now (s .exit)) n j least left r ⌝ }
+    ensures { λ r. ⌜ Meets starts (now (s .entry)) (now (s .exit)) n j least remaining r ⌝ }
     ensures { λ _. ⌜ CountsOnly n (now (s .entry)) (now (s .exit)) ⌝ }
 {
     let here = float_of_key(s[4 * n + j]);
@@ -135,14 +142,14 @@ pub(crate) fn meet(s: &mut [u64], n: usize, j: usize, starts: bool, least: f64, 
         changed: 0,
         highest: 0,
         least: least,
-        left: left,
+        remaining: remaining,
     };
     loop {
         let last = last_below(&s[9 * n..], from, to, rest);
         let Last::Found(i, below) = last else {
             return Met::Went(meeting);
         };
-        if meeting.left == 0 {
+        if meeting.remaining == 0 {
             return Met::Spent;
         }
         meeting = visit(s, n, i, net, here, starts, meeting);

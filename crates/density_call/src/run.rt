@@ -39,7 +39,7 @@ pub(crate) fn run_events(s: &mut [u64], n: usize, allowance: usize) -> Swept
         peak_close_neighbors: 0,
         minimum_positive: no_gap(),
         previous: coordinate,
-        left: allowance,
+        remaining: allowance,
     };
     let mut q = 0;
     while q < 2 * n {
@@ -57,6 +57,6 @@ pub(crate) fn run_events(s: &mut [u64], n: usize, allowance: usize) -> Swept
         pair_overlap_length: state.pair_overlap_length,
         peak_close_neighbors: state.peak_close_neighbors,
         minimum_positive: minimum,
-        left: state.left,
+        remaining: state.remaining,
     })
 }

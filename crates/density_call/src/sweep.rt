@@ -23,7 +23,7 @@ pub(crate) struct Sweeping {
     pub peak_close_neighbors: usize,
     pub minimum_positive: f64,
     pub previous: f64,
-    pub left: usize,
+    pub remaining: usize,
 }
 
 // Where the sweep stands after an event, or that the allowance is spent.
@@ -73,7 +73,7 @@ fn with_start(state: Sweeping, meeting: Meeting) -> Sweeping
         peak_close_neighbors: peak,
         minimum_positive: meeting.least,
         previous: state.previous,
-        left: meeting.left,
+        remaining: meeting.remaining,
     }
 }
 
@@ -92,7 +92,7 @@ fn with_end(state: Sweeping, count: usize, meeting: Meeting) -> Sweeping
         peak_close_neighbors: state.peak_close_neighbors,
         minimum_positive: meeting.least,
         previous: state.previous,
-        left: meeting.left,
+        remaining: meeting.remaining,
     }
 }
 
@@ -125,7 +125,7 @@ pub(crate) fn start_event(s: &mut [u64], n: usize, j: usize, state: Sweeping) ->
 {
     let coordinate = float_of_key(s[3 * n + j]);
     let passed = pass_to(state, coordinate);
-    let met = meet(s, n, j, true, passed.minimum_positive, passed.left);
+    let met = meet(s, n, j, true, passed.minimum_positive, passed.remaining);
     let Met::Went(meeting) = met else {
         return Handled::Spent;
     };
@@ -142,7 +142,7 @@ pub(crate) fn end_event(s: &mut [u64], n: usize, j: usize, state: Sweeping) -> H
     let coordinate = float_of_key(s[2 * n + j]);
     let count = s[8 * n + j] as usize;
     let passed = pass_to(state, coordinate);
-    let met = meet(s, n, j, false, passed.minimum_positive, passed.left);
+    let met = meet(s, n, j, false, passed.minimum_positive, passed.remaining);
     let Met::Went(meeting) = met else {
         return Handled::Spent;
     };

@@ -2,12 +2,12 @@
 ghost use mathlib.Core.Path.{_≡_};
 ghost use Prim.Native.Nat.{_-_};
 
-// The visits used are those that are no longer left. No walk leaves more than it was allowed; where more is left, none was used.
-pub fn visits_used(allowance: usize, left: usize) -> usize
-    ensures { λ r. ⌜ r ≡ allowance - left ⌝ }
+// The visits used are those that no longer remain. No walk leaves more than it was allowed; where more remain, none was used.
+pub fn visits_used(allowance: usize, remaining: usize) -> usize
+    ensures { λ r. ⌜ r ≡ allowance - remaining ⌝ }
 {
-    if allowance < left {
+    if allowance < remaining {
         return 0;
     }
-    allowance - left
+    allowance - remaining
 }

@@ -28,7 +28,7 @@ use Rattle.separation.specs.Inner.States.{metBy, atStart, outcomeOf, fou
 use Rattle.separation.proofs.Summaries.{both}
 
 -- ---- what the code's answer says of a run while the sweep runs
-pub went-on : (r : Handled) (t : Sweeping) (o : Outcome Figures) → r ≡ Went t → outcomeOf r ≡ o → o ≡ left (metBy t) (t .left)
+pub went-on : (r : Handled) (t : Sweeping) (o : Outcome Figures) → r ≡ Went t → outcomeOf r ≡ o → o ≡ left (metBy t) (t .remaining)
 unfolding outcomeOf
 went-on r t o e h = sym h ∙ ap outcomeOf e
 
@@ -40,12 +40,12 @@ pub stops : (o : Outcome Figures) → o ≡ spent → outcomeOf Spent ≡ o
 unfolding outcomeOf
 stops o e = sym e
 
-pub goes : (t : Sweeping) (o : Outcome Figures) → o ≡ left (metBy t) (t .left) → outcomeOf (Went t) ≡ o
+pub goes : (t : Sweeping) (o : Outcome Figures) → o ≡ left (metBy t) (t .remaining) → outcomeOf (Went t) ≡ o
 unfolding outcomeOf
 goes t o e = sym e
 
 -- ---- and of a whole sweep
-pub went-is : (o : Outcome Figures) (t : Found) → Done t ≡ sweptOf o → o ≡ left (foundBy t) (t .left)
+pub went-is : (o : Outcome Figures) (t : Found) → Done t ≡ sweptOf o → o ≡ left (foundBy t) (t .remaining)
 unfolding sweptOf
 went-is spent t e = cc
 went-is (left f m) t e = cc
@@ -88,10 +88,10 @@ pub answers-spent : (r : Swept) (allowance : ℕ) → r ≡ Over → Answers r a
 unfolding reply
 answers-spent r allowance h o e = sym (rw (spent-is o (sym h ∙ e)))
 
-pub answers-went : (r : Swept) (allowance : ℕ) (t : Found) (v : ℕ) → r ≡ Done t → v ≡ allowance - t .left → Answers r allowance (Report (record { minimum = t .minimum; «minimum_positive» = t .«minimum_positive»; visits = v }))
+pub answers-went : (r : Swept) (allowance : ℕ) (t : Found) (v : ℕ) → r ≡ Done t → v ≡ allowance - t .remaining → Answers r allowance (Report (record { minimum = t .minimum; «minimum_positive» = t .«minimum_positive»; visits = v }))
 unfolding reply
 answers-went r allowance t v h k o e =
-    let z : Report (record { minimum = t .minimum; «minimum_positive» = t .«minimum_positive»; visits = allowance - t .left }) ≡ reply accepted (Refused WorkLimitExceeded) allowance o = sym (rw (went-is o t (sym h ∙ e))) in
+    let z : Report (record { minimum = t .minimum; «minimum_positive» = t .«minimum_positive»; visits = allowance - t .remaining }) ≡ reply accepted (Refused WorkLimitExceeded) allowance o = sym (rw (went-is o t (sym h ∙ e))) in
     ap (λ (n : ℕ). Report (record { minimum = t .minimum; «minimum_positive» = t .«minimum_positive»; visits = n })) k ∙ z
 
 -- ---- the allowance: a fifth of it in place of five times the segments

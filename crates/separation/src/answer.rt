@@ -14,7 +14,7 @@ pub fn answer_of(swept: Swept, allowance: usize) -> SeparationAnswer
     };
     let minimum = found.minimum;
     let positive = found.minimum_positive;
-    let visits = visits_used(allowance, found.left);
+    let visits = visits_used(allowance, found.remaining);
     SeparationAnswer::Report(ParallelSeparation {
         minimum: minimum,
         minimum_positive: positive,

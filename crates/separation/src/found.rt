@@ -9,7 +9,7 @@ use drawing::minimum_option;
 pub struct Found {
     pub minimum: Gap,
     pub minimum_positive: Gap,
-    pub left: usize,
+    pub remaining: usize,
 }
 
 // What the sweep found, or that the allowance is spent.
@@ -21,7 +21,7 @@ pub enum Swept {
 // The lesser of each figure, with what the second sweep left.
 pub fn together(across: Found, down: Found) -> Found
     ensures { λ r. ⌜ foundBy r ≡ lesserFigures (foundBy across) (foundBy down) ⌝ }
-    ensures { λ r. ⌜ r .left ≡ down .left ⌝ }
+    ensures { λ r. ⌜ r .remaining ≡ down .remaining ⌝ }
 {
     let one = across.minimum;
     let other = down.minimum;
@@ -32,6 +32,6 @@ pub fn together(across: Found, down: Found) -> Found
     Found {
         minimum: minimum,
         minimum_positive: positive,
-        left: down.left,
+        remaining: down.remaining,
     }
 }

@@ -15,7 +15,7 @@ use floats::absolute;
 pub struct Sweeping {
     pub minimum: f64,
     pub minimum_positive: f64,
-    pub left: usize,
+    pub remaining: usize,
 }
 
 // Where the sweep stands after an event, or that the allowance is spent.
@@ -31,34 +31,34 @@ pub fn at_start(allowance: usize) -> Sweeping
     Sweeping {
         minimum: no_gap(),
         minimum_positive: no_gap(),
-        left: allowance,
+        remaining: allowance,
     }
 }
 
 // Another net on the segment's own line makes the least gap 0. The caller hands over what the look at it left.
-pub fn with_own_line(own: bool, left: usize, state: Sweeping) -> Sweeping
+pub fn with_own_line(own: bool, remaining: usize, state: Sweeping) -> Sweeping
     ensures { λ r. ⌜ metBy r ≡ ownLine own (metBy state) ⌝ }
-    ensures { λ r. ⌜ r .left ≡ left ⌝ }
+    ensures { λ r. ⌜ r .remaining ≡ remaining ⌝ }
 {
     let nonzero = state.minimum_positive;
     if own {
         return Sweeping {
             minimum: 0.0,
             minimum_positive: nonzero,
-            left: left,
+            remaining: remaining,
         };
     }
     Sweeping {
         minimum: state.minimum,
         minimum_positive: nonzero,
-        left: left,
+        remaining: remaining,
     }
 }
 
 // The gap to the line that a search found joins both figures: it is another line than the segment's own, so that the gap is not 0. The sweep hands over finite coordinates, whose gap is a number.
-pub fn with_other_line(there: f64, here: f64, left: usize, state: Sweeping) -> Sweeping
+pub fn with_other_line(there: f64, here: f64, remaining: usize, state: Sweeping) -> Sweeping
     ensures { λ r. ⌜ (Number (gapOf there here) → metBy r ≡ withGap (gapOf there here) (metBy state)) ⌝ }
-    ensures { λ r. ⌜ r .left ≡ left ⌝ }
+    ensures { λ r. ⌜ r .remaining ≡ remaining ⌝ }
 {
     let gap = absolute(there - here);
     let minimum = least_with(state.minimum, gap);
@@ -66,7 +66,7 @@ pub fn with_other_line(there: f64, here: f64, left: usize, state: Sweeping) -> S
     Sweeping {
         minimum: minimum,
         minimum_positive: positive,
-        left: left,
+        remaining: remaining,
     }
 }
 
@@ -74,13 +74,13 @@ pub fn with_other_line(there: f64, here: f64, left: usize, state: Sweeping) -> S
 pub fn after_charge(charge: Charge, state: Sweeping) -> Handled
     ensures { λ r. ⌜ r ≡ chargedTo state charge ⌝ }
 {
-    let Charge::Paid(left) = charge else {
+    let Charge::Paid(remaining) = charge else {
         return Handled::Spent;
     };
     Handled::Went(Sweeping {
         minimum: state.minimum,
         minimum_positive: state.minimum_positive,
-        left: left,
+        remaining: remaining,
     })
 }
 
@@ -93,6 +93,6 @@ pub fn found_in(state: Sweeping) -> Found
     Found {
         minimum: minimum,
         minimum_positive: positive,
-        left: state.left,
+        remaining: state.remaining,
     }
 }

@@ -40,7 +40,7 @@ module _ (s e : List ℕ) (o n : ℕ) (c : SegmentColumns) (a : AtColumns (lengt
   count = rows-count s e o n c (a .agree) narrow ordered
 
   -- fewer than two segments cost nothing
-  pub few-swept : (allowance : ℕ) → n < 2 → Went (record { minimum = Absent; «minimum_positive» = Absent; left = allowance }) ≡ sweptOf (within allowance (along l))
+  pub few-swept : (allowance : ℕ) → n < 2 → Went (record { minimum = Absent; «minimum_positive» = Absent; remaining = allowance }) ≡ sweptOf (within allowance (along l))
   unfolding sweptOf
   few-swept allowance h = sym (ap sweptOf (along-few allowance l (omega (arith, count))))
 

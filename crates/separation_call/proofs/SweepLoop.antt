@@ -57,7 +57,7 @@ module _ (s : List ℕ) (n leaves e : ℕ) where
   module _ (t : List ℕ) (st : Sweeping) (r : Handled) where
     -- a step that is known by its event
     abbrev Step : List Row → List ℕ → ℕ → ℕ → Charged Sweep → Type 0
-    Step l F H b c = (outcomeOf r ≡ figuresOf (within (st .left) c)) × ((to : Sweeping) → r ≡ Went to → Ready l F H (b + 1) (c .value .active) t)
+    Step l F H b c = (outcomeOf r ≡ figuresOf (within (st .remaining) c)) × ((to : Sweeping) → r ≡ Went to → Ready l F H (b + 1) (c .value .active) t)
 
     pub handles-end : e < n → Finishes s t n leaves e st r → Handles s t n leaves e st r
     handles-end h f l F H b active size count ready there =
@@ -92,7 +92,7 @@ module _ (l : List Row) (F : List ℕ) (H allowance : ℕ) where
     pub proper : (r : Row) → Mem r l → r .start < r .end
     pub state : State l active (drop q (events l))
     pub below : q ≤ 2 * length l
-    pub onwards : Onwards (step (lines l) H) whole (drop q (events l)) (record { active = active; met = metBy st }) (st .left)
+    pub onwards : Onwards (step (lines l) H) whole (drop q (events l)) (record { active = active; met = metBy st }) (st .remaining)
 
   pub going-none : (st : Sweeping) (s : List ℕ) → Ready l F H 0 [] s → ((r : Row) → Mem r l → r .start < r .end) → st ≡ atStart allowance → Going st s 0
   going-none st s ready proper e = record {
@@ -101,7 +101,7 @@ module _ (l : List Row) (F : List ℕ) (H allowance : ℕ) where
     proper = proper;
     state = begin l;
     below = omega arith;
-    onwards = record { come = λ i. within (e i .left) (runs (step (lines l) H) (record { active = []; met = (ap metBy e ∙ start-met allowance) i }) (events l)) };
+    onwards = record { come = λ i. within (e i .remaining) (runs (step (lines l) H) (record { active = []; met = (ap metBy e ∙ start-met allowance) i }) (events l)) };
   }
 
   module _ (st : Sweeping) (s : List ℕ) (q : ℕ) (g : Going st s q) where
@@ -153,30 +153,30 @@ module _ (l : List Row) (F : List ℕ) (H allowance : ℕ) where
             subst (λ (z : List Row). State l z (drop (q + 1) (events l))) (sym a) (after-start l (g .proper) (g .active) j (rowFrom l j) (drop (q + 1) (events l)) (subst (λ (z : Event). State l (g .active) (z ∷ drop (q + 1) (events l))) e now-state))
       ]
 
-      module _ (r : Handled) (t : List ℕ) (e : outcomeOf r ≡ figuresOf (within (st .left) c)) (k : (to : Sweeping) → r ≡ Went to → Ready l F H (q + 1) (c .value .active) t) where
+      module _ (r : Handled) (t : List ℕ) (e : outcomeOf r ≡ figuresOf (within (st .remaining) c)) (k : (to : Sweeping) → r ≡ Went to → Ready l F H (q + 1) (c .value .active) t) where
         pub going-stops : r ≡ Spent → Over ≡ sweptOf all
         unfolding sweptOf
         going-stops x =
-            let z = read-spent (λ (a : Sweep). a .met) (st .left) c (stopped r (figuresOf (within (st .left) c)) x e) in
+            let z = read-spent (λ (a : Sweep). a .met) (st .remaining) c (stopped r (figuresOf (within (st .remaining) c)) x e) in
             sym (ap sweptOf (ap figuresOf (loop-stops (g .onwards) next-is z) ∙ onward-spent (λ t m. left (t .met) m)))
 
         pub going-next : (to : Sweeping) → r ≡ Went to → Going to t (q + 1)
         going-next to x =
-            let z = read-left (λ (a : Sweep). a .met) (st .left) c (metBy to) (to .left) (went-on r to (figuresOf (within (st .left) c)) x e) in
+            let z = read-left (λ (a : Sweep). a .met) (st .remaining) c (metBy to) (to .remaining) (went-on r to (figuresOf (within (st .remaining) c)) x e) in
             record {
               active = c .value .active;
               ready = k to x;
               proper = g .proper;
               state = next-state;
               below = omega arith;
-              onwards = loop-next (g .onwards) next-is (z .0 ∙ (λ i. left (record { active = c .value .active; met = z .1 i }) (to .left)));
+              onwards = loop-next (g .onwards) next-is (z .0 ∙ (λ i. left (record { active = c .value .active; met = z .1 i }) (to .remaining)));
             }
 
     pub going-all : 2 * length l ≤ q → (f : Found) → f ≡ foundIn st → Done f ≡ sweptOf all
     unfolding sweptOf
     going-all h f k =
         let e = told-none 0 (eventFrom l) (2 * length l) F enough (events l) (g .ready .prepared .ordered) q h in
-        ap Done k ∙ sym (ap sweptOf (ap figuresOf (loop-ends (g .onwards) e) ∙ onward-left (record { active = g .active; met = metBy st }) (st .left) (λ t m. left (t .met) m)))
+        ap Done k ∙ sym (ap sweptOf (ap figuresOf (loop-ends (g .onwards) e) ∙ onward-left (record { active = g .active; met = metBy st }) (st .remaining) (λ t m. left (t .met) m)))
 
   -- all events are the sweep
   pub swept-all : H ≡ levels (length (lines l)) → sweptOf all ≡ sweptOf (within allowance (sweep l))
@@ -220,7 +220,7 @@ module _ (n leaves allowance : ℕ) (s₀ : List ℕ) where
       less-rows : q < 2 * length l
       less-rows = omega arith
 
-      handled : let c = step (lines l) H (record { active = o .active; met = metBy st }) (eventFrom l (getD s q 0)) in (outcomeOf r ≡ figuresOf (within (st .left) c)) × ((to : Sweeping) → r ≡ Went to → Ready l F H (q + 1) (c .value .active) t)
+      handled : let c = step (lines l) H (record { active = o .active; met = metBy st }) (eventFrom l (getD s q 0)) in (outcomeOf r ≡ figuresOf (within (st .remaining) c)) × ((to : Sweeping) → r ≡ Went to → Ready l F H (q + 1) (c .value .active) t)
       handled = subst (λ (k : ℕ). Handles s t n leaves k st r) read f l F H q (o .active) size count (o .ready) (λ k. ends-active l F H allowance st s q o less-rows (omega arith))
 
     pub run-next : (to : Sweeping) → r ≡ Went to → Runs to t (q + 1)

@@ -168,12 +168,12 @@ module _ (ls : List ℕ) (H : ℕ) (active : List Row) (st : Sweeping) (x : Row)
   abbrev here : Sweep
   here = record { active = active; met = metBy st }
 
-  start-figures : figuresOf (within (st .left) (startsAt ls H here x)) ≡ onward (within (st .left) (looking ls H active (metBy st) x)) (λ f r. onward (within r (setRun H)) (λ done r. left f r))
+  start-figures : figuresOf (within (st .remaining) (startsAt ls H here x)) ≡ onward (within (st .remaining) (looking ls H active (metBy st) x)) (λ f r. onward (within r (setRun H)) (λ done r. left f r))
   unfolding startsAt
   start-figures =
-      within-read (λ (t : Sweep). t .met) (st .left) (startsAt ls H here x)
-      ∙ within-after (st .left) (looking ls H active (metBy st) x) (λ f. after (setRun H) (λ done. free f))
-      ∙ (λ i. onward (within (st .left) (looking ls H active (metBy st) x)) (λ f r. paid f r i))
+      within-read (λ (t : Sweep). t .met) (st .remaining) (startsAt ls H here x)
+      ∙ within-after (st .remaining) (looking ls H active (metBy st) x) (λ f. after (setRun H) (λ done. free f))
+      ∙ (λ i. onward (within (st .remaining) (looking ls H active (metBy st) x)) (λ f r. paid f r i))
     where
       paid : (f : Figures) (r : ℕ) → within r (after (setRun H) (λ done. free f)) ≡ onward (within r (setRun H)) (λ done r. left f r)
       paid f r = within-after r (setRun H) (λ done. free f) ∙ (λ i. onward (within r (setRun H)) (λ done k. within-free k f i))
@@ -186,19 +186,19 @@ module _ (ls : List ℕ) (H : ℕ) (active : List Row) (st : Sweeping) (x : Row)
   unfolding endsAt
   end-active = refl
 
-  module _ (looked-at : Handled) (looked : outcomeOf looked-at ≡ within (st .left) (looking ls H active (metBy st) x)) where
-    start-stops : looked-at ≡ Spent → outcomeOf Spent ≡ figuresOf (within (st .left) (startsAt ls H here x))
+  module _ (looked-at : Handled) (looked : outcomeOf looked-at ≡ within (st .remaining) (looking ls H active (metBy st) x)) where
+    start-stops : looked-at ≡ Spent → outcomeOf Spent ≡ figuresOf (within (st .remaining) (startsAt ls H here x))
     start-stops e =
-        let z : onward (within (st .left) (looking ls H active (metBy st) x)) (λ f r. onward (within r (setRun H)) (λ done r. left f r)) ≡ spent = rw (stopped looked-at (within (st .left) (looking ls H active (metBy st) x)) e looked) (onward-spent (λ f r. onward (within r (setRun H)) (λ done r. left f r))) in
+        let z : onward (within (st .remaining) (looking ls H active (metBy st) x)) (λ f r. onward (within r (setRun H)) (λ done r. left f r)) ≡ spent = rw (stopped looked-at (within (st .remaining) (looking ls H active (metBy st) x)) e looked) (onward-spent (λ f r. onward (within r (setRun H)) (λ done r. left f r))) in
         stops _ (start-figures ∙ z)
 
-    start-goes : (seen : Sweeping) (r : Handled) → looked-at ≡ Went seen → outcomeOf r ≡ onward (within (seen .left) (setRun H)) (λ done m. left (metBy seen) m) → outcomeOf r ≡ figuresOf (within (st .left) (startsAt ls H here x))
+    start-goes : (seen : Sweeping) (r : Handled) → looked-at ≡ Went seen → outcomeOf r ≡ onward (within (seen .remaining) (setRun H)) (λ done m. left (metBy seen) m) → outcomeOf r ≡ figuresOf (within (st .remaining) (startsAt ls H here x))
     start-goes seen r e g =
-        let z : onward (within (st .left) (looking ls H active (metBy st) x)) (λ f r. onward (within r (setRun H)) (λ done r. left f r)) ≡ onward (within (seen .left) (setRun H)) (λ done m. left (metBy seen) m) = rw (went-on looked-at seen (within (st .left) (looking ls H active (metBy st) x)) e looked) (onward-left (metBy seen) (seen .left) (λ f r. onward (within r (setRun H)) (λ done r. left f r))) in
+        let z : onward (within (st .remaining) (looking ls H active (metBy st) x)) (λ f r. onward (within r (setRun H)) (λ done r. left f r)) ≡ onward (within (seen .remaining) (setRun H)) (λ done m. left (metBy seen) m) = rw (went-on looked-at seen (within (st .remaining) (looking ls H active (metBy st) x)) e looked) (onward-left (metBy seen) (seen .remaining) (λ f r. onward (within r (setRun H)) (λ done r. left f r))) in
         g ∙ sym (start-figures ∙ z)
 
-  end-goes : (r : Handled) → outcomeOf r ≡ onward (within (st .left) (setRun H)) (λ done m. left (metBy st) m) → outcomeOf r ≡ figuresOf (within (st .left) (endsAt H here x))
-  end-goes r g = g ∙ sym (ap figuresOf (end-within H (st .left) here x) ∙ flatten active st x (within (st .left) (setRun H)))
+  end-goes : (r : Handled) → outcomeOf r ≡ onward (within (st .remaining) (setRun H)) (λ done m. left (metBy st) m) → outcomeOf r ≡ figuresOf (within (st .remaining) (endsAt H here x))
+  end-goes r g = g ∙ sym (ap figuresOf (end-within H (st .remaining) here x) ∙ flatten active st x (within (st .remaining) (setRun H)))
 
 never : (to : Sweeping) → Spent ≡ Went to → ⊥
 never to e = let z : _≡_ {A = ℕ} 0 1 = cc in omega arith
@@ -218,7 +218,7 @@ LookedAt n s leaves j st looked-at = Looks (tail (12 * n) s) (tail (6 * n) s) le
 
 module _ (s : List ℕ) (leaves j : ℕ) (st : Sweeping) where
   module _ (l : List Row) (F : List ℕ) (H b : ℕ) (active : List Row) (count : leaves ≡ 2 ^ H) (ready : Ready l F H b active s) where
-    look-is : (looked-at : Handled) → j < length l → LookedAt (length l) s leaves j st looked-at → outcomeOf looked-at ≡ within (st .left) (looking (lines l) H active (metBy st) (rowFrom l j))
+    look-is : (looked-at : Handled) → j < length l → LookedAt (length l) s leaves j st looked-at → outcomeOf looked-at ≡ within (st .remaining) (looking (lines l) H active (metBy st) (rowFrom l j))
     look-is looked-at h f =
         let n = length l in
         f (lines l) H active (rowFrom l j) count
@@ -232,7 +232,7 @@ module _ (s : List ℕ) (leaves j : ℕ) (st : Sweeping) where
   -- the look was not paid for
   pub begins-not : (n : ℕ) (looked-at : Handled) (t : List ℕ) → j < n → LookedAt n s leaves j st looked-at → looked-at ≡ Spent → Begins s t n leaves j st Spent
   begins-not n looked-at t h f e l F H b active size count ready =
-      let looked = subst (λ (m : ℕ). j < m → LookedAt m s leaves j st looked-at → outcomeOf looked-at ≡ within (st .left) (looking (lines l) H active (metBy st) (rowFrom l j))) size (look-is l F H b active count ready looked-at) h f in
+      let looked = subst (λ (m : ℕ). j < m → LookedAt m s leaves j st looked-at → outcomeOf looked-at ≡ within (st .remaining) (looking (lines l) H active (metBy st) (rowFrom l j))) size (look-is l F H b active count ready looked-at) h f in
       (start-stops (lines l) H active st (rowFrom l j) looked-at looked e, λ to g. absurd (never to g))
 
   pub begins : (n : ℕ) (looked-at r : Handled) (seen : Sweeping) (e : List ℕ) → j < n → LookedAt n s leaves j st looked-at → looked-at ≡ Went seen → Pays leaves seen r
@@ -246,7 +246,7 @@ module _ (s : List ℕ) (leaves j : ℕ) (st : Sweeping) where
     where
       Then : ℕ → Type 0
       Then n = j < n → LookedAt n s leaves j st looked-at → Entered n leaves (getD s (7 * n + j) 0) (getD s (4 * n + j) 0) (getD s (5 * n + j) 0) (tail (9 * n) s) e r → length e ≡ length (tail (9 * n) s)
-          → (outcomeOf r ≡ figuresOf (within (st .left) (startsAt (lines l) H (record { active = active; met = metBy st }) (rowFrom l j)))) × ((to : Sweeping) → r ≡ Went to → Ready l F H (b + 1) (rowFrom l j ∷ active) (putMid (9 * n) (length s - 9 * n) s e))
+          → (outcomeOf r ≡ figuresOf (within (st .remaining) (startsAt (lines l) H (record { active = active; met = metBy st }) (rowFrom l j)))) × ((to : Sweeping) → r ≡ Went to → Ready l F H (b + 1) (rowFrom l j ∷ active) (putMid (9 * n) (length s - 9 * n) s e))
 
   pub finishes : (n : ℕ) (r : Handled) (e : List ℕ) → j < n → Pays leaves st r
       → TakenOut n leaves (getD s (7 * n + j) 0) (getD s (4 * n + j) 0) (getD s (5 * n + j) 0) (tail (9 * n) s) e r → length e ≡ length (tail (9 * n) s)
@@ -259,7 +259,7 @@ module _ (s : List ℕ) (leaves j : ℕ) (st : Sweeping) where
     where
       Then : ℕ → Type 0
       Then n = j < n → TakenOut n leaves (getD s (7 * n + j) 0) (getD s (4 * n + j) 0) (getD s (5 * n + j) 0) (tail (9 * n) s) e r → length e ≡ length (tail (9 * n) s)
-          → (outcomeOf r ≡ figuresOf (within (st .left) (endsAt H (record { active = active; met = metBy st }) (rowFrom l j)))) × ((to : Sweeping) → r ≡ Went to → Ready l F H (b + 1) (remove (rowFrom l j) active) (putMid (9 * n) (length s - 9 * n) s e))
+          → (outcomeOf r ≡ figuresOf (within (st .remaining) (endsAt H (record { active = active; met = metBy st }) (rowFrom l j)))) × ((to : Sweeping) → r ≡ Went to → Ready l F H (b + 1) (remove (rowFrom l j) active) (putMid (9 * n) (length s - 9 * n) s e))
 
 -- ---- what the calls ask for
 module _ (s : List ℕ) (n leaves j : ℕ) (a : AtStart s n leaves j) where

@@ -47,11 +47,11 @@ module _ (ls : List ℕ) (line : ℕ) (st : Sweeping) (o : Outcome (Option ℕ))
   pub joined-spent : search ≡ Over → outcomeOf Spent ≡ joined ls (getD ls line 0) (metBy st) o
   joined-spent h = stops _ (rw (was-spent o (sym h ∙ e)) (onward-spent _))
 
-  pub joined-empty : (m : ℕ) → search ≡ Empty m → outcomeOf (Went (record { minimum = st .minimum; «minimum_positive» = st .«minimum_positive»; left = m })) ≡ joined ls (getD ls line 0) (metBy st) o
+  pub joined-empty : (m : ℕ) → search ≡ Empty m → outcomeOf (Went (record { minimum = st .minimum; «minimum_positive» = st .«minimum_positive»; remaining = m })) ≡ joined ls (getD ls line 0) (metBy st) o
   joined-empty m h = goes _ _ (rw (was-empty o m (sym h ∙ e)) (onward-left none m _))
 
   pub joined-found : (fixed : List ℕ) (i m : ℕ) (there here : Float) (t : Sweeping) → search ≡ Found i m → take (length ls) fixed ≡ ls → WithinLines search line (length ls) → Gapped ls
-      → there ≡ floatAt (getD fixed i 0) → here ≡ floatAt (getD fixed line 0) → (Number (gapOf there here) → metBy t ≡ withGap (gapOf there here) (metBy st)) → t .left ≡ m
+      → there ≡ floatAt (getD fixed i 0) → here ≡ floatAt (getD fixed line 0) → (Number (gapOf there here) → metBy t ≡ withGap (gapOf there here) (metBy st)) → t .remaining ≡ m
       → outcomeOf (Went t) ≡ joined ls (getD ls line 0) (metBy st) o
   joined-found fixed i m there here t h f w gaps p q g k =
       let at : (k : ℕ) → k < length ls → getD fixed k 0 ≡ getD ls k 0 = λ k b. sym (getD-take (length ls) fixed k 0 b) ∙ ap (λ (l : List ℕ). getD l k 0) f in
@@ -209,38 +209,38 @@ module _ (tree fixed : List ℕ) (leaves line net : ℕ) (st : Sweeping) (ls : L
   Joins t search r = (ls : List ℕ) (o : Outcome (Option ℕ)) → search ≡ searchOf o → take (length ls) fixed ≡ ls → WithinLines search line (length ls) → Gapped ls → outcomeOf r ≡ joined ls (getD ls line 0) (metBy t) o
 
   -- `has_other_at` was answered
-  module _ (at : OtherNet) (told : at ≡ otherNetOf (within (st .left) (visit (free (hasOther (summaryAt tree (leaves + line)) net))))) where
-    own-run : within (st .left) (visit (free (hasOther (summaryAt tree (leaves + line)) net))) ≡ within (st .left) (visit (free (otherIn ls active (x .net) (index ls (x .line)) (suc (index ls (x .line))))))
-    own-run = ap (λ (b : Bool). within (st .left) (visit (free b))) own-stored
+  module _ (at : OtherNet) (told : at ≡ otherNetOf (within (st .remaining) (visit (free (hasOther (summaryAt tree (leaves + line)) net))))) where
+    own-run : within (st .remaining) (visit (free (hasOther (summaryAt tree (leaves + line)) net))) ≡ within (st .remaining) (visit (free (otherIn ls active (x .net) (index ls (x .line)) (suc (index ls (x .line))))))
+    own-run = ap (λ (b : Bool). within (st .remaining) (visit (free b))) own-stored
 
-    pub look-none : at ≡ Unpaid → outcomeOf Spent ≡ within (st .left) (looking ls H active (metBy st) x)
-    look-none e = stops _ (looking-spent ls H active (metBy st) x (st .left) (sym own-run ∙ was-unpaid _ (sym e ∙ told)))
+    pub look-none : at ≡ Unpaid → outcomeOf Spent ≡ within (st .remaining) (looking ls H active (metBy st) x)
+    look-none e = stops _ (looking-spent ls H active (metBy st) x (st .remaining) (sym own-run ∙ was-unpaid _ (sym e ∙ told)))
 
-    module _ (own : Bool) (begun : Sweeping) (rest : ℕ) (known : at ≡ Known own rest) (search : Search) (handled : Handled) (b : metBy begun ≡ ownLine own (metBy st)) (d : begun .left ≡ rest)
-        (s : (K : ℕ) → leaves ≡ 2 ^ K → search ≡ searchOf (within (begun .left) (rightmost stored line K 1 0))) (j : Joins begun search handled) where
+    module _ (own : Bool) (begun : Sweeping) (rest : ℕ) (known : at ≡ Known own rest) (search : Search) (handled : Handled) (b : metBy begun ≡ ownLine own (metBy st)) (d : begun .remaining ≡ rest)
+        (s : (K : ℕ) → leaves ≡ 2 ^ K → search ≡ searchOf (within (begun .remaining) (rightmost stored line K 1 0))) (j : Joins begun search handled) where
       abbrev first : Outcome Figures
-      first = joined ls (x .line) (ownLine own (metBy st)) (within (begun .left) (rightmost others (index ls (x .line)) H 1 0))
+      first = joined ls (x .line) (ownLine own (metBy st)) (within (begun .remaining) (rightmost others (index ls (x .line)) H 1 0))
 
       abbrev second : Figures → ℕ → Outcome Figures
       second g r = joined ls (x .line) g (within r (leftmost others (suc (index ls (x .line))) H 1 0))
 
       first-is : outcomeOf handled ≡ first
       first-is =
-          j ls (within (begun .left) (rightmost stored line H 1 0)) (s H count) values (right-lines (begun .left) search (s H count)) (lined .gaps)
-          ∙ (λ i. joined ls (lined .value i) (b i) (within (begun .left) (right-stored i)))
+          j ls (within (begun .remaining) (rightmost stored line H 1 0)) (s H count) values (right-lines (begun .remaining) search (s H count)) (lined .gaps)
+          ∙ (λ i. joined ls (lined .value i) (b i) (within (begun .remaining) (right-stored i)))
 
-      whole : within (st .left) (looking ls H active (metBy st) x) ≡ onward first second
-      whole = looking-paid ls H active (metBy st) x (st .left) (begun .left) own (sym own-run ∙ was-known _ own rest (sym known ∙ told) ∙ ap (left own) (sym d))
+      whole : within (st .remaining) (looking ls H active (metBy st) x) ≡ onward first second
+      whole = looking-paid ls H active (metBy st) x (st .remaining) (begun .remaining) own (sym own-run ∙ was-known _ own rest (sym known ∙ told) ∙ ap (left own) (sym d))
 
-      pub look-stops : handled ≡ Spent → outcomeOf Spent ≡ within (st .left) (looking ls H active (metBy st) x)
+      pub look-stops : handled ≡ Spent → outcomeOf Spent ≡ within (st .remaining) (looking ls H active (metBy st) x)
       look-stops e = stops _ (whole ∙ rw (stopped handled first e first-is) (onward-spent second))
 
-      pub look-on : (half : Sweeping) (above : Search) (r : Handled) → handled ≡ Went half → ((K : ℕ) → leaves ≡ 2 ^ K → above ≡ searchOf (within (half .left) (leftmost stored (line + 1) K 1 0))) → Joins half above r
-          → outcomeOf r ≡ within (st .left) (looking ls H active (metBy st) x)
+      pub look-on : (half : Sweeping) (above : Search) (r : Handled) → handled ≡ Went half → ((K : ℕ) → leaves ≡ 2 ^ K → above ≡ searchOf (within (half .remaining) (leftmost stored (line + 1) K 1 0))) → Joins half above r
+          → outcomeOf r ≡ within (st .remaining) (looking ls H active (metBy st) x)
       look-on half above r e t k =
-          k ls (within (half .left) (leftmost stored (line + 1) H 1 0)) (t H count) values (left-lines (half .left) above (t H count)) (lined .gaps)
-          ∙ (λ i. joined ls (lined .value i) (metBy half) (within (half .left) (left-stored i)))
-          ∙ sym (whole ∙ rw (went-on handled half first e first-is) (onward-left (metBy half) (half .left) second))
+          k ls (within (half .remaining) (leftmost stored (line + 1) H 1 0)) (t H count) values (left-lines (half .remaining) above (t H count)) (lined .gaps)
+          ∙ (λ i. joined ls (lined .value i) (metBy half) (within (half .remaining) (left-stored i)))
+          ∙ sym (whole ∙ rw (went-on handled half first e first-is) (onward-left (metBy half) (half .remaining) second))
 
 -- ---- a `set` that was charged
 charged-of : (st : Sweeping) (o : Outcome (Unit {0})) → outcomeOf (chargedTo st (chargeOf o)) ≡ onward o (λ done m. left (metBy st) m)
@@ -248,8 +248,8 @@ unfolding chargeOf onward outcomeOf
 charged-of st spent = refl
 charged-of st (left u m) = refl
 
-pub charge-pays : (st : Sweeping) (H : ℕ) (charge : Charge) → charge ≡ chargeOf (within (st .left) (setRun H)) → outcomeOf (chargedTo st charge) ≡ onward (within (st .left) (setRun H)) (λ done m. left (metBy st) m)
-charge-pays st H charge e = ap (λ (c : Charge). outcomeOf (chargedTo st c)) e ∙ charged-of st (within (st .left) (setRun H))
+pub charge-pays : (st : Sweeping) (H : ℕ) (charge : Charge) → charge ≡ chargeOf (within (st .remaining) (setRun H)) → outcomeOf (chargedTo st charge) ≡ onward (within (st .remaining) (setRun H)) (λ done m. left (metBy st) m)
+charge-pays st H charge e = ap (λ (c : Charge). outcomeOf (chargedTo st c)) e ∙ charged-of st (within (st .remaining) (setRun H))
 
 pub charge-paid : (st to : Sweeping) (charge : Charge) → Went to ≡ chargedTo st charge → (m : ℕ) × (charge ≡ Paid m)
 charge-paid st to (Paid m) e = (m, refl)

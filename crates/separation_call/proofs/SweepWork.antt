@@ -50,7 +50,7 @@ module _ (n leaves line : ℕ) (w u e v : List ℕ) (summary : NetSummary) (rest
 
   -- the `set` was charged, and what it answers is handed on
   module _ (st : Sweeping) (charge : Charge) (r : Handled) (told : r ≡ chargedTo st charge) (renews : (H m : ℕ) → leaves ≡ 2 ^ H → charge ≡ Paid m → Renewed (take (length u - 3 * n) (drop (3 * n) u)) e H line summary) where
-    pub pays : ((H : ℕ) → leaves ≡ 2 ^ H → charge ≡ chargeOf (within (st .left) (setRun H))) → Pays leaves st r
+    pub pays : ((H : ℕ) → leaves ≡ 2 ^ H → charge ≡ chargeOf (within (st .remaining) (setRun H))) → Pays leaves st r
     pays f H k = ap outcomeOf told ∙ charge-pays st H charge (f H k)
 
     renewed-on : (H : ℕ) (to : Sweeping) → leaves ≡ 2 ^ H → r ≡ Went to → Renewed (take (length u - 3 * n) (drop (3 * n) u)) e H line summary

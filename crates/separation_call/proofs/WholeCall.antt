@@ -84,20 +84,20 @@ module _ (l : List Segment) (m : ℕ) (first : Swept) (one : first ≡ sweptOf (
       let z : onward (within m (along (oriented 1 l))) second ≡ spent = rw (spent-is (within m (along (oriented 1 l))) (sym e ∙ one)) (onward-spent second) in
       sym (ap sweptOf (walk-within m l ∙ z))
 
-  module _ (across : Found) (went : first ≡ Went across) (next : Swept) (other : next ≡ sweptOf (within (across .left) (along (oriented 0 l)))) where
-    on : within m (walkAll l) ≡ second (foundBy across) (across .left)
-    on = walk-within m l ∙ rw (went-is (within m (along (oriented 1 l))) across (sym went ∙ one)) (onward-left (foundBy across) (across .left) second)
+  module _ (across : Found) (went : first ≡ Went across) (next : Swept) (other : next ≡ sweptOf (within (across .remaining) (along (oriented 0 l)))) where
+    on : within m (walkAll l) ≡ second (foundBy across) (across .remaining)
+    on = walk-within m l ∙ rw (went-is (within m (along (oriented 1 l))) across (sym went ∙ one)) (onward-left (foundBy across) (across .remaining) second)
 
     pub walk-stops-later : next ≡ Spent → Spent ≡ sweptOf (within m (walkAll l))
     unfolding sweptOf
     walk-stops-later e =
-        let z : second (foundBy across) (across .left) ≡ spent = rw (spent-is (within (across .left) (along (oriented 0 l))) (sym e ∙ other)) (onward-spent (λ g r. left (lesserFigures (foundBy across) g) r)) in
+        let z : second (foundBy across) (across .remaining) ≡ spent = rw (spent-is (within (across .remaining) (along (oriented 0 l))) (sym e ∙ other)) (onward-spent (λ g r. left (lesserFigures (foundBy across) g) r)) in
         sym (ap sweptOf (on ∙ z))
 
-    pub walk-both : (down r : Found) → next ≡ Went down → foundBy r ≡ lesserFigures (foundBy across) (foundBy down) → r .left ≡ down .left → Went r ≡ sweptOf (within m (walkAll l))
+    pub walk-both : (down r : Found) → next ≡ Went down → foundBy r ≡ lesserFigures (foundBy across) (foundBy down) → r .remaining ≡ down .remaining → Went r ≡ sweptOf (within m (walkAll l))
     unfolding sweptOf
     walk-both down r e f k =
-        let z : second (foundBy across) (across .left) ≡ left (lesserFigures (foundBy across) (foundBy down)) (down .left) = rw (went-is (within (across .left) (along (oriented 0 l))) down (sym e ∙ other)) (onward-left (foundBy down) (down .left) (λ g r. left (lesserFigures (foundBy across) g) r)) in
+        let z : second (foundBy across) (across .remaining) ≡ left (lesserFigures (foundBy across) (foundBy down)) (down .remaining) = rw (went-is (within (across .remaining) (along (oriented 0 l))) down (sym e ∙ other)) (onward-left (foundBy down) (down .remaining) (λ g r. left (lesserFigures (foundBy across) g) r)) in
         (λ i. sweptOf (left (f i) (k i))) ∙ sym (ap sweptOf (on ∙ z))
 
 -- ---- the answer

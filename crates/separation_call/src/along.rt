@@ -70,7 +70,7 @@ pub(crate) fn sweep_along(
         return Swept::Went(Found {
             minimum: Gap::Absent,
             minimum_positive: Gap::Absent,
-            left: allowance,
+            remaining: allowance,
         });
     }
     let many = make_tables(s, n, from, total);

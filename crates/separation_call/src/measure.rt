@@ -42,7 +42,16 @@ fn walk_segments(
     let Swept::Went(across) = first else {
         return Swept::Spent;
     };
-    let second = sweep_along(scratch, 0, net, orientation, fixed, start, end, across.left);
+    let second = sweep_along(
+        scratch,
+        0,
+        net,
+        orientation,
+        fixed,
+        start,
+        end,
+        across.remaining,
+    );
     let Swept::Went(down) = second else {
         return Swept::Spent;
     };

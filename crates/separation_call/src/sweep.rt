@@ -29,13 +29,13 @@ fn with_search(fixed: &[u64], line: usize, search: Search, state: Sweeping) -> H
     ensures { λ r. ⌜ ((ls : List ℕ) (o : Outcome (Option ℕ)) → search ≡ searchOf o → take (length ls) (now (fixed .entry)) ≡ ls → WithinLines search line (length ls) → Gapped ls → outcomeOf r ≡ joined ls (getD ls line 0) (metBy state) o) ⌝ }
 {
     let Search::Found(place, rest) = search else {
-        let Search::Empty(left) = search else {
+        let Search::Empty(remaining) = search else {
             return Handled::Spent;
         };
         return Handled::Went(Sweeping {
             minimum: state.minimum,
             minimum_positive: state.minimum_positive,
-            left: left,
+            remaining: remaining,
         });
     };
     let there = float_of_key(fixed[place]);
@@ -55,17 +55,17 @@ fn look(
     requires { ⌜ Lookable (now tree) (now fixed) leaves line ⌝ }
     ensures { λ r. ⌜ Looks (now (tree .entry)) (now (fixed .entry)) leaves line net state r ⌝ }
 {
-    let at = has_other_at(tree, leaves, line, net, state.left);
+    let at = has_other_at(tree, leaves, line, net, state.remaining);
     let OtherNet::Known(own, rest) = at else {
         return Handled::Spent;
     };
     let begun = with_own_line(own, rest, state);
-    let below = rightmost_other(tree, leaves, line, net, begun.left);
+    let below = rightmost_other(tree, leaves, line, net, begun.remaining);
     let handled = with_search(fixed, line, below, begun);
     let Handled::Went(half) = handled else {
         return Handled::Spent;
     };
-    let above = leftmost_other(tree, leaves, line + 1, net, half.left);
+    let above = leftmost_other(tree, leaves, line + 1, net, half.remaining);
     with_search(fixed, line, above, half)
 }
 
@@ -84,7 +84,7 @@ fn enter(
     ensures { λ r. ⌜ Entered n leaves slot line net (now (work .entry)) (now (work .exit)) r ⌝ }
 {
     let summary = start_net(work, n, slot, line, net);
-    let charge = set(&mut work[3 * n..], leaves, line, summary, state.left);
+    let charge = set(&mut work[3 * n..], leaves, line, summary, state.remaining);
     after_charge(charge, state)
 }
 
@@ -103,7 +103,7 @@ fn leave(
     ensures { λ r. ⌜ TakenOut n leaves slot line net (now (work .entry)) (now (work .exit)) r ⌝ }
 {
     let summary = end_net(work, n, slot, line, net);
-    let charge = set(&mut work[3 * n..], leaves, line, summary, state.left);
+    let charge = set(&mut work[3 * n..], leaves, line, summary, state.remaining);
     after_charge(charge, state)
 }
 

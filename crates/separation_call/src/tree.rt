@@ -43,17 +43,17 @@ pub(crate) fn has_other_at(
     leaves: usize,
     index: usize,
     excluded: u32,
-    left: usize,
+    remaining: usize,
 ) -> OtherNet
     requires { ⌜ Leaves (now tree) leaves ⌝ }
     requires { ⌜ index < leaves ⌝ }
-    ensures { λ r. ⌜ r ≡ otherNetOf (within left (visit (free (hasOther (summaryAt (now (tree .entry)) (leaves + index)) excluded)))) ⌝ }
+    ensures { λ r. ⌜ r ≡ otherNetOf (within remaining (visit (free (hasOther (summaryAt (now (tree .entry)) (leaves + index)) excluded)))) ⌝ }
 {
-    if left == 0 {
+    if remaining == 0 {
         return OtherNet::Spent;
     }
     let other = other_below(tree, leaves + index, excluded);
-    OtherNet::Known(other, left - 1)
+    OtherNet::Known(other, remaining - 1)
 }
 
 // The last line below `query_end` with another active net, among those from `start` up to `end`, which stand below the node.
@@ -64,15 +64,15 @@ fn search_rightmost(
     end: usize,
     query_end: usize,
     excluded: u32,
-    left: usize,
+    remaining: usize,
 ) -> Search
     requires { ⌜ Below (now tree) node start end ⌝ }
-    ensures { λ r. ⌜ ((h : ℕ) → end ≡ start + 2 ^ h → r ≡ searchOf (within left (rightmost (λ k a b. hasOther (summaryAt (now (tree .entry)) k) excluded) «query_end» h node start))) ⌝ }
+    ensures { λ r. ⌜ ((h : ℕ) → end ≡ start + 2 ^ h → r ≡ searchOf (within remaining (rightmost (λ k a b. hasOther (summaryAt (now (tree .entry)) k) excluded) «query_end» h node start))) ⌝ }
 {
-    if left == 0 {
+    if remaining == 0 {
         return Search::Spent;
     }
-    let rest = left - 1;
+    let rest = remaining - 1;
     if start >= query_end {
         return Search::Empty(rest);
     }
@@ -102,15 +102,15 @@ fn search_leftmost(
     end: usize,
     query_start: usize,
     excluded: u32,
-    left: usize,
+    remaining: usize,
 ) -> Search
     requires { ⌜ Below (now tree) node start end ⌝ }
-    ensures { λ r. ⌜ ((h : ℕ) → end ≡ start + 2 ^ h → r ≡ searchOf (within left (leftmost (λ k a b. hasOther (summaryAt (now (tree .entry)) k) excluded) «query_start» h node start))) ⌝ }
+    ensures { λ r. ⌜ ((h : ℕ) → end ≡ start + 2 ^ h → r ≡ searchOf (within remaining (leftmost (λ k a b. hasOther (summaryAt (now (tree .entry)) k) excluded) «query_start» h node start))) ⌝ }
 {
-    if left == 0 {
+    if remaining == 0 {
         return Search::Spent;
     }
-    let rest = left - 1;
+    let rest = remaining - 1;
     if end <= query_start {
         return Search::Empty(rest);
     }
@@ -137,12 +137,12 @@ pub(crate) fn rightmost_other(
     leaves: usize,
     end: usize,
     excluded: u32,
-    left: usize,
+    remaining: usize,
 ) -> Search
     requires { ⌜ Leaves (now tree) leaves ⌝ }
-    ensures { λ r. ⌜ ((H : ℕ) → leaves ≡ 2 ^ H → r ≡ searchOf (within left (rightmost (λ k a b. hasOther (summaryAt (now (tree .entry)) k) excluded) end H 1 0))) ⌝ }
+    ensures { λ r. ⌜ ((H : ℕ) → leaves ≡ 2 ^ H → r ≡ searchOf (within remaining (rightmost (λ k a b. hasOther (summaryAt (now (tree .entry)) k) excluded) end H 1 0))) ⌝ }
 {
-    search_rightmost(tree, 1, 0, leaves, end, excluded, left)
+    search_rightmost(tree, 1, 0, leaves, end, excluded, remaining)
 }
 
 pub(crate) fn leftmost_other(
@@ -150,12 +150,12 @@ pub(crate) fn leftmost_other(
     leaves: usize,
     start: usize,
     excluded: u32,
-    left: usize,
+    remaining: usize,
 ) -> Search
     requires { ⌜ Leaves (now tree) leaves ⌝ }
-    ensures { λ r. ⌜ ((H : ℕ) → leaves ≡ 2 ^ H → r ≡ searchOf (within left (leftmost (λ k a b. hasOther (summaryAt (now (tree .entry)) k) excluded) start H 1 0))) ⌝ }
+    ensures { λ r. ⌜ ((H : ℕ) → leaves ≡ 2 ^ H → r ≡ searchOf (within remaining (leftmost (λ k a b. hasOther (summaryAt (now (tree .entry)) k) excluded) start H 1 0))) ⌝ }
 {
-    search_leftmost(tree, 1, 0, leaves, start, excluded, left)
+    search_leftmost(tree, 1, 0, leaves, start, excluded, remaining)
 }
 
 // A line's summary goes into its leaf, and each node above it up to the root is merged anew. Every node is paid before it is written.
@@ -164,17 +164,17 @@ pub(crate) fn set(
     leaves: usize,
     index: usize,
     summary: NetSummary,
-    left: usize,
+    remaining: usize,
 ) -> Charge
     requires { ⌜ Leaves (now tree) leaves ⌝ }
     requires { ⌜ index < leaves ⌝ }
-    ensures { λ r. ⌜ ((H : ℕ) → leaves ≡ 2 ^ H → r ≡ chargeOf (within left (setRun H))) ⌝ }
+    ensures { λ r. ⌜ ((H : ℕ) → leaves ≡ 2 ^ H → r ≡ chargeOf (within remaining (setRun H))) ⌝ }
     ensures { λ r. ⌜ ((H m : ℕ) → leaves ≡ 2 ^ H → r ≡ Charge.Paid m → Renewed (now (tree .entry)) (now (tree .exit)) H index summary) ⌝ }
 {
-    if left == 0 {
+    if remaining == 0 {
         return Charge::Spent;
     }
-    let mut rest = left - 1;
+    let mut rest = remaining - 1;
     let leaf = leaves + index;
     tree[leaf] = word_of(summary);
     let mut cursor = leaf / 2;

@@ -23,12 +23,12 @@ soFar w = record { least = gapOfFloat (w .least); violations = w .violations }
 
 -- the state before the first walk: no pair met, no distance yet, and nothing used of the allowance
 abbrev pub atStart : ℕ → Walking
-atStart allowance = record { violations = 0; least = nan; left = allowance }
+atStart allowance = record { violations = 0; least = nan; remaining = allowance }
 
 -- what a run within the allowance came to, from what the code answers
 unfoldable pub outcomeOf : Walked → Outcome Figures
 outcomeOf Spent = spent
-outcomeOf (Went w) = left (soFar w) (w .left)
+outcomeOf (Went w) = left (soFar w) (w .remaining)
 
 -- along one axis: d is less than the threshold beyond b, and c less than the threshold before a, each by one rounded subtraction
 unfoldable pub axisBelow : Float → Float → Float → Float → Float → Bool

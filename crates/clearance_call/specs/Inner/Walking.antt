@@ -44,7 +44,7 @@ Near d p w i n = (k : ℕ) → n ≤ k → d ≡ distance p (boundsOf (storedTre
 pub record Walkable (w : List ℕ) (i n : ℕ) (d : Float) (p : Aabb) (state : Walking) : Type 0 where
   pub part : Part w i n
   pub near : Near d p w i n
-  pub room : state .violations + state .left < 2 ^ 64
+  pub room : state .violations + state .remaining < 2 ^ 64
   pub segment : Segment
   pub box : segmentBox segment ≡ p
   pub fit : FitBox p
@@ -76,7 +76,7 @@ pub record NetMarks (marks groups w : List ℕ) : Type 0 where
 -- what the walk over them answers, for every segment with the box p
 abbrev pub Walks : List Exemption → Float → List ℕ → ℕ → ℕ → Aabb → ℕ → Walking → Walked → Type 0
 Walks ex threshold w i n p net state r =
-    (s : Segment) → segmentBox s ≡ p → s .net ≡ net → (k : ℕ) → n ≤ k → outcomeOf r ≡ within (state .left) (walk ex threshold s (storedTree k w i n) (soFar state))
+    (s : Segment) → segmentBox s ≡ p → s .net ≡ net → (k : ℕ) → n ≤ k → outcomeOf r ≡ within (state .remaining) (walk ex threshold s (storedTree k w i n) (soFar state))
 
 -- what comes of a part whose leaves were visited: it is done, or the walk stopped there
 abbrev pub stepOf : Walked → Step

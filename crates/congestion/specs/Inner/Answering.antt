@@ -13,7 +13,7 @@ unfoldable pub answerOf : Swept → Float → ℕ → CongestionAnswer
 answerOf (Went f) total allowance = Report (record {
   congestion = record { «total_length» = total; «congested_length» = f .«congested_length»; «pair_overlap_length» = f .«pair_overlap_length»; «peak_close_neighbors» = f .«peak_close_neighbors» };
   «minimum_positive» = f .«minimum_positive»;
-  visits = allowance - f .left;
+  visits = allowance - f .remaining;
 })
 answerOf Spent total allowance = Refused WorkLimitExceeded
 

@@ -77,7 +77,7 @@ foundOf (left p m) = Went (record {
   «pair_overlap_length» = p .0 .«pair_overlap_length»;
   «peak_close_neighbors» = p .0 .«peak_close_neighbors»;
   «minimum_positive» = p .1;
-  left = m;
+  remaining = m;
 })
 
 -- both orientations' figures
@@ -87,5 +87,5 @@ togetherOf a d = record {
   «pair_overlap_length» = add binary64 (a .«pair_overlap_length») (d .«pair_overlap_length»);
   «peak_close_neighbors» = max (a .«peak_close_neighbors») (d .«peak_close_neighbors»);
   «minimum_positive» = lesserGap (a .«minimum_positive») (d .«minimum_positive»);
-  left = d .left;
+  remaining = d .remaining;
 }

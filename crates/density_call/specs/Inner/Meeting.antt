@@ -75,7 +75,7 @@ Meets starts s t n j least allowance r =
       changed = count (λ x. neighbor c (itemAt L j .wire) x && eqb (x .neighbors) (turning starts)) (st .rows);
       highest = topmost starts (neighbor c (itemAt L j .wire)) (st .rows);
       least = leastFloat (lesser ltb m (leastHere c (itemAt L j) st));
-      left = allowance - visitsOf c L j st;
+      remaining = allowance - visitsOf c L j st;
     }))
     × (rowsFrom L (drop (8 * n) t) ≡ map (λ x. moved starts (neighbor c (itemAt L j .wire) x) x) (st .rows)))
 
@@ -94,11 +94,11 @@ highestAfter true h k = max h (k + 1)
 highestAfter false h k = h
 
 abbrev pub withNeighbor : Bool → ℕ → Float → Meeting → Meeting
-withNeighbor starts k gap t = record { neighbors = t .neighbors + 1; changed = t .changed + bit (eqb k (turning starts)); highest = highestAfter starts (t .highest) k; least = withGap (t .least) gap; left = t .left - 1 }
+withNeighbor starts k gap t = record { neighbors = t .neighbors + 1; changed = t .changed + bit (eqb k (turning starts)); highest = highestAfter starts (t .highest) k; least = withGap (t .least) gap; remaining = t .remaining - 1 }
 
 -- a wire of the same net costs a visit and no more
 abbrev pub paid : Meeting → Meeting
-paid t = record { neighbors = t .neighbors; changed = t .changed; highest = t .highest; least = t .least; left = t .left - 1 }
+paid t = record { neighbors = t .neighbors; changed = t .changed; highest = t .highest; least = t .least; remaining = t .remaining - 1 }
 
 -- the count in the word `at` may be changed
 pub record Countable (s : List ℕ) (at : ℕ) (starts : Bool) (t : Meeting) : Type 0 where
@@ -107,7 +107,7 @@ pub record Countable (s : List ℕ) (at : ℕ) (starts : Bool) (t : Meeting) : T
   pub some : starts ≡ false → 1 ≤ getD s at 0
   pub neighbors : t .neighbors ≤ 4096
   pub changed : t .changed ≤ 4096
-  pub left : 1 ≤ t .left
+  pub remaining : 1 ≤ t .remaining
 
 -- wire i may be visited
 pub record Visitable (s : List ℕ) (n i net : ℕ) (starts : Bool) (t : Meeting) : Type 0 where
@@ -118,7 +118,7 @@ pub record Visitable (s : List ℕ) (n i net : ℕ) (starts : Bool) (t : Meeting
   pub some : starts ≡ false → (getD s (5 * n + i) 0 ≡ net → ⊥) → 1 ≤ getD s (8 * n + i) 0
   pub neighbors : t .neighbors ≤ 4096
   pub changed : t .changed ≤ 4096
-  pub left : 1 ≤ t .left
+  pub remaining : 1 ≤ t .remaining
 
 -- the scratch s becomes u, and the meeting t becomes r
 pub record Visits (s u : List ℕ) (n i net : ℕ) (here : Float) (starts : Bool) (t r : Meeting) : Type 0 where

@@ -35,7 +35,7 @@ passedTo s x = record {
   «peak_close_neighbors» = s .«peak_close_neighbors»;
   «minimum_positive» = s .«minimum_positive»;
   previous = x;
-  left = s .left;
+  remaining = s .remaining;
 }
 
 -- a wire that met these others starts; or ends, with a count of its own
@@ -48,7 +48,7 @@ startedBy s m = record {
   «peak_close_neighbors» = max (s .«peak_close_neighbors») (max (m .highest) (m .neighbors));
   «minimum_positive» = m .least;
   previous = s .previous;
-  left = m .left;
+  remaining = m .remaining;
 }
 
 abbrev pub endedBy : Sweeping → ℕ → Meeting → Sweeping
@@ -60,7 +60,7 @@ endedBy s own m = record {
   «peak_close_neighbors» = s .«peak_close_neighbors»;
   «minimum_positive» = m .least;
   previous = s .previous;
-  left = m .left;
+  remaining = m .remaining;
 }
 
 -- ---- and on the scratch: wire j's own count and its place in the set of active ones
@@ -118,7 +118,7 @@ pub record AtEvent (s : List ℕ) (n e : ℕ) (state : Sweeping) : Type 0 where
 pub record Onward (c : ℕ) (L : List Wire) (n : ℕ) (st : State) (t : List ℕ) (m : ℕ) (r : Handled) : Type 0 where
   pub to : Sweeping
   pub went : r ≡ Went to
-  pub left : to .left ≡ m
+  pub remaining : to .remaining ≡ m
   pub follows : Follows to st
   pub tabled : Tabled c L t
   pub stored : Stored L st (drop (8 * n) t)
@@ -130,7 +130,7 @@ Steps c L n st e t m r =
 
 -- event e of n wires: the scratch s becomes t
 abbrev pub Handles : List ℕ → List ℕ → ℕ → ℕ → Sweeping → Handled → Type 0
-Handles s t n e state r = (a : AtEvent s n e state) → Steps (a .c) (a .L) n (a .st) (eventAt (a .L) e) t (state .left) r
+Handles s t n e state r = (a : AtEvent s n e state) → Steps (a .c) (a .L) n (a .st) (eventAt (a .L) e) t (state .remaining) r
 
 -- ---- the sweep may begin: the tables are made, and the words behind them are cleared
 pub record AtFirst (s : List ℕ) (n : ℕ) : Type 0 where
@@ -153,5 +153,5 @@ sweptOf (left st m) = Done (record {
   «pair_overlap_length» = ofUnits (st .pairOverlapLength);
   «peak_close_neighbors» = st .peakCloseNeighbors;
   «minimum_positive» = gapOfUnits (st .minimumPositive);
-  left = m;
+  remaining = m;
 })

@@ -28,16 +28,16 @@ metBy s = record { least = gapOfFloat (s .minimum); leastNonzero = gapOfFloat (s
 
 -- the state before the first event: no gap yet, and nothing used of the allowance
 abbrev pub atStart : ℕ → Sweeping
-atStart allowance = record { minimum = nan; «minimum_positive» = nan; left = allowance }
+atStart allowance = record { minimum = nan; «minimum_positive» = nan; remaining = allowance }
 
 -- what a run within the allowance came to, from what the code answers while the sweep runs
 unfoldable pub outcomeOf : Handled → Outcome Figures
 outcomeOf Spent = spent
-outcomeOf (Went s) = left (metBy s) (s .left)
+outcomeOf (Went s) = left (metBy s) (s .remaining)
 
 -- what the sweep found when its last event is handled
 abbrev pub foundIn : Sweeping → Found
-foundIn s = record { minimum = gapOfFloat (s .minimum); «minimum_positive» = gapOfFloat (s .«minimum_positive»); left = s .left }
+foundIn s = record { minimum = gapOfFloat (s .minimum); «minimum_positive» = gapOfFloat (s .«minimum_positive»); remaining = s .remaining }
 
 -- the figures that were found
 abbrev pub foundBy : Found → Figures
@@ -46,7 +46,7 @@ foundBy f = record { least = f .minimum; leastNonzero = f .«minimum_positive» 
 -- what a whole sweep, or both, within the allowance comes to, as the code answers it
 unfoldable pub sweptOf : Outcome Figures → Swept
 sweptOf spent = Over
-sweptOf (left f m) = Done (record { minimum = f .least; «minimum_positive» = f .leastNonzero; left = m })
+sweptOf (left f m) = Done (record { minimum = f .least; «minimum_positive» = f .leastNonzero; remaining = m })
 
 -- a gap joins both figures, as `otherLine` in Walk.antt has it
 abbrev pub withGap : Float → Figures → Figures
@@ -55,7 +55,7 @@ withGap x f = let g = Present x in lesserFigures f (record { least = g; leastNon
 -- the figures of a state, with what a `set` left of the allowance
 abbrev pub chargedTo : Sweeping → Charge → Handled
 chargedTo s Unpaid = Spent
-chargedTo s (Paid m) = Went (record { minimum = s .minimum; «minimum_positive» = s .«minimum_positive»; left = m })
+chargedTo s (Paid m) = Went (record { minimum = s .minimum; «minimum_positive» = s .«minimum_positive»; remaining = m })
 
 -- the answer of a call whose checks passed and whose walk came to r
 abbrev pub Answers : Swept → ℕ → SeparationAnswer → Type 0

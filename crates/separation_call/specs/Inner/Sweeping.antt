@@ -63,7 +63,7 @@ pub record Lined (ls : List ℕ) (H : ℕ) (active : List Row) (x : Row) (line n
 abbrev pub Looks : List ℕ → List ℕ → ℕ → ℕ → ℕ → Sweeping → Handled → Type 0
 Looks tree fixed leaves line net state r =
     (ls : List ℕ) (H : ℕ) (active : List Row) (x : Row) → leaves ≡ 2 ^ H → Covers ls active (summaryAt tree) H → take (length ls) fixed ≡ ls → Lined ls H active x line net
-    → outcomeOf r ≡ within (state .left) (looking ls H active (metBy state) x)
+    → outcomeOf r ≡ within (state .remaining) (looking ls H active (metBy state) x)
 
 -- ---- the words that the sweep changes
 pub record Working (n b : ℕ) (ls : List ℕ) (H : ℕ) (lineOf netOf slotOf : ℕ → ℕ) (active : List Row) (w : List ℕ) : Type 0 where
@@ -92,7 +92,7 @@ pub record Leavable (n leaves slot line net : ℕ) (w : List ℕ) : Type 0 where
 
 -- a `set` is paid from what is left, and the figures stay
 abbrev pub Pays : ℕ → Sweeping → Handled → Type 0
-Pays leaves state r = (H : ℕ) → leaves ≡ 2 ^ H → outcomeOf r ≡ onward (within (state .left) (setRun H)) (λ done m. left (metBy state) m)
+Pays leaves state r = (H : ℕ) → leaves ≡ 2 ^ H → outcomeOf r ≡ onward (within (state .remaining) (setRun H)) (λ done m. left (metBy state) m)
 
 -- a segment is entered, or taken out: where the `set` was paid the words w became v
 abbrev pub Entered : ℕ → ℕ → ℕ → ℕ → ℕ → List ℕ → List ℕ → Handled → Type 0
@@ -144,13 +144,13 @@ figuresOf o = onward o (λ t m. left (t .met) m)
 abbrev pub Begins : List ℕ → List ℕ → ℕ → ℕ → ℕ → Sweeping → Handled → Type 0
 Begins s t n leaves j state r =
     (l : List Row) (F : List ℕ) (H b : ℕ) (active : List Row) → length l ≡ n → leaves ≡ 2 ^ H → Ready l F H b active s
-    → (outcomeOf r ≡ figuresOf (within (state .left) (startsAt (lines l) H (record { active = active; met = metBy state }) (rowFrom l j))))
+    → (outcomeOf r ≡ figuresOf (within (state .remaining) (startsAt (lines l) H (record { active = active; met = metBy state }) (rowFrom l j))))
     × ((to : Sweeping) → r ≡ Went to → Ready l F H (b + 1) (rowFrom l j ∷ active) t)
 
 abbrev pub Finishes : List ℕ → List ℕ → ℕ → ℕ → ℕ → Sweeping → Handled → Type 0
 Finishes s t n leaves j state r =
     (l : List Row) (F : List ℕ) (H b : ℕ) (active : List Row) → length l ≡ n → leaves ≡ 2 ^ H → Ready l F H b active s → Mem (rowFrom l j) active
-    → (outcomeOf r ≡ figuresOf (within (state .left) (endsAt H (record { active = active; met = metBy state }) (rowFrom l j))))
+    → (outcomeOf r ≡ figuresOf (within (state .remaining) (endsAt H (record { active = active; met = metBy state }) (rowFrom l j))))
     × ((to : Sweeping) → r ≡ Went to → Ready l F H (b + 1) (remove (rowFrom l j) active) t)
 
 -- an event of a number below 2 n; a segment that ends is active
@@ -171,7 +171,7 @@ abbrev pub Handles : List ℕ → List ℕ → ℕ → ℕ → ℕ → Sweeping 
 Handles s t n leaves e state r =
     (l : List Row) (F : List ℕ) (H b : ℕ) (active : List Row) → length l ≡ n → leaves ≡ 2 ^ H → Ready l F H b active s → (e < n → Mem (rowFrom l e) active)
     → let c = step (lines l) H (record { active = active; met = metBy state }) (eventFrom l e) in
-    (outcomeOf r ≡ figuresOf (within (state .left) c)) × ((to : Sweeping) → r ≡ Went to → Ready l F H (b + 1) (c .value .active) t)
+    (outcomeOf r ≡ figuresOf (within (state .remaining) c)) × ((to : Sweeping) → r ≡ Went to → Ready l F H (b + 1) (c .value .active) t)
 
 -- the sweep may begin: no event is handled yet
 pub record AtFirst (s : List ℕ) (n leaves : ℕ) : Type 0 where

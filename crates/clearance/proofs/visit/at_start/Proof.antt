@@ -7,7 +7,7 @@ no-gap-requires : tie.Need-no-gap-requires
 no-gap-requires c κs = search needs
 
 returns : tie.Need-returns
-returns c = λ i. record { violations = 0; least = c .no-gap .ensures i; left = c .before .args .allowance }
+returns c = λ i. record { violations = 0; least = c .no-gap .ensures i; remaining = c .before .args .allowance }
 
 pub at-start-spec : {M : Type 1} → statement M
 at-start-spec = tie.close (tie.spec no-gap-requires returns)

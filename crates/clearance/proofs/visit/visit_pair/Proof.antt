@@ -7,8 +7,8 @@ use Rattle.clearance.proofs.visit.visit_pair.Tie as tie
 returns : tie.Need-returns
 returns c num room = visit-stopped _ _ (c .if1 .taken)
 
-sub-left : tie.Need-sub-left
-sub-left c = search needs
+sub-remaining : tie.Need-sub-remaining
+sub-remaining c = search needs
 
 returns-2 : tie.Need-returns-2
 returns-2 c num room = visit-passed _ _ _ _ (c .before .before .if1 .left) (c .if2 .taken)
@@ -26,4 +26,4 @@ returns-4 : tie.Need-returns-4
 returns-4 c num room = let q = c .before .before in visit-clear _ _ _ _ (q .before .before .if1 .left) (q .if2 .left) (c .if3 .left) _ (c .before .least-with .ensures) num
 
 pub visit-pair-spec : {M : Type 1} → statement M
-visit-pair-spec = tie.close (tie.spec returns sub-left returns-2 least-with-requires wrapping-add-usize-requires returns-3 returns-4)
+visit-pair-spec = tie.close (tie.spec returns sub-remaining returns-2 least-with-requires wrapping-add-usize-requires returns-3 returns-4)

@@ -21,7 +21,7 @@ at-start-requires : tie.Need-at-start-requires Inv-loop μ-loop
 at-start-requires c κs = search needs
 
 loop-holds : tie.Need-loop-holds Inv-loop μ-loop
-loop-holds c = turned-none _ _ _ _ _ _ _ (segmentColumns _ _ _ _ _) _ (c .before .before .before .before .before .before .before .before .before .before .before .pre .1 .0) (c .before .before .before .before .before .before .before .before .before .before .before .fits .allowance .fits) _ (ap (λ (s : Walking). s .least) (c .at-start .ensures)) (ap (λ (s : Walking). s .violations) (c .at-start .ensures)) (ap (λ (s : Walking). s .left) (c .at-start .ensures)) _ refl
+loop-holds c = turned-none _ _ _ _ _ _ _ (segmentColumns _ _ _ _ _) _ (c .before .before .before .before .before .before .before .before .before .before .before .pre .1 .0) (c .before .before .before .before .before .before .before .before .before .before .before .fits .allowance .fits) _ (ap (λ (s : Walking). s .least) (c .at-start .ensures)) (ap (λ (s : Walking). s .violations) (c .at-start .ensures)) (ap (λ (s : Walking). s .remaining) (c .at-start .ensures)) _ refl
 
 mul-i : tie.Need-mul-i Inv-loop μ-loop
 mul-i c = search needs

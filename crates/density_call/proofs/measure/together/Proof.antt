@@ -21,7 +21,7 @@ returns c =
       «pair_overlap_length» = togetherOf (a .across) (a .down) .«pair_overlap_length»;
       «peak_close_neighbors» = peak i;
       «minimum_positive» = gap i;
-      left = a .down .left;
+      remaining = a .down .remaining;
     }
 
 pub together-spec : {M : Type 1} → statement M

@@ -21,7 +21,7 @@ returns c =
     let st = c .before .before .before .before .before .args .state in
     let m = c .before .before .before .before .before .args .meeting in
     let own = c .before .before .before .before .congested .ensures in
-    λ i. record { «congested_active» = st .«congested_active» - own i - m .changed; «congested_length» = st .«congested_length»; «close_pairs» = st .«close_pairs» - m .neighbors; «pair_overlap_length» = st .«pair_overlap_length»; «peak_close_neighbors» = st .«peak_close_neighbors»; «minimum_positive» = m .least; previous = st .previous; left = m .left }
+    λ i. record { «congested_active» = st .«congested_active» - own i - m .changed; «congested_length» = st .«congested_length»; «close_pairs» = st .«close_pairs» - m .neighbors; «pair_overlap_length» = st .«pair_overlap_length»; «peak_close_neighbors» = st .«peak_close_neighbors»; «minimum_positive» = m .least; previous = st .previous; remaining = m .remaining }
 
 pub with-end-spec : {M : Type 1} → statement M
 with-end-spec = tie.close (tie.spec congested-requires sub-t5 sub-t6 sub-t7 returns)

@@ -33,7 +33,7 @@ returns c =
     let m = c .before .before .before .before .before .before .args .meeting in
     let own = c .before .before .before .congested .ensures in
     let peak = c .before .before .before .before .greater2 .ensures ∙ ap (max (st .«peak_close_neighbors»)) (c .before .before .before .before .before .greater .ensures) in
-    λ i. record { «congested_active» = st .«congested_active» + own i + m .changed; «congested_length» = st .«congested_length»; «close_pairs» = st .«close_pairs» + m .neighbors; «pair_overlap_length» = st .«pair_overlap_length»; «peak_close_neighbors» = peak i; «minimum_positive» = m .least; previous = st .previous; left = m .left }
+    λ i. record { «congested_active» = st .«congested_active» + own i + m .changed; «congested_length» = st .«congested_length»; «close_pairs» = st .«close_pairs» + m .neighbors; «pair_overlap_length» = st .«pair_overlap_length»; «peak_close_neighbors» = peak i; «minimum_positive» = m .least; previous = st .previous; remaining = m .remaining }
 
 pub with-start-spec : {M : Type 1} → statement M
 with-start-spec =

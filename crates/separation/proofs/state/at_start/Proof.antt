@@ -10,7 +10,7 @@ no-gap-requires-2 : tie.Need-no-gap-requires-2
 no-gap-requires-2 c κs = search needs
 
 returns : tie.Need-returns
-returns c = λ i. record { minimum = c .before .no-gap .ensures i; «minimum_positive» = c .no-gap2 .ensures i; left = c .before .before .args .allowance }
+returns c = λ i. record { minimum = c .before .no-gap .ensures i; «minimum_positive» = c .no-gap2 .ensures i; remaining = c .before .before .args .allowance }
 
 pub at-start-spec : {M : Type 1} → statement M
 at-start-spec = tie.close (tie.spec no-gap-requires no-gap-requires-2 returns)
