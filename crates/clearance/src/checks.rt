@@ -5,10 +5,10 @@ ghost use Rattle.drawing.specs.Entries.{segmentColumns, nodeColumns, exemptionC
 ghost use Rattle.clearance.specs.Conditions.{clearanceConditions};
 use drawing::Check;
 use drawing::Refusal;
-use drawing::check_entries;
-use drawing::check_lists;
-use drawing::short_scratch;
 use drawing::threshold_unfit;
+use list_checks::check_entries;
+use list_checks::check_lists;
+use list_checks::short_scratch;
 
 // The checks of the lists, the scratch of so many words, the entries and the threshold.
 pub fn check_clearance(

@@ -8,9 +8,9 @@ ghost use Rattle.drawing.specs.Conditions.{offGridLine, offGridSegment};
 ghost use Rattle.congestion.specs.Conditions.{congestionConditions};
 use drawing::Check;
 use drawing::Refusal;
-use drawing::check_segments;
 use floats::is_finite;
 use floats::on_grid;
+use list_checks::check_segments;
 
 // 6: a coordinate is off the grid.
 fn segment_off_grid(fixed: f64, start: f64, end: f64) -> bool

@@ -1,16 +1,10 @@
-// What every measure shares: the gap and the refusals, the tests of one entry, the checks of a call's input that the measures share, the clearing of the scratch, and the visits that were used.
-pub mod checks;
+// What every measure shares: the gap and the refusals, the tests of one entry, the clearing of the scratch, and the visits that were used.
 pub mod entry;
 pub mod gap;
 pub mod refusal;
 pub mod scratch;
 pub mod visits;
 
-pub use checks::check_entries;
-pub use checks::check_lists;
-pub use checks::check_segments;
-pub use checks::segments_differ;
-pub use checks::short_scratch;
 pub use entry::node_unfit;
 pub use entry::segment_unfit;
 pub use entry::threshold_unfit;

@@ -4,7 +4,7 @@ ghost use Rattle.drawing.specs.Refusals.{firstOf};
 ghost use Rattle.drawing.specs.Entries.{segmentColumns};
 ghost use Rattle.separation.specs.Conditions.{separationConditions};
 use drawing::Check;
-use drawing::check_segments;
+use list_checks::check_segments;
 
 // The checks of separation: segments and a scratch of so many words.
 pub fn check_separation(

@@ -4,8 +4,8 @@ ghost use Rattle.drawing.specs.Refusals.{firstOf};
 ghost use Rattle.drawing.specs.Entries.{segmentColumns, nodeColumns, exemptionColumns};
 ghost use Rattle.tight_pair.specs.Conditions.{tightPairConditions};
 use drawing::Check;
-use drawing::check_entries;
-use drawing::check_lists;
+use list_checks::check_entries;
+use list_checks::check_lists;
 
 // The checks of the lists, then those of the entries.
 pub(crate) fn check_tight_pair(

@@ -1,11 +1,11 @@
--- `drawing::checks::segments_differ` meets its contract: the first length that differs from that of `net` decides. Assumes nothing.
+-- `list_checks::segments_differ` meets its contract: the first length that differs from that of `net` decides. Assumes nothing.
 use borrow.Author.Tests.{eq-eqb, ne-eqb}
 use Rattle.laws.specs.Lists.{some-of}
 use Rattle.laws.proofs.Tests.{or-false}
 use Rattle.drawing.specs.Conditions.{differ}
 use Rattle.drawing.specs.Checks.{segmentsDiffer}
-use Rattle.drawing.proofs.checks.segments_differ.Statement.{statement}
-use Rattle.drawing.proofs.checks.segments_differ.Tie as tie
+use Rattle.list_checks.proofs.segments_differ.Statement.{statement}
+use Rattle.list_checks.proofs.segments_differ.Tie as tie
 
 returns : tie.Need-returns
 unfolding segmentsDiffer differ some-of

@@ -1,15 +1,15 @@
 // The checks of a call's input that the measures share, refusals 2 to 5, in document 01's order. Nothing lent is written, and all entries are seen before any work starts.
 ghost use mathlib.Core.Path.{_≡_};
 ghost use Rattle.laws.specs.Lists.{some-of};
 ghost use Rattle.drawing.specs.Refusals.{firstOf};
 ghost use Rattle.drawing.specs.Entries.{segmentColumns, nodeColumns, exemptionColumns, segments, nodes};
 ghost use Rattle.drawing.specs.Conditions as Conditions;
 ghost use Rattle.drawing.specs.Checks as Checks;
 ghost use Rattle.drawing.specs.Inner.Lengths.{SegmentsAgree, NodesAgree, comparedEntryConditions};
-use crate::entry::node_unfit;
-use crate::entry::segment_unfit;
-use crate::refusal::Check;
-use crate::refusal::Refusal;
+use drawing::Check;
+use drawing::Refusal;
+use drawing::node_unfit;
+use drawing::segment_unfit;
 
 // 2: the columns of one list differ in length.
 pub fn segments_differ(

@@ -1,13 +1,13 @@
--- `drawing::checks::nodes_unfit` meets its contract: after `at` turns the first `at` nodes are fit. Assumes nothing.
+-- `list_checks::nodes_unfit` meets its contract: after `at` turns the first `at` nodes are fit. Assumes nothing.
 use mathlib.Core.Path.{sym, _∙_}
 use borrow.Author.Needs.{needs}
 use Prim.Native.Nat.{_-_}
 use lib.ListN.{length}
 use Rattle.drawing.specs.Entries.{nodeColumns}
 use Rattle.drawing.specs.Conditions.{unfitNode}
 use Rattle.drawing.proofs.Scans.{NodesScanned, nodes-none, nodes-hit, nodes-next, nodes-all}
-use Rattle.drawing.proofs.checks.nodes_unfit.Statement.{statement}
-use Rattle.drawing.proofs.checks.nodes_unfit.Tie as tie
+use Rattle.list_checks.proofs.nodes_unfit.Statement.{statement}
+use Rattle.list_checks.proofs.nodes_unfit.Tie as tie
 
 abbrev Inv-loop : tie.InvT-loop
 Inv-loop id x y width height at₀ at = NodesScanned unfitNode (nodeColumns id x y width height) at

@@ -1,10 +1,10 @@
--- `drawing::checks::check_segments` meets its contract: each return is the first condition of the list that holds. Assumes nothing.
+-- `list_checks::check_segments` meets its contract: each return is the first condition of the list that holds. Assumes nothing.
 use mathlib.Core.Path.{sym, _∙_}
 use Rattle.drawing.specs.Checks.{segmentConditions}
 use Rattle.drawing.proofs.FirstRefusal.{first-yes, first-no, first-none, segments-agree}
 use borrow.Author.Needs.{needs}
-use Rattle.drawing.proofs.checks.check_segments.Statement.{statement}
-use Rattle.drawing.proofs.checks.check_segments.Tie as tie
+use Rattle.list_checks.proofs.check_segments.Statement.{statement}
+use Rattle.list_checks.proofs.check_segments.Tie as tie
 
 segments-differ-requires : tie.Need-segments-differ-requires
 segments-differ-requires c κs = search needs

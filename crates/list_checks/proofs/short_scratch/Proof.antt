@@ -1,4 +1,4 @@
--- `drawing::checks::short_scratch` meets its contract: the entries that the scratch is long enough for are compared with those that there are. Assumes nothing.
+-- `list_checks::short_scratch` meets its contract: the entries that the scratch is long enough for are compared with those that there are. Assumes nothing.
 use mathlib.Core.Path.{_≡_, sym}
 use mathlib.Core.Bool.{true}
 use Prim.Native.Nat.{ℕ, _+_, _-_, _*_, _/_, _≤_, _<_}
@@ -6,9 +6,9 @@ use native.Mathlib.Omega.{arith}
 use borrow.Author.Tests.{lt-ltb}
 use lib.Dec.{ltb}
 use Rattle.laws.proofs.Tests.{ltb-same}
 use Rattle.drawing.specs.Conditions.{shortScratch}
-use Rattle.drawing.proofs.checks.short_scratch.Statement.{statement}
-use Rattle.drawing.proofs.checks.short_scratch.Tie as tie
+use Rattle.list_checks.proofs.short_scratch.Statement.{statement}
+use Rattle.list_checks.proofs.short_scratch.Tie as tie
 
 module _ (words segments nodes : ℕ) where
   below-64 : words < 64 → true ≡ shortScratch words segments nodes

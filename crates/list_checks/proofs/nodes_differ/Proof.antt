@@ -1,11 +1,11 @@
--- `drawing::checks::nodes_differ` meets its contract: the first length that differs from that of `id` decides. Assumes nothing.
+-- `list_checks::nodes_differ` meets its contract: the first length that differs from that of `id` decides. Assumes nothing.
 use borrow.Author.Tests.{eq-eqb, ne-eqb}
 use Rattle.laws.specs.Lists.{some-of}
 use Rattle.laws.proofs.Tests.{or-false}
 use Rattle.drawing.specs.Conditions.{differ}
 use Rattle.drawing.specs.Checks.{nodesDiffer}
-use Rattle.drawing.proofs.checks.nodes_differ.Statement.{statement}
-use Rattle.drawing.proofs.checks.nodes_differ.Tie as tie
+use Rattle.list_checks.proofs.nodes_differ.Statement.{statement}
+use Rattle.list_checks.proofs.nodes_differ.Tie as tie
 
 returns : tie.Need-returns
 unfolding nodesDiffer differ some-of

@@ -1,10 +1,10 @@
--- `drawing::checks::check_lists` meets its contract: each return is the first condition of the list that holds. Assumes nothing.
+-- `list_checks::check_lists` meets its contract: each return is the first condition of the list that holds. Assumes nothing.
 use mathlib.Core.Path.{sym, _∙_}
 use Rattle.drawing.specs.Checks.{listConditions}
 use Rattle.drawing.proofs.FirstRefusal.{first-yes, first-no, first-none}
 use borrow.Author.Needs.{needs}
-use Rattle.drawing.proofs.checks.check_lists.Statement.{statement}
-use Rattle.drawing.proofs.checks.check_lists.Tie as tie
+use Rattle.list_checks.proofs.check_lists.Statement.{statement}
+use Rattle.list_checks.proofs.check_lists.Tie as tie
 
 segments-differ-requires : tie.Need-segments-differ-requires
 segments-differ-requires c κs = search needs

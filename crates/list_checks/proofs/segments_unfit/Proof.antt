@@ -1,13 +1,13 @@
--- `drawing::checks::segments_unfit` meets its contract: after i turns the first i segments are fit. Assumes nothing.
+-- `list_checks::segments_unfit` meets its contract: after i turns the first i segments are fit. Assumes nothing.
 use mathlib.Core.Path.{sym, _∙_}
 use borrow.Author.Needs.{needs}
 use Prim.Native.Nat.{_-_}
 use lib.ListN.{length}
 use Rattle.drawing.specs.Entries.{segmentColumns}
 use Rattle.drawing.specs.Conditions.{unfitSegment}
 use Rattle.drawing.proofs.Scans.{SegmentsScanned, segments-none, segments-hit, segments-next, segments-all}
-use Rattle.drawing.proofs.checks.segments_unfit.Statement.{statement}
-use Rattle.drawing.proofs.checks.segments_unfit.Tie as tie
+use Rattle.list_checks.proofs.segments_unfit.Statement.{statement}
+use Rattle.list_checks.proofs.segments_unfit.Tie as tie
 
 abbrev Inv-loop : tie.InvT-loop
 Inv-loop net orientation fixed start end i₀ i = SegmentsScanned unfitSegment (segmentColumns net orientation fixed start end) i
