@@ -9,7 +9,7 @@ use lib.Ieee.{Float, nan, inf, fin, binary64, fits, isNan, lt}
 use lib.ListN.{length, getD}
 use Rattle.laws.specs.Charged.{free, visit, runs}
 use Rattle.laws.specs.Inner.Allowance.{Outcome, within}
-use Rattle.laws.proofs.Loops.{Onwards, loop-next, loop-stops, loop-ends}
+use Rattle.laws.proofs.Loops.{ComesTo, loop-next, loop-stops, loop-ends}
 use Rattle.bitset.specs.Inner.Members.{member}
 use Rattle.drawing.specs.Entries.{Exemption}
 use Rattle.drawing.specs.Inner.LeastFloats.{Number, gapOfFloat}
@@ -51,7 +51,7 @@ module _ (t : Float) (w : List ℕ) (i n : ℕ) (p : Aabb) (marks groups : List 
     pub begun : i ≤ j
     pub below : j ≤ i + n
     pub room : state .violations + state .remaining < 2 ^ 64
-    pub onwards : (ex : List Exemption) (net : ℕ) → Marked marks groups w ex net → Onwards (leafVisit ex t net p) (whole ex net) (leavesFrom w j (i + n - j)) (soFar state) (state .remaining)
+    pub onwards : (ex : List Exemption) (net : ℕ) → Marked marks groups w ex net → ComesTo (leafVisit ex t net p) (whole ex net) (leavesFrom w j (i + n - j)) (soFar state) (state .remaining)
 
   pub visiting-none : Part w i n → from .violations + from .remaining < 2 ^ 64 → Visiting from i
   visiting-none part room = record {

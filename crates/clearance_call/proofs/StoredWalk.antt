@@ -9,7 +9,7 @@ use borrow.Author.Tests.{le-leb, lt-leb}
 use lib.Dec.{leb}
 use lib.Ieee.{Float, lt}
 use Rattle.laws.specs.Charged.{Charged, free, visit}
-use Rattle.laws.specs.Inner.Allowance.{Outcome, left, within, onward}
+use Rattle.laws.specs.Inner.Allowance.{Outcome, within, onward}
 use Rattle.laws.proofs.Tests.{decide}
 use Rattle.laws.proofs.Runs.{within-left, within-free}
 use Rattle.floats.specs.TotalOrder.{keyOf}

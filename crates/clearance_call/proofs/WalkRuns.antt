@@ -8,7 +8,7 @@ use lib.Ieee.{Float, nan}
 use lib.ListN.{length, getD, take, drop}
 use Rattle.laws.specs.Charged.{Charged, runs}
 use Rattle.laws.specs.Inner.Allowance.{within}
-use Rattle.laws.proofs.Loops.{Onwards, loop-next, loop-stops, loop-ends, told-next, told-none}
+use Rattle.laws.proofs.Loops.{ComesTo, loop-next, loop-stops, loop-ends, table-next, table-none}
 use Rattle.laws.proofs.Places.{first-at}
 use Rattle.drawing.specs.Entries.{Segment, Exemption, SegmentColumns}
 use Rattle.drawing.specs.Inner.Entries.{segmentAt}
@@ -60,7 +60,7 @@ module _ (t : ℕ → Float) (w : List ℕ) (m : ℕ) (order packed groups : Lis
     pub long : length marks ≡ 64
     pub low : used ≤ 64
     pub stand : (ex : List Exemption) → Holds packed ex → length ex ≡ k → MarkedFor (take used marks) groups w ex marked
-    pub onwards : (ex : List Exemption) → Holds packed ex → length ex ≡ k → Onwards (step ex) (within allowance (allWalks ex t w m order c)) (rest q) (soFar state) (state .remaining)
+    pub onwards : (ex : List Exemption) → Holds packed ex → length ex ≡ k → ComesTo (step ex) (within allowance (allWalks ex t w m order c)) (rest q) (soFar state) (state .remaining)
 
   pub turned-none : InTurns order c → allowance < 2 ^ 64 → (state : Walking) → state .least ≡ nan → state .violations ≡ 0 → state .remaining ≡ allowance → (marks : List ℕ) → length marks ≡ 64 → Turned state marks 0 4294967296 0
   unfolding gapOfFloat
@@ -69,7 +69,7 @@ module _ (t : ℕ → Float) (w : List ℕ) (m : ℕ) (order packed groups : Lis
   module _ (state : Walking) (marks : List ℕ) (used marked q : ℕ) (u : Turned state marks used marked q) (less : q < length (c .net)) (r : Walked)
       (e : (ex : List Exemption) → Holds packed ex → length ex ≡ k → outcomeOf r ≡ within (state .remaining) (walk ex (t (segmentAt c (getD order q 0) .net)) (segmentAt c (getD order q 0)) (storedTree m w 0 m) (soFar state))) where
     next : rest q ≡ segmentAt c (getD order q 0) ∷ rest (q + 1)
-    next = told-next 0 (segmentAt c) (length (c .net)) order (u .turns .inside) (rest 0) refl q less
+    next = table-next 0 (segmentAt c) (length (c .net)) order (u .turns .inside) (rest 0) refl q less
 
     pub turned-stopped : r ≡ Spent → (ex : List Exemption) → Holds packed ex → length ex ≡ k → outcomeOf Spent ≡ within allowance (allWalks ex t w m order c)
     unfolding outcomeOf
@@ -89,4 +89,4 @@ module _ (t : ℕ → Float) (w : List ℕ) (m : ℕ) (order packed groups : Lis
 
   pub turned-all : (state : Walking) (marks : List ℕ) (used marked q : ℕ) → Turned state marks used marked q → length (c .net) ≤ q → (ex : List Exemption) → Holds packed ex → length ex ≡ k → outcomeOf (Went state) ≡ within allowance (allWalks ex t w m order c)
   unfolding outcomeOf
-  turned-all state marks used marked q u h ex a b = sym (loop-ends (u .onwards ex a b) (told-none 0 (segmentAt c) (length (c .net)) order (u .turns .inside) (rest 0) refl q h))
+  turned-all state marks used marked q u h ex a b = sym (loop-ends (u .onwards ex a b) (table-none 0 (segmentAt c) (length (c .net)) order (u .turns .inside) (rest 0) refl q h))

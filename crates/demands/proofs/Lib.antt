@@ -5,8 +5,9 @@ pub mod Demand3
 pub mod TightPair
 pub mod Marked
 pub mod ShutOut
--- what they lean on: the first refusal by number, the floats of a report, the facts of each measure, and the demands of one measure from its facts
+-- what they lean on: the first refusal, the order of the checks, the floats of a report, the facts of each measure, and the demands of one measure from its facts
 mod FirstMet
+mod CheckingOrder
 mod Numbers
 mod Facts
 mod ClearanceFacts

@@ -18,6 +18,7 @@ use Rattle.tight_pair.specs.TightPair.{found, answer, Answered, resultOf}
 use Rattle.demands.specs.Applies.{First, NoneApplies}
 use Rattle.demands.specs.TightPair.{Pair, TightPairs}
 use Rattle.demands.proofs.FirstMet.{first-refused, none-passed}
+use Rattle.demands.proofs.CheckingOrder.{of-tight-pair}
 
 module _ (s : SegmentColumns) (n : NodeColumns) (e : ExemptionColumns) (r : TightPair) (a : Answered s n e r) where
   -- from what the checks say, and from the least clearance
@@ -40,4 +41,4 @@ module _ (s : SegmentColumns) (n : NodeColumns) (e : ExemptionColumns) (r : Tigh
       record { segment = a .choice .0; node = a .choice .1; told = ap resultOf is; tight = a .tight (a .choice .0) (a .choice .1) is }
 
 pub tight-pairs : TightPairs
-tight-pairs = record { of-each = λ s n e r a. record { unfit = unfit s n e r a; no-pair = no-pair s n e r a; some-pair = some-pair s n e r a } }
+tight-pairs = record { of-each = λ s n e r a. record { unfit = unfit s n e r a; no-pair = no-pair s n e r a; some-pair = some-pair s n e r a }; in-order = of-tight-pair }

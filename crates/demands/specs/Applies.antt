@@ -1,9 +1,11 @@
--- Which refusal applies: one whose condition as stated holds, and not one whose number a call returns.
+-- Which refusal applies, one whose condition as stated holds, and not one whose number a call returns; and in which order they are checked.
 use mathlib.Core.Path.{_≡_}
 use mathlib.Core.Bool.{Bool, true, false}
-use mathlib.Core.List.{List, _∷_, _++_}
+use mathlib.Core.List.{List, [], _∷_, _++_}
+use Prim.Native.Nat.{ℕ, _≤_, _<_}
 use Rattle.laws.specs.Lists.{All}
 use Rattle.drawing.specs.declared.refusal.Refusal.{Refusal}
+use Rattle.drawing.specs.declared.refusal.Refusal.the-variants.{MalformedFile, ColumnsDiffer, TooManyEntries, ShortScratch, InvalidInput, OffGrid, WorkLimitExceeded}
 
 -- of conditions, each with its refusal, none holds
 abbrev pub NoneApplies : List (Bool × Refusal) → Type 0
@@ -15,3 +17,18 @@ pub record First (l : List (Bool × Refusal)) (refusal : Refusal) : Type 0 where
   pub after : List (Bool × Refusal)
   pub it : l ≡ before ++ ((true, refusal) ∷ after)
   pub none-before : NoneApplies before
+
+-- "Turned down, in checking order": the place of each in document 01's list
+unfoldable pub placeOf : Refusal → ℕ
+placeOf MalformedFile = 1
+placeOf ColumnsDiffer = 2
+placeOf TooManyEntries = 3
+placeOf ShortScratch = 4
+placeOf InvalidInput = 5
+placeOf OffGrid = 6
+placeOf WorkLimitExceeded = 7
+
+-- conditions that are checked in this order, from a place on: none stands behind one with a later place, and the spent allowance comes behind them all
+abbrev pub InOrder : ℕ → List (Bool × Refusal) → Type 0
+InOrder place [] = place < placeOf WorkLimitExceeded
+InOrder place (c ∷ l) = (place ≤ placeOf (c .1)) × InOrder (placeOf (c .1)) l

@@ -9,7 +9,7 @@ use lib.ListN.{length, replicate}
 use Rattle.drawing.specs.declared.refusal.Refusal.{Refusal}
 use Rattle.drawing.specs.declared.refusal.Check.{Check}
 use Rattle.drawing.specs.Refusals.{numberOf, numberOfCheck, firstOf}
-use Rattle.demands.specs.Applies.{First, NoneApplies}
+use Rattle.demands.specs.Applies.{First, NoneApplies, InOrder}
 use Rattle.demands.specs.Measures.{Measure, Run, resultOfRun, visitCount, earlier, allPairsReport, Call, measured}
 
 -- what a run returned, and what it left in the scratch
@@ -43,5 +43,7 @@ pub record Checking (l : List (Bool × Refusal)) (answer : Check) : Type 0 where
 
 pub record Demand1 : Type 0 where
   pub of-each : (call : Call) → Refusing (measured call)
+  -- "in document 01's list": the conditions of each call stand in the order of that list, so that the first of them is the first there
+  pub in-order : (call : Call) (d : measured call .Drawing) (s : measured call .Settings) (words : ℕ) → InOrder 0 (measured call .conditions d s words)
   -- the public checks: the contract of each is that it answers `firstOf` of its conditions
   pub of-checks : (l : List (Bool × Refusal)) (answer : Check) → answer ≡ firstOf l → Checking l answer

@@ -49,7 +49,7 @@ pub record Counts : Type 0 where
   pub clearance-at-most : (d : Lists) (threshold : Float) → clearance .count d threshold ≤ length (segments (d .segments)) * length (nodes (d .nodes))
   -- "separation's at most what document 01's formula gives": "the sum over orientations of n times (10h + 5)"
   pub separation-at-most : (d : SegmentColumns) → separation .count d tt ≤ atMost 1 (segments d) + atMost 0 (segments d)
-  -- "congestion's exactly what its formula gives": each of the three calls counts by the formula itself, which `congestion` states beside its sentence
+  -- "congestion's exactly what its formula gives": each of the three calls counts by the formula itself, which `congestion` states beside its sentence; that the walk's visits are this count is demand 2 (`AllPairs`: `walk`)
   pub density-exactly : (d : SegmentColumns) (cutoff : Float) → density .count d cutoff ≡ congestionVisits.visitCount cutoff (segments d)
   pub profile-exactly : (d : SegmentColumns) (cutoff : Float) → profile .count d cutoff ≡ congestionVisits.visitCount cutoff (segments d)
   pub congestion-exactly : (d : SegmentColumns) (cutoff : Float) → congestion .count d cutoff ≡ congestionVisits.visitCount cutoff (segments d)

@@ -12,7 +12,7 @@ use Rattle.drawing.specs.Refusals.{numberOf}
 use Rattle.tight_pair.specs.declared.TightPair.{TightPair}
 use Rattle.tight_pair.specs.Conditions.{tightPairConditions}
 use Rattle.tight_pair.specs.TightPair.{Tight, Answered, resultOf}
-use Rattle.demands.specs.Applies.{First, NoneApplies}
+use Rattle.demands.specs.Applies.{First, NoneApplies, InOrder}
 use Rattle.demands.specs.Measures.{clearance}
 
 module _ (s : SegmentColumns) (n : NodeColumns) (e : ExemptionColumns) (r : TightPair) where
@@ -37,3 +37,5 @@ module _ (s : SegmentColumns) (n : NodeColumns) (e : ExemptionColumns) (r : Tigh
 
 pub record TightPairs : Type 0 where
   pub of-each : (s : SegmentColumns) (n : NodeColumns) (e : ExemptionColumns) (r : TightPair) → Answered s n e r → Holds s n e r
+  -- "checks 2, 3 and 5 of clearance", in this order
+  pub in-order : (s : SegmentColumns) (n : NodeColumns) (e : ExemptionColumns) → InOrder 0 (tightPairConditions s n e)

@@ -16,7 +16,7 @@ use Rattle.laws.proofs.Tests.{le-or-lt}
 use Rattle.laws.proofs.Places.{first-at}
 use Rattle.laws.proofs.ListLaws.{mem-map, map-same}
 use Rattle.laws.proofs.Runs.{within-enough, within-short}
-use Rattle.laws.proofs.Loops.{Onwards, loop-next, loop-stops, loop-ends, told-next, told-none}
+use Rattle.laws.proofs.Loops.{ComesTo, loop-next, loop-stops, loop-ends, table-next, table-none}
 use Rattle.sorting.specs.Inner.Sorted.{upTo}
 use Rattle.sorting.proofs.Entries.{upTo-below, upTo-entries, upTo-placed}
 use Rattle.bitset.specs.Inner.Members.{member}
@@ -28,7 +28,7 @@ use Rattle.drawing.specs.Inner.LeastFloats.{gapOfFloat}
 use Rattle.density_call.specs.declared.sweep.Sweeping.{Sweeping}
 use Rattle.density_call.specs.declared.sweep.Handled.{Handled}
 use Rattle.density_call.specs.declared.sweep.Handled.the-variants.{Went, Spent}
-use Rattle.congestion.specs.declared.found.Swept.the-variants.{Went as Done, Spent as Short}
+use Rattle.congestion.specs.declared.found.Swept.the-variants.{Went as Done, Spent as Over}
 use Rattle.congestion.specs.Wires.{Wire}
 use Rattle.congestion.specs.Walk.{Item, Event, State, numbered, at, events, inOrder, step, firstAt, begin, sweep}
 use Rattle.congestion.specs.Inner.Keys.{Key}
@@ -145,7 +145,7 @@ module _ (s₀ : List ℕ) (n allowance : ℕ) (a : AtFirst s₀ n) where
     pub follows : Follows state st
     pub reached : Reached (a .c) items (drop q order) st
     pub whole : run (a .c) (drop q order) st ≡ all .value
-    pub onwards : Onwards (step (a .c)) (within allowance all) (drop q order) st (state .remaining)
+    pub onwards : ComesTo (step (a .c)) (within allowance all) (drop q order) st (state .remaining)
 
   -- event q, and those behind it
   module _ (s : List ℕ) (room : 10 * n + 1 ≤ length s) (tabled : Tabled (a .c) (a .L) s) (q : ℕ) where
@@ -159,10 +159,10 @@ module _ (s₀ : List ℕ) (n allowance : ℕ) (a : AtFirst s₀ n) where
     number-small h = omega (arith, a .size, first-at (λ e. e < 2 * length (a .L)) 0 (2 * length (a .L)) s long (tabled .small) q (omega (arith, a .size)))
 
     next-is : q < 2 * n → drop q order ≡ eventAt (a .L) number ∷ drop (q + 1) order
-    next-is h = told-next 0 (eventAt (a .L)) (2 * length (a .L)) s long order (tabled .ordered) q (omega (arith, a .size))
+    next-is h = table-next 0 (eventAt (a .L)) (2 * length (a .L)) s long order (tabled .ordered) q (omega (arith, a .size))
 
     none-ahead : 2 * n ≤ q → drop q order ≡ []
-    none-ahead h = told-none 0 (eventAt (a .L)) (2 * length (a .L)) s long order (tabled .ordered) q (omega (arith, a .size))
+    none-ahead h = table-none 0 (eventAt (a .L)) (2 * length (a .L)) s long order (tabled .ordered) q (omega (arith, a .size))
 
   -- ---- before the first event
   pub going-first : (x top : Float) → x ≡ floatAt (getD s₀ (2 * n + getD s₀ 0 0) 0) → top ≡ nan → Going (record { «congested_active» = 0; «congested_length» = ofBits binary64 0; «close_pairs» = 0; «pair_overlap_length» = ofBits binary64 0; «peak_close_neighbors» = 0; «minimum_positive» = top; previous = x; remaining = allowance }) s₀ 0
@@ -237,7 +237,7 @@ module _ (s₀ : List ℕ) (n allowance : ℕ) (a : AtFirst s₀ n) where
       taken = step (a .c) (g .st) now
 
       module _ (r : Handled) (t : List ℕ) (steps : Steps (a .c) (a .L) n (g .st) now t (state .remaining) r) where
-        pub going-stops : r ≡ Spent → Short ≡ sweptOf (within allowance all)
+        pub going-stops : r ≡ Spent → Over ≡ sweptOf (within allowance all)
         unfolding sweptOf
         going-stops e = elim (le-or-lt (taken .cost) (state .remaining)) [
           | inl h ↦ never (steps .1 h .to) (sym (steps .1 h .went) ∙ e)
@@ -285,7 +285,7 @@ module _ (s₀ : List ℕ) (n allowance : ℕ) where
     run-event a less = event-due s₀ n allowance a state s q (g a) less
 
     module _ (less : q < 2 * n) (r : Handled) (t : List ℕ) (f : Handles s t n (getD s q 0) state r) where
-      pub run-stops : r ≡ Spent → (a : AtFirst s₀ n) → Short ≡ sweptOf (within allowance (sweep (a .c) (a .L)))
+      pub run-stops : r ≡ Spent → (a : AtFirst s₀ n) → Over ≡ sweptOf (within allowance (sweep (a .c) (a .L)))
       unfolding event-due
       run-stops e a = going-stops s₀ n allowance a state s q (g a) less r t (f (event-due s₀ n allowance a state s q (g a) less)) e
 

@@ -22,7 +22,7 @@ use Rattle.floats.specs.Grid.{ofUnits}
 use Rattle.floats.proofs.Units.{unit-bound}
 use Rattle.density_call.specs.declared.meet.Meeting.{Meeting}
 use Rattle.density_call.specs.declared.meet.Met.{Met}
-use Rattle.density_call.specs.declared.meet.Met.the-variants.{Went as Paid, Spent as Short}
+use Rattle.density_call.specs.declared.meet.Met.the-variants.{Went as Paid, Spent as Over}
 use Rattle.density_call.specs.declared.sweep.Sweeping.{Sweeping}
 use Rattle.density_call.specs.declared.sweep.Handled.the-variants.{Went, Spent}
 use Rattle.congestion.specs.Wires.{Wire}
@@ -113,7 +113,7 @@ module _ (s : List ℕ) (n e : ℕ) (state : Sweeping) (a : AtEvent s n e state)
   tabled-then t u only e = tables-stay (a .c) (a .L) s u (subst (λ (m : ℕ). take (8 * m) u ≡ take (8 * m) s) (sym (a .size)) (e ∙ only .front)) (a .tabled)
 
 -- ---- a meeting's answer decides whether the sweep goes on
-never : {A : Type 0} (m : Meeting) → Paid m ≡ Short → A
+never : {A : Type 0} (m : Meeting) → Paid m ≡ Over → A
 never m e = let z : _≡_ {A = ℕ} 0 1 = cc in absurd (omega arith)
 
 same-meeting : (m k : Meeting) → Paid m ≡ Paid k → m ≡ k
@@ -121,13 +121,13 @@ same-meeting m k e = cc
 
 -- M is what it comes to where the visits can be paid, and R what holds then
 abbrev Answered : ℕ → ℕ → Met → Meeting → Type 0 → Type 0
-Answered m cost met M R = (m < cost → met ≡ Short) × (cost ≤ m → (met ≡ Paid M) × R)
+Answered m cost met M R = (m < cost → met ≡ Over) × (cost ≤ m → (met ≡ Paid M) × R)
 
 module _ (c : ℕ) (L : List Wire) (n : ℕ) (st : State) (e : Event) (m : ℕ) (met : Met) (M : Meeting) (R : Type 0) (answer : Answered m (step c st e .cost) met M R) where
   known : (meeting : Meeting) → met ≡ Paid meeting → meeting ≡ M
   known meeting h = elim (le-or-lt (step c st e .cost) m) [ inl l ↦ same-meeting meeting M (sym h ∙ answer .1 l .0) | inr l ↦ never meeting (sym h ∙ answer .0 l) ]
 
-  stops : (t : List ℕ) → met ≡ Short → Steps c L n st e t m Spent
+  stops : (t : List ℕ) → met ≡ Over → Steps c L n st e t m Spent
   stops t h = (λ l. refl, λ l. never M (sym (answer .1 l .0) ∙ h))
 
   goes : (meeting : Meeting) (to : Sweeping) (t : List ℕ) → met ≡ Paid meeting → (meeting ≡ M → R → Onward c L n (step c st e .value) t (m - step c st e .cost) (Went to)) → Steps c L n st e t m (Went to)
@@ -187,7 +187,7 @@ module _ (s : List ℕ) (n j : ℕ) (state : Sweeping) where
         subst (λ (m : ℕ). Answered m (visitsOf (a .c) (a .L) j (a .st)) met (metAtStart a m) (rowsAtStart a t)) (ap (λ (z : Sweeping). z .remaining) pass)
         (meets (a .c) (a .L) (a .st) (a .st .minimumPositive) (a .size) (a .tabled) (a .stored) (ap (λ (z : Sweeping). z .«minimum_positive») pass ∙ a .follows .least) (a .follows .held))
 
-    pub start-stops : met ≡ Short → Handles s t n (n + j) state Spent
+    pub start-stops : met ≡ Over → Handles s t n (n + j) state Spent
     start-stops h a =
         subst (λ (e : Event). Steps (a .c) (a .L) n (a .st) e t (state .remaining) Spent) (sym (starts-at (a .L) n j (a .size)))
         (stops (a .c) (a .L) n (a .st) (event false (starting a)) (state .remaining) met (metAtStart a (state .remaining)) (rowsAtStart a t) (start-answer a) t h)
@@ -284,7 +284,7 @@ module _ (s : List ℕ) (n j : ℕ) (state : Sweeping) (inside : j < n) where
         subst (λ (m : ℕ). Answered m (visitsOf (a .c) (a .L) j (a .st)) met (metAtEnd a m) (rowsAtEnd a t)) (ap (λ (z : Sweeping). z .remaining) pass)
         (meets (a .c) (a .L) (a .st) (a .st .minimumPositive) (a .size) (a .tabled) (a .stored) (ap (λ (z : Sweeping). z .«minimum_positive») pass ∙ a .follows .least) (a .follows .held))
 
-    pub end-stops : met ≡ Short → Handles s t n j state Spent
+    pub end-stops : met ≡ Over → Handles s t n j state Spent
     end-stops h a =
         subst (λ (e : Event). Steps (a .c) (a .L) n (a .st) e t (state .remaining) Spent) (sym (ends-at (a .L) j (place a)))
         (stops (a .c) (a .L) n (a .st) (event true (ending a)) (state .remaining) met (metAtEnd a (state .remaining)) (rowsAtEnd a t) (end-answer a) t h)

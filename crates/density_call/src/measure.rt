@@ -43,7 +43,7 @@ fn together(across: Found, down: Found) -> Found
 
 // The sweep over a fit drawing: horizontal segments first, then vertical ones with what is left of the allowance. A cutoff of 0 or less costs nothing.
 // Each segment that is swept costs a visit at least. Where the allowance does not reach that, it is spent before any table is made.
-fn sweep_both(
+fn walk_segments(
     net: &[u32],
     orientation: &[u8],
     fixed: &[f64],
@@ -124,7 +124,7 @@ pub fn measure_parallel_density_profile_bounded(
         return CongestionAnswer::Refused(why);
     }
     let total = total_length(net, orientation, fixed, start, end);
-    let swept = sweep_both(
+    let swept = walk_segments(
         net,
         orientation,
         fixed,

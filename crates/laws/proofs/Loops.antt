@@ -11,16 +11,16 @@ use Rattle.laws.specs.Inner.Allowance.{Outcome, spent, left, within, onw
 use Rattle.laws.proofs.Runs.{within-none, within-next, onward-spent, onward-left}
 
 -- the entries `rest`, from the state s with m left of the allowance, come to `all`
-pub record Onwards {S X : Type 0} (step : S → X → Charged S) (all : Outcome S) (rest : List X) (s : S) (m : ℕ) : Type 0 where
+pub record ComesTo {S X : Type 0} (step : S → X → Charged S) (all : Outcome S) (rest : List X) (s : S) (m : ℕ) : Type 0 where
   pub come : within m (runs step s rest) ≡ all
 
-module _ {S X : Type 0} {step : S → X → Charged S} {all : Outcome S} {rest : List X} {s : S} {m : ℕ} (o : Onwards step all rest s m) where
+module _ {S X : Type 0} {step : S → X → Charged S} {all : Outcome S} {rest : List X} {s : S} {m : ℕ} (o : ComesTo step all rest s m) where
   -- ---- one entry x, and then the others
   module _ {x : X} {later : List X} (next : rest ≡ x ∷ later) where
     split : all ≡ onward (within m (step s x)) (λ t k. within k (runs step t later))
     split = sym (o .come) ∙ ap (λ (l : List X). within m (runs step s l)) next ∙ within-next step m s x later
 
-    pub loop-next : {t : S} {k : ℕ} → within m (step s x) ≡ left t k → Onwards step all later t k
+    pub loop-next : {t : S} {k : ℕ} → within m (step s x) ≡ left t k → ComesTo step all later t k
     loop-next {t} {k} e = record { come = sym (split ∙ ap (λ (z : Outcome S). onward z (λ t k. within k (runs step t later))) e ∙ onward-left t k (λ t k. within k (runs step t later))) }
 
     pub loop-stops : within m (step s x) ≡ spent → all ≡ spent
@@ -30,15 +30,15 @@ module _ {S X : Type 0} {step : S → X → Charged S} {all : Outcome S} {rest :
   pub loop-ends : rest ≡ [] → all ≡ left s m
   loop-ends e = sym (o .come) ∙ ap (λ (l : List X). within m (runs step s l)) e ∙ within-none step m s
 
--- ---- the entries by their places, where the first n words of a table tell each of them under f
-module _ {W X : Type 0} (d : W) (f : W → X) (n : ℕ) (words : List W) (inside : n ≤ length words) (l : List X) (told : map f (take n words) ≡ l) where
-  pub told-length : length l ≡ n
-  told-length = ap length (sym told) ∙ length-map (take n words) f ∙ length-take-le n words inside
+-- ---- the entries by their places, where each of the first n words of a table stands for one of them
+module _ {W X : Type 0} (d : W) (f : W → X) (n : ℕ) (words : List W) (inside : n ≤ length words) (l : List X) (entries : map f (take n words) ≡ l) where
+  pub table-length : length l ≡ n
+  table-length = ap length (sym entries) ∙ length-map (take n words) f ∙ length-take-le n words inside
 
-  pub told-next : (q : ℕ) → q < n → drop q l ≡ f (getD words q d) ∷ drop (q + 1) l
-  told-next q h =
-      let here : getD l q (f d) ≡ f (getD words q d) = ap (λ (z : List X). getD z q (f d)) (sym told) ∙ List·getD-map f (take n words) q d ∙ ap f (getD-take n words q d h) in
-      rw (add-one q) (drop-cons l q (f d) (omega (arith, told-length)) ∙ ap (λ (x : X). x ∷ drop (suc q) l) here)
+  pub table-next : (q : ℕ) → q < n → drop q l ≡ f (getD words q d) ∷ drop (q + 1) l
+  table-next q h =
+      let here : getD l q (f d) ≡ f (getD words q d) = ap (λ (z : List X). getD z q (f d)) (sym entries) ∙ List·getD-map f (take n words) q d ∙ ap f (getD-take n words q d h) in
+      rw (add-one q) (drop-cons l q (f d) (omega (arith, table-length)) ∙ ap (λ (x : X). x ∷ drop (suc q) l) here)
 
-  pub told-none : (q : ℕ) → n ≤ q → drop q l ≡ []
-  told-none q h = drop-of-length-le l {i = q} (omega (arith, told-length))
+  pub table-none : (q : ℕ) → n ≤ q → drop q l ≡ []
+  table-none q h = drop-of-length-le l {i = q} (omega (arith, table-length))

@@ -62,13 +62,6 @@ pub or-right : (a b : Bool) → b ≡ true → (a || b) ≡ true
 or-right true b p = refl
 or-right false b p = p
 
--- both tests known, where the second decides
-pub or-second : {a b : Bool} → a ≡ false → b ≡ true → (a || b) ≡ true
-or-second p q = rw (p, q)
-
-pub or-neither : (a b : Bool) → a ≡ false → b ≡ false → (a || b) ≡ false
-or-neither a b p q = rw (p, q)
-
 pub neither-left : (a b : Bool) → (a || b) ≡ false → a ≡ false
 neither-left true b e = clash true refl e
 neither-left false b e = refl

@@ -1,4 +1,4 @@
--- Different numbers: how many a list holds, that it holds none twice, and those of a list in order, each once.
+-- The different numbers of a list in order, each once.
 use mathlib.Core.List.{List, [], _∷_}
 use mathlib.Core.Bool.{Bool, true, not}
 use Prim.Native.Nat.{ℕ}

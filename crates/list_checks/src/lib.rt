@@ -176,7 +176,7 @@ pub fn check_lists(
     Check::Passed
 }
 
-// The check 5 of segments and nodes, for columns of any lengths.
+// The check 5 of segments and nodes. Columns of one list that differ in length are refused first, with 2, so that it may be called with any.
 pub fn check_entries(
     net: &[u32],
     orientation: &[u8],

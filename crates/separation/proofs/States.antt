@@ -24,7 +24,7 @@ use Rattle.separation.specs.declared.found.Swept.the-variants.{Went as D
 use Rattle.separation.specs.Figures.{Figures}
 use Rattle.separation.specs.Walk.{nothing, lesserFigures, ownLine}
 use Rattle.separation.specs.Answer.{accepted}
-use Rattle.separation.specs.Inner.States.{metBy, atStart, outcomeOf, foundBy, sweptOf, withGap, Answers, tooFew}
+use Rattle.separation.specs.Inner.States.{metBy, atStart, outcomeOf, foundBy, sweptOf, withGap, Answers, tooFew, gapMet}
 use Rattle.separation.proofs.Summaries.{both}
 
 -- ---- what the code's answer says of a run while the sweep runs
@@ -71,12 +71,13 @@ pub own-not : (own : Bool) (f : Figures) → own ≡ false → f ≡ ownLine own
 own-not own f e = rw e
 
 -- ---- a gap joins both figures
-pub gap-joins : (st : Sweeping) (there here d a b : Float) → d ≡ absOf (sub binary64 there here) → a ≡ leastWith (st .minimum) d → b ≡ leastWith (st .«minimum_positive») d → Number (gapOf there here) → record { least = gapOfFloat a; leastNonzero = gapOfFloat b } ≡ withGap (gapOf there here) (metBy st)
-unfolding lesserFigures gapOf
-gap-joins st there here d a b g x y num = λ i. record { least = joins (st .minimum) a x i; leastNonzero = joins (st .«minimum_positive») b y i }
-  where
-    joins : (least z : Float) → z ≡ leastWith least d → gapOfFloat z ≡ lesserGap (gapOfFloat least) (Present (absOf (sub binary64 there here)))
-    joins least z e = ap gapOfFloat (e ∙ ap (leastWith least) g) ∙ least-joined least (absOf (sub binary64 there here)) num
+pub gap-meets : (st : Sweeping) (m : ℕ) (there here d a b : Float) → d ≡ absOf (sub binary64 there here) → a ≡ leastWith (st .minimum) d → b ≡ leastWith (st .«minimum_positive») d → record { minimum = a; «minimum_positive» = b; remaining = m } ≡ gapMet (gapOf there here) m st
+unfolding gapOf
+gap-meets st m there here d a b g x y = λ i. record { minimum = (x ∙ ap (leastWith (st .minimum)) g) i; «minimum_positive» = (y ∙ ap (leastWith (st .«minimum_positive»)) g) i; remaining = m }
+
+pub gap-joins : (st : Sweeping) (m : ℕ) (gap : Float) → Number gap → metBy (gapMet gap m st) ≡ withGap gap (metBy st)
+unfolding lesserFigures
+gap-joins st m gap number = λ i. record { least = least-joined (st .minimum) gap number i; leastNonzero = least-joined (st .«minimum_positive») gap number i }
 
 -- ---- the lesser of each figure
 pub lesser-of : (a b : Found) (x y : Gap) → x ≡ lesserGap (a .minimum) (b .minimum) → y ≡ lesserGap (a .«minimum_positive») (b .«minimum_positive») → record { least = x; leastNonzero = y } ≡ lesserFigures (foundBy a) (foundBy b)

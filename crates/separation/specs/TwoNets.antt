@@ -1,4 +1,4 @@
--- The Rust's own summary of the nets that are active on some lines, item by item: the first two different ones that it meets. The port keeps less of them (Summaries.antt); by `two-nets-decide` in proofs/TwoNets.antt the Rust's tree tells what the walk asks of it.
+-- The Rust's own summary of the nets that are active on some lines, item by item: the first two different ones that it meets. The port keeps less of them (Inner/Summaries.antt); by `two-nets-decide` in proofs/TwoNets.antt the Rust's tree tells what the walk asks of it.
 use mathlib.Core.Bool.{Bool, false, not, _||_, cond}
 use mathlib.Core.List.{List, [], _∷_}
 use mathlib.Core.Option.{Option, none, some}

@@ -1,9 +1,8 @@
 // Where the sweep stands: the figures so far, and how many visits are left; and what changes them.
 ghost use mathlib.Core.Path.{_≡_};
 ghost use Rattle.floats.specs.Values.{gapOf};
-ghost use Rattle.drawing.specs.Inner.LeastFloats.{Number};
 ghost use Rattle.separation.specs.Walk.{ownLine};
-ghost use Rattle.separation.specs.Inner.States.{metBy, atStart, withGap, chargedTo, foundIn};
+ghost use Rattle.separation.specs.Inner.States.{metBy, atStart, gapMet, chargedTo, foundIn};
 use crate::found::Found;
 use crate::search::Charge;
 use drawing::gap_of_float;
@@ -55,10 +54,9 @@ pub fn with_own_line(own: bool, remaining: usize, state: Sweeping) -> Sweeping
     }
 }
 
-// The gap to the line that a search found joins both figures: it is another line than the segment's own, so that the gap is not 0. The sweep hands over finite coordinates, whose gap is a number.
+// The gap to the line that a search found joins both figures: it is another line than the segment's own, so that the gap is not 0.
 pub fn with_other_line(there: f64, here: f64, remaining: usize, state: Sweeping) -> Sweeping
-    ensures { λ r. ⌜ (Number (gapOf there here) → metBy r ≡ withGap (gapOf there here) (metBy state)) ⌝ }
-    ensures { λ r. ⌜ r .remaining ≡ remaining ⌝ }
+    ensures { λ r. ⌜ r ≡ gapMet (gapOf there here) remaining state ⌝ }
 {
     let gap = absolute(there - here);
     let minimum = least_with(state.minimum, gap);

@@ -14,7 +14,7 @@ use Rattle.laws.specs.Inner.Allowance.{Outcome, left, within}
 use Rattle.laws.proofs.Tests.{le-or-lt, cond-true, cond-false}
 use Rattle.laws.proofs.Places.{first-at}
 use Rattle.laws.proofs.Runs.{read-left, read-spent, onward-spent, onward-left}
-use Rattle.laws.proofs.Loops.{Onwards, loop-next, loop-stops, loop-ends, told-next, told-none}
+use Rattle.laws.proofs.Loops.{ComesTo, loop-next, loop-stops, loop-ends, table-next, table-none}
 use Rattle.rows.specs.Rows.{Row, Event, ends, starts, events}
 use Rattle.rows.specs.Inner.Tables.{rowFrom, eventFrom}
 use Rattle.separation.specs.Figures.{Figures}
@@ -92,7 +92,7 @@ module _ (l : List Row) (F : List ℕ) (H allowance : ℕ) where
     pub proper : (r : Row) → Mem r l → r .start < r .end
     pub state : State l active (drop q (events l))
     pub below : q ≤ 2 * length l
-    pub onwards : Onwards (step (lines l) H) whole (drop q (events l)) (record { active = active; met = metBy st }) (st .remaining)
+    pub onwards : ComesTo (step (lines l) H) whole (drop q (events l)) (record { active = active; met = metBy st }) (st .remaining)
 
   pub going-none : (st : Sweeping) (s : List ℕ) → Ready l F H 0 [] s → ((r : Row) → Mem r l → r .start < r .end) → st ≡ atStart allowance → Going st s 0
   going-none st s ready proper e = record {
@@ -126,7 +126,7 @@ module _ (l : List Row) (F : List ℕ) (H allowance : ℕ) where
           omega (arith, same-word)
 
       next-is : drop q (events l) ≡ eventFrom l number ∷ drop (q + 1) (events l)
-      next-is = told-next 0 (eventFrom l) (2 * length l) F enough (events l) (g .ready .prepared .ordered) q less ∙ ap (λ (e : ℕ). eventFrom l e ∷ drop (q + 1) (events l)) (sym same-word)
+      next-is = table-next 0 (eventFrom l) (2 * length l) F enough (events l) (g .ready .prepared .ordered) q less ∙ ap (λ (e : ℕ). eventFrom l e ∷ drop (q + 1) (events l)) (sym same-word)
 
       now-state : State l (g .active) (eventFrom l number ∷ drop (q + 1) (events l))
       now-state = subst (State l (g .active)) next-is (g .state)
@@ -175,7 +175,7 @@ module _ (l : List Row) (F : List ℕ) (H allowance : ℕ) where
     pub going-all : 2 * length l ≤ q → (f : Found) → f ≡ foundIn st → Done f ≡ sweptOf all
     unfolding sweptOf
     going-all h f k =
-        let e = told-none 0 (eventFrom l) (2 * length l) F enough (events l) (g .ready .prepared .ordered) q h in
+        let e = table-none 0 (eventFrom l) (2 * length l) F enough (events l) (g .ready .prepared .ordered) q h in
         ap Done k ∙ sym (ap sweptOf (ap figuresOf (loop-ends (g .onwards) e) ∙ onward-left (record { active = g .active; met = metBy st }) (st .remaining) (λ t m. left (t .met) m)))
 
   -- all events are the sweep

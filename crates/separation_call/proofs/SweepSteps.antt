@@ -28,7 +28,7 @@ use Rattle.separation.specs.Inner.Summaries.{hasOther}
 use Rattle.separation.specs.Walk.{ownLine, otherLine, looking}
 use Rattle.separation.proofs.Lines.{other→, other-widen}
 use Rattle.separation.proofs.Searches.{Best, In, Below, From, right-best, left-best}
-use Rattle.separation.proofs.States.{went-on, stopped, stops, goes}
+use Rattle.separation.proofs.States.{went-on, stopped, stops, goes, gap-joins}
 use Rattle.separation.specs.declared.search.OtherNet.{OtherNet}
 use Rattle.separation.specs.declared.search.OtherNet.the-variants.{Known, Spent as Unpaid}
 use Rattle.separation.specs.declared.search.Charge.{Charge}
@@ -37,7 +37,7 @@ use Rattle.separation.specs.declared.state.Sweeping.{Sweeping}
 use Rattle.separation.specs.declared.state.Handled.{Handled}
 use Rattle.separation.specs.declared.state.Handled.the-variants.{Went, Spent}
 use Rattle.separation_call.specs.Inner.ActiveTree.{summaryAt, otherNetOf, chargeOf, Covers}
-use Rattle.separation.specs.Inner.States.{metBy, outcomeOf, withGap, chargedTo}
+use Rattle.separation.specs.Inner.States.{metBy, outcomeOf, withGap, chargedTo, gapMet}
 use Rattle.separation_call.specs.Inner.Sweeping.{WithinLines, Gapped, joined, Lined}
 use Rattle.separation_call.proofs.StoredSearches.{was-spent, was-found, was-empty}
 use Rattle.separation_call.proofs.Trees.{stored-right, stored-left}
@@ -51,15 +51,15 @@ module _ (ls : List ℕ) (line : ℕ) (st : Sweeping) (o : Outcome (Option ℕ))
   joined-empty m h = goes _ _ (rw (was-empty o m (sym h ∙ e)) (onward-left none m _))
 
   pub joined-found : (fixed : List ℕ) (i m : ℕ) (there here : Float) (t : Sweeping) → search ≡ Found i m → take (length ls) fixed ≡ ls → WithinLines search line (length ls) → Gapped ls
-      → there ≡ floatAt (getD fixed i 0) → here ≡ floatAt (getD fixed line 0) → (Number (gapOf there here) → metBy t ≡ withGap (gapOf there here) (metBy st)) → t .remaining ≡ m
+      → there ≡ floatAt (getD fixed i 0) → here ≡ floatAt (getD fixed line 0) → t ≡ gapMet (gapOf there here) m st
       → outcomeOf (Went t) ≡ joined ls (getD ls line 0) (metBy st) o
-  joined-found fixed i m there here t h f w gaps p q g k =
+  joined-found fixed i m there here t h f w gaps p q g =
       let at : (k : ℕ) → k < length ls → getD fixed k 0 ≡ getD ls k 0 = λ k b. sym (getD-take (length ls) fixed k 0 b) ∙ ap (λ (l : List ℕ). getD l k 0) f in
       let far : there ≡ floatAt (getD ls i 0) = p ∙ ap floatAt (at i (w .found i m h)) in
       let near : here ≡ floatAt (getD ls line 0) = q ∙ ap floatAt (at line (w .own)) in
       let number : Number (gapOf there here) = rw (far, near) (gaps (getD ls i 0) (getD ls line 0) (at-mem ls i 0 (w .found i m h)) (at-mem ls line 0 (w .own))) in
-      let met : metBy t ≡ withGap (gapOf (floatAt (getD ls i 0)) (floatAt (getD ls line 0))) (metBy st) = g number ∙ (λ j. withGap (gapOf (far j) (near j)) (metBy st)) in
-      goes t _ (rw (was-found o i m (sym h ∙ e)) (onward-left (some i) m _) ∙ (λ j. left (sym met j) (sym k j)))
+      let met : metBy t ≡ withGap (gapOf (floatAt (getD ls i 0)) (floatAt (getD ls line 0))) (metBy st) = ap metBy g ∙ gap-joins st m (gapOf there here) number ∙ (λ j. withGap (gapOf (far j) (near j)) (metBy st)) in
+      goes t _ (rw (was-found o i m (sym h ∙ e)) (onward-left (some i) m _) ∙ (λ j. left (sym met j) (sym (ap (λ (z : Sweeping). z .remaining) g) j)))
 
 -- ---- where a search finds something
 found-leaf : (t : Bool) (s i : ℕ) → leaf t s .value ≡ some i → i ≡ s

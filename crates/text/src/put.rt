@@ -1,4 +1,4 @@
-// Bytes, words and numbers, put into a lent buffer from an index on. Each function answers the index behind its text.
+// Bytes, words and numbers, put into a lent buffer from an index on. Each function answers the index behind its text, or the greatest index where that is beyond it.
 // What does not fit is left out and still counted, so that texts follow each other without a look at the room, and a text put into an empty buffer is measured.
 ghost use mathlib.Core.Path.{_≡_};
 ghost use mathlib.Core.List.{[], _∷_};

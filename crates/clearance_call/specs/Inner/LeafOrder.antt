@@ -1,4 +1,4 @@
--- The order in which the tree's leaves stand. Only the private functions of the build cite it.
+-- The order in which the tree's leaves stand. Only the inner functions of the build cite it.
 use mathlib.Core.Bool.{Bool, cond}
 use mathlib.Core.List.{List, [], _∷_, _++_, map}
 use Prim.Native.Nat.{ℕ, zero, suc, _+_, _*_, _/_, _≤_, _<_}

@@ -1,4 +1,4 @@
--- What only the contracts of the private functions around marks cite: the leaves' ids in order, the groups of leaves that share one, and a bit for each group that is exempt for a net.
+-- What only the contracts of the inner functions around marks cite: the leaves' ids in order, the groups of leaves that share one, and a bit for each group that is exempt for a net.
 use mathlib.Core.Path.{_≡_}
 use mathlib.Core.Logic.{_⊎_}
 use mathlib.Core.Bool.{true}

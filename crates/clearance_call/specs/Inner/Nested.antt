@@ -1,4 +1,4 @@
--- Trees in which the box of a branch holds the boxes below it, and parts of them that are nearer to a segment than the threshold. Only private contracts cite this.
+-- Trees in which the box of a branch holds the boxes below it, and parts of them that are nearer to a segment than the threshold. Only inner contracts cite this.
 use mathlib.Core.Path.{_≡_}
 use mathlib.Core.Bool.{true}
 use mathlib.Core.List.{List}

@@ -1,4 +1,4 @@
--- The tree in the scratch. Only private contracts cite this. A leaf has nine words: the edges of its box, those of the branch whose right half starts at this leaf, and its id.
+-- The tree in the scratch. Only inner contracts cite this. A leaf has nine words: the edges of its box, those of the branch whose right half starts at this leaf, and its id.
 use mathlib.Core.Path.{_≡_}
 use mathlib.Core.Logic.{_⊎_}
 use mathlib.Core.Bool.{true, false, cond}

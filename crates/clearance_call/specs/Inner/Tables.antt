@@ -1,4 +1,4 @@
--- Tables of rows of five words in the scratch. Only private contracts cite this.
+-- Tables of rows of five words in the scratch. Only inner contracts cite this.
 use mathlib.Core.Path.{_≡_}
 use mathlib.Core.Bool.{Bool, true, false}
 use mathlib.Core.List.{List, map}

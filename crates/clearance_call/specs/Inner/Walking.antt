@@ -1,4 +1,4 @@
--- What the walk of one segment is handed and hands on. Only private contracts cite this.
+-- What the walk of one segment is handed and hands on. Only inner contracts cite this.
 use mathlib.Core.Path.{_≡_}
 use mathlib.Core.Bool.{true}
 use mathlib.Core.List.{List, map}

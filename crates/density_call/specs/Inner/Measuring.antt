@@ -1,4 +1,4 @@
--- What only private contracts cite: the rows of one orientation as wires that can be swept, and both orientations.
+-- What only inner contracts cite: the rows of one orientation as wires that can be swept, and both orientations.
 use mathlib.Core.Path.{_≡_}
 use mathlib.Core.Bool.{Bool}
 use mathlib.Core.List.{List}

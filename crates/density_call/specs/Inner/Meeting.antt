@@ -1,4 +1,4 @@
--- What only private contracts cite: an event's wire meets the active wires within the cutoff, one visit each.
+-- What only inner contracts cite: an event's wire meets the active wires within the cutoff, one visit each.
 use mathlib.Core.Path.{_≡_}
 use mathlib.Core.Bool.{Bool, true, false, _&&_, cond}
 use mathlib.Core.List.{List, map}

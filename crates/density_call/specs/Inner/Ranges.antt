@@ -1,4 +1,4 @@
--- What only private contracts cite: for each place the places of the wires within the cutoff, which stand side by side.
+-- What only inner contracts cite: for each place the places of the wires within the cutoff, which stand side by side.
 use mathlib.Core.Path.{_≡_}
 use mathlib.Core.List.{List}
 use Prim.Native.Nat.{ℕ, _+_, _*_, _≤_, _<_}

@@ -1,4 +1,4 @@
--- What only private contracts cite: where the sweep over one orientation's wires stands, what each event makes of that, and what all events come to.
+-- What only inner contracts cite: where the sweep over one orientation's wires stands, what each event makes of that, and what all events come to.
 use mathlib.Core.Path.{_≡_}
 use mathlib.Core.Bool.{true, not, _&&_, Bool·beq}
 use mathlib.Core.List.{List, _++_}
@@ -17,7 +17,7 @@ use Rattle.density_call.specs.declared.sweep.Sweeping.{Sweeping}
 use Rattle.density_call.specs.declared.sweep.Handled.{Handled}
 use Rattle.density_call.specs.declared.sweep.Handled.the-variants.{Went, Spent}
 use Rattle.congestion.specs.declared.found.Swept.{Swept}
-use Rattle.congestion.specs.declared.found.Swept.the-variants.{Went as Done, Spent as Short}
+use Rattle.congestion.specs.declared.found.Swept.the-variants.{Went as Done, Spent as Over}
 use Rattle.congestion.specs.Wires.{Wire}
 use Rattle.congestion.specs.Walk.{Item, Event, Row, State, at, neighbor, neighbors, wasCongested, step, gapOfUnits}
 use Rattle.congestion.specs.Inner.Keys.{Key, Held}
@@ -147,7 +147,7 @@ pub record AtFirst (s : List ℕ) (n : ℕ) : Type 0 where
 
 -- what a sweep within the allowance comes to, as the code answers it
 unfoldable pub sweptOf : Outcome State → Swept
-sweptOf spent = Short
+sweptOf spent = Over
 sweptOf (left st m) = Done (record {
   «congested_length» = ofUnits (st .congestedLength);
   «pair_overlap_length» = ofUnits (st .pairOverlapLength);

@@ -1,4 +1,4 @@
--- What only private contracts cite: the tables of one orientation's wires in the scratch. There are n of them, L, with rising fixed coordinates; a wire is known by its place 0 .. n - 1.
+-- What only inner contracts cite: the tables of one orientation's wires in the scratch. There are n of them, L, with rising fixed coordinates; a wire is known by its place 0 .. n - 1.
 -- Words 0 .. 2 n: the events in order, by number: event j < n is the end of wire j, event n + j its start.
 -- From 2 n on, n words each: the keys of the ends, of the starts and of the fixed coordinates, the nets, and of the wires within the cutoff the first place and the one behind the last.
 -- Behind these 8 n words stand those that the sweep changes: n counts of close neighbors, and the set of active places as bits.

@@ -1,4 +1,4 @@
--- What the public functions make of the words s that they are lent, whatever these are.
+-- What the functions of this crate make of the words s that they are lent, whatever these are.
 use mathlib.Core.Bool.{Bool, not, _&&_, cond}
 use mathlib.Core.List.{List, [], _∷_, _++_, map}
 use Prim.Native.Nat.{ℕ, _+_, _*_}

@@ -1,4 +1,4 @@
--- What only private contracts cite, here and where the sweeps are: what the tables in a slice of words hold. There are n rows in order: l.
+-- What only inner contracts cite, here and where the sweeps are: what the tables in a slice of words hold. There are n rows in order: l.
 -- Words 0 .. 2 n: the events in order, by number: event j < n is the end of row j, event n + j its start.
 -- From 2 n on, n words each: the keys of the ends, the keys of the starts, the keys of the lines, the nets.
 use mathlib.Core.Path.{_≡_}

@@ -7,7 +7,7 @@ use lib.Ieee.{Float, nan}
 use Rattle.laws.specs.Inner.Allowance.{Outcome, spent, left, reply}
 use Rattle.drawing.specs.declared.refusal.Refusal.the-variants.{WorkLimitExceeded}
 use Rattle.drawing.specs.declared.gap.Gap.the-variants.{Present}
-use Rattle.drawing.specs.Inner.LeastFloats.{gapOfFloat}
+use Rattle.drawing.specs.Inner.LeastFloats.{gapOfFloat, leastWith}
 use Rattle.separation.specs.declared.report.SeparationAnswer.{SeparationAnswer}
 use Rattle.separation.specs.declared.report.SeparationAnswer.the-variants.{Refused}
 use Rattle.separation.specs.declared.search.Charge.{Charge}
@@ -51,6 +51,10 @@ sweptOf (left f m) = Done (record { minimum = f .least; «minimum_positive» = f
 -- a gap joins both figures, as `otherLine` in Walk.antt has it
 abbrev pub withGap : Float → Figures → Figures
 withGap x f = let g = Present x in lesserFigures f (record { least = g; leastNonzero = g })
+
+-- the same of a state, with so many visits remaining
+abbrev pub gapMet : Float → ℕ → Sweeping → Sweeping
+gapMet gap m s = record { minimum = leastWith (s .minimum) gap; «minimum_positive» = leastWith (s .«minimum_positive») gap; remaining = m }
 
 -- the figures of a state, with what a `set` left of the allowance
 abbrev pub chargedTo : Sweeping → Charge → Handled

@@ -1,4 +1,4 @@
--- What only private contracts cite: how often each net is active on each line, as words of the scratch.
+-- What only inner contracts cite: how often each net is active on each line, as words of the scratch.
 -- Segments are known by their places 0 .. n - 1 in order. Those of one line and one net share a slot. The words are: for each slot how many of its segments are active; then for each line how many different nets are active on it; then for each line the sum of these nets, which is the net itself where there is one.
 use mathlib.Core.Path.{_≡_}
 use mathlib.Core.Bool.{Bool, _&&_, cond}

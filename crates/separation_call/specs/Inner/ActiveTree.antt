@@ -1,4 +1,4 @@
--- What only private contracts cite: the tree of active nets as words of the scratch, and what its summaries tell.
+-- What only inner contracts cite: the tree of active nets as words of the scratch, and what its summaries tell.
 -- The tree over 2 to the power H leaves takes twice as many words; node k's summary is word k, word 0 stays unused.
 use mathlib.Core.Path.{_≡_}
 use mathlib.Core.Logic.{_⊎_}

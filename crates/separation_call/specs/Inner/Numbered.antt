@@ -1,4 +1,4 @@
--- What only private contracts cite: the lines of the rows in order get their numbers, and each segment gets its slot. There are n segments; s is the slice before and e the slice after.
+-- What only inner contracts cite: the lines of the rows in order get their numbers, and each segment gets its slot. There are n segments; s is the slice before and e the slice after.
 use mathlib.Core.Path.{_≡_}
 use mathlib.Core.Bool.{cond}
 use mathlib.Core.List.{List, map}

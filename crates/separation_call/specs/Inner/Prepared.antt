@@ -1,4 +1,4 @@
--- What only private contracts cite: the tables of one orientation's segments in the scratch. There are n of them, in order: l.
+-- What only inner contracts cite: the tables of one orientation's segments in the scratch. There are n of them, in order: l.
 -- Words 0 .. 2 n: the events in order, by number: event j < n is the end of segment j, event n + j its start.
 -- From 2 n on, n words each: the keys of the ends, the keys of the starts, the lines, the nets, the different fixed values, the slots.
 use mathlib.Core.Path.{_≡_}

@@ -1,4 +1,4 @@
--- What only private contracts cite: where the sweep stands, and what each of its steps hands on.
+-- What only inner contracts cite: where the sweep stands, and what each of its steps hands on.
 -- Behind the tables of one orientation's n segments (9 n words) stand the words that the sweep changes: 3 n that count the active nets, and the tree.
 use mathlib.Core.Path.{_≡_}
 use mathlib.Core.List.{List, [], _∷_}

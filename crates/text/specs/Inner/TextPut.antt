@@ -17,7 +17,7 @@ unfoldable pub stored : List ℕ → ℕ → List ℕ → List ℕ
 stored s at [] = s
 stored s at (b ∷ t) = stored (set s at b) (behind at 1) t
 
--- Of a buffer s, a text and the buffer e that is left: the text is stored in s from index `at` on, as far as s reaches; `next` is the index behind the whole text, also where some of it was left out; the text has at most so many bytes.
+-- Of a buffer s, a text and the buffer e that is left: the text is stored in s from index `at` on, as far as s reaches; `next` is the index behind the whole text, also where some of it was left out, or the greatest index where that is beyond it; the text has at most so many bytes.
 pub record Put (longest : ℕ) (s : List ℕ) (at : ℕ) (text e : List ℕ) (next : ℕ) : Type 0 where
   pub is-stored : e ≡ stored s at text
   pub ended : next ≡ behind at (length text)

@@ -1,4 +1,4 @@
--- What only the contracts of the private functions around the tight pair cite: the best pair so far, and how it is carried over the pairs.
+-- What only the contracts of the inner functions around the tight pair cite: the best pair so far, and how it is carried over the pairs.
 use mathlib.Core.Bool.{Bool, true, false, cond}
 use mathlib.Core.List.{List, [], _∷_}
 use Prim.Native.Nat.{ℕ, suc}

@@ -31,8 +31,8 @@ enum-told c = search needs
 total-length-requires : tie.Need-total-length-requires
 total-length-requires c κs = search needs
 
-sweep-both-requires : tie.Need-sweep-both-requires
-sweep-both-requires c κs = sym (c .before .before .before .before .check-congestion .ensures) ∙ c .before .before .enum-told .given .1
+walk-segments-requires : tie.Need-walk-segments-requires
+walk-segments-requires c κs = sym (c .before .before .before .before .check-congestion .ensures) ∙ c .before .before .enum-told .given .1
 
 clear-requires : tie.Need-clear-requires
 clear-requires c κs = search needs
@@ -52,9 +52,9 @@ returns-2 c =
     let check = swept .before .before .before .before .before .check-congestion .ensures in
     let passed = sym check ∙ told in
     let held = segments-held s (agree s _ _ passed) (swept .before .before .before .before .before .before .before .before .before .shared-slice-known3 .given) (swept .before .before .before .before .before .before .before .before .shared-slice-known4 .given) (swept .before .before .before .before .before .before .before .shared-slice-known5 .given) in
-    let kept = ap (λ (k : ℕ). replicate {A = ℕ} k 0) (swept .sweep-both .kept .1 .1 .1 .1 .1 .1 .1 .0) in
+    let kept = ap (λ (k : ℕ). replicate {A = ℕ} k 0) (swept .walk-segments .kept .1 .1 .1 .1 .1 .1 .1 .0) in
     let cleared = c .before .before .before .clear .ensures ∙ kept in (
-      passed-answer s _ _ _ passed _ (swept .sweep-both .ensures) _ (swept .before .before .total-length .ensures (agree s _ _ passed)) _ (c .answer-of .ensures),
+      passed-answer s _ _ _ passed _ (swept .walk-segments .ensures) _ (swept .before .before .total-length .ensures (agree s _ _ passed)) _ (c .answer-of .ensures),
       passed-scratch _ _ _ _ check told cleared,
       λ p. (held, subst T (sym (a .good .1 .1 .1 .1 .1 .0 .1)) tt),
     )
@@ -68,7 +68,7 @@ measure-parallel-density-profile-bounded-spec =
     returns
     enum-told
     total-length-requires
-    sweep-both-requires
+    walk-segments-requires
     clear-requires
     answer-of-requires
     same-length

@@ -54,7 +54,7 @@ with-other-line-requires : tie.Need-with-other-line-requires
 with-other-line-requires c κs = search needs
 
 returns-3 : tie.Need-returns-3
-returns-3 c = λ ls o e f w gaps. joined-found ls _ (c .before .before .before .before .before .before .before .before .before .args .state) o _ e (now (c .before .before .before .before .before .before .before .before .before .args .fixed)) _ _ _ _ _ (c .before .before .before .before .before .before .search .given .1) f w gaps (c .before .before .before .float-of-key .ensures) (c .before .float-of-key2 .ensures) (c .with-other-line .ensures .0) (c .with-other-line .ensures .1)
+returns-3 c = λ ls o e f w gaps. joined-found ls _ (c .before .before .before .before .before .before .before .before .before .args .state) o _ e (now (c .before .before .before .before .before .before .before .before .before .args .fixed)) _ _ _ _ _ (c .before .before .before .before .before .before .search .given .1) f w gaps (c .before .before .before .float-of-key .ensures) (c .before .float-of-key2 .ensures) (c .with-other-line .ensures)
 
 pub with-search-spec : {M : Type 1} → statement M
 with-search-spec =

@@ -1,4 +1,4 @@
--- `density_call::measure::sweep_both` meets its contract: too few visits for the segments; else horizontal segments, then vertical ones with what is left. Assumes nothing.
+-- `density_call::measure::walk_segments` meets its contract: too few visits for the segments; else horizontal segments, then vertical ones with what is left. Assumes nothing.
 use mathlib.Core.Path.{_≡_, sym, _∙_, subst}
 use mathlib.Core.Bool.{false}
 use Prim.Native.Nat.{ℕ}
@@ -19,10 +19,10 @@ use Rattle.density_call.specs.Inner.Measuring.{Cutoff, AtColumns}
 use Rattle.congestion.proofs.Fitness.{FitList, agree, fit-list}
 use Rattle.density_call.proofs.BothWays.{too-few, stops, stops-later, went-both}
 use Rattle.density_call.proofs.SweptBoth.{nothing-swept, cutoff-above, at-columns}
-use Rattle.density_call.proofs.measure.sweep_both.Statement.{statement}
-use Rattle.density_call.proofs.measure.sweep_both.Tie as tie
-use Rattle.density_call.proofs.measure.sweep_both.Reads as reads
-use Rattle.density_call.proofs.measure.sweep_both.Lts as lts
+use Rattle.density_call.proofs.measure.walk_segments.Statement.{statement}
+use Rattle.density_call.proofs.measure.walk_segments.Tie as tie
+use Rattle.density_call.proofs.measure.walk_segments.Reads as reads
+use Rattle.density_call.proofs.measure.walk_segments.Lts as lts
 use Rattle.rows.proofs.segments_to_sweep.Reads as segments-to-sweep-reads
 use Rattle.density_call.proofs.along.sweep_along.Reads as sweep-along-reads
 use Rattle.density_call.proofs.measure.together.Reads as together-reads
@@ -109,8 +109,8 @@ same-length-3 c = search needs
 returns-5 : tie.Need-returns-5
 returns-5 c = let e = c .before .before .before .before .before .before .before .before .before .before .before .before .before .before .before .before .before in went-both (cutoff e) (sweeps e .grid) (segments (columns e)) (fit e) (held e) (sweeps e .some) _ _ (c .before .before .before .before .before .before .before .before .before .before .before .before .before .sweep-along .ensures) _ (c .before .before .before .before .before .before .before .before .before .first .given .1) _ (c .before .before .before .before .before .before .sweep-along2 .ensures) _ _ (c .before .before .second .given .1) (c .together .ensures)
 
-pub sweep-both-spec : {M : Type 1} → statement M
-sweep-both-spec =
+pub walk-segments-spec : {M : Type 1} → statement M
+walk-segments-spec =
     tie.close
     (tie.spec
     returns
