@@ -11,7 +11,7 @@ use crate::{
     values::{GRID_END, GRID_STEP},
 };
 
-/// Words behind the lent scratch, to see that nothing is written there.
+/// Words after the lent scratch, to see that nothing is written there.
 const GUARDS: usize = 8;
 
 /// Compares the port with the answer where no allowance runs out. `reordered`
@@ -96,7 +96,7 @@ fn differences_by(
 
 /// Allowances around the visit count, and around the least that the segments in
 /// orientations holding at least two can cost, 1 each in congestion and 5 in
-/// separation, where the port tells 7 before it walks; the drawing's own where
+/// separation, where the port returns 7 before it walks; the drawing's own where
 /// there is no count. A call that is given no allowance counts as having one that
 /// always reaches.
 fn allowances(call: Call, drawing: &Drawing, answer: &Answer) -> Vec<u64> {
@@ -236,7 +236,7 @@ struct Tried {
 }
 
 impl Tried {
-    /// The call is refused as document 01 says of what it is lent. Where it is
+    /// The call is refused as SCOPE 7 says of what it is lent. Where it is
     /// not refused there is nothing to see here.
     fn compare_refusal(&mut self, about: &str, drawing: &Drawing, columns: &Columns, words: usize) {
         let lent = columns.lent(words);
@@ -246,7 +246,7 @@ impl Tried {
         }
     }
 
-    /// One call by columns: what it tells, and what it leaves in the scratch;
+    /// One call by columns: what it returns, and what it leaves in the scratch;
     /// and the same of the entry that takes the segments as records.
     fn compare(
         &mut self,
@@ -275,7 +275,7 @@ impl Tried {
         };
         if !scratch_is_well || *guards != before[words..] {
             self.found.push(format!(
-                "the port's {call}, {about}: the scratch is not as document 01 says"
+                "the port's {call}, {about}: the scratch is not as SCOPE 6.5 says"
             ));
         }
         self.found.extend(
@@ -284,7 +284,7 @@ impl Tried {
         );
     }
 
-    /// What stands in the scratch before a call: zeros, ones, or anything.
+    /// What the scratch holds before a call: zeros, ones, or anything.
     fn contents(&mut self, words: usize) -> Vec<u64> {
         match self.random.below(3) {
             0 => vec![0; words],
@@ -294,8 +294,8 @@ impl Tried {
     }
 }
 
-/// The entry by records against what the call by columns told and left, from
-/// the same scratch; nothing where no records stand for the columns.
+/// The entry by records against what the call by columns returned and left, from
+/// the same scratch; nothing where no records represent the columns.
 fn differs_by_records(
     call: Call,
     columns: &Columns,
@@ -355,14 +355,14 @@ pub fn differences_at_sizes() -> Vec<String> {
     found
 }
 
-/// A call by columns from a scratch of ones: what it tells and leaves.
+/// A call by columns from a scratch of ones: what it returns and leaves.
 fn from_ones(call: Call, columns: &Columns, words: usize, allowance: u64) -> (Told, Vec<u64>) {
     let mut scratch = vec![u64::MAX; words + GUARDS];
     let told = run(call, columns, allowance, &mut scratch[..words]);
     (told, scratch)
 }
 
-/// A fit drawing with so many segments, of both orientations and some nets,
+/// A fit drawing with this many segments, of both orientations and some nets,
 /// and three nodes.
 fn drawing_of(count: usize) -> Drawing {
     let mut drawing = drawing_d();

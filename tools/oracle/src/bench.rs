@@ -2,7 +2,7 @@
 //! drawings with their lists in the same order.
 //!
 //! Each time is that of one whole call, the checks, the sorting and the tree
-//! included. What each side is given stands ready before: records for the
+//! included. What each side is given is ready before: records for the
 //! reference, columns and scratch for the port. The reference allocates what it
 //! works in, and that is a part of its call. What it returns is put into a report
 //! after its time is taken; the port's time has the copying of a few words in it,
@@ -250,7 +250,7 @@ fn tight_pair_times(drawing: &Drawing, runs: u64) -> Result<Times, Told> {
     })
 }
 
-/// What the port tells, and the times of each run; the port's answer where it
+/// What the port returns, and the times of each run; the port's answer where it
 /// does not agree with the other. Both are run once before anything is timed.
 /// Then they take turns, so that a machine that is slow for a while is slow for
 /// both, and each begins every other time, so that neither always finds the
@@ -290,7 +290,7 @@ fn timed<T>(call: impl FnOnce() -> T) -> (T, f64) {
     (answer, start.elapsed().as_secs_f64() * 1_000.0)
 }
 
-/// The figures are the same, or both are spent; the reference does not tell its
+/// The figures are the same, or both are spent; the reference does not report its
 /// visits.
 fn agree(by_reference: Measured, by_port: &Told) -> bool {
     let answer = match Run::from(by_reference) {

@@ -51,8 +51,8 @@ fn the_examples_print_what_they_say() {
     assert_eq!(printed("records.c"), "least separation 4\n");
 }
 
-/// The type as the header writes it. C does not tell arrays of different lengths
-/// apart where they are parameters.
+/// The type as the header writes it. C does not distinguish arrays of different
+/// lengths where they are parameters.
 fn type_in_c(rust: &str) -> &'static str {
     match rust {
         "u32" => "uint32_t",

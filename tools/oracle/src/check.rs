@@ -70,7 +70,7 @@ fn generated(random: &mut Random) -> (&'static str, Examined) {
     (name, examined)
 }
 
-/// What document 01 says of single drawings: D's sheet and the marked cases.
+/// What SCOPE 11.5 and 13 say of single drawings: D's sheet and the marked cases.
 /// Both computations must give it.
 fn differences_on_document_01() -> Vec<String> {
     let mut found = Vec::new();

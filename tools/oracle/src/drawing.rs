@@ -1,4 +1,4 @@
-//! A drawing: the lists and settings that document 01's measures are given,
+//! A drawing: the lists and settings that the measures of SCOPE 6.1 are given,
 //! the orders in which its lists are walked, and drawing D.
 
 use std::cmp::Ordering;
@@ -74,7 +74,7 @@ impl Segment {
         }
     }
 
-    /// Document 01's order of segments: net, orientation byte, fixed, start,
+    /// The order of segments of SCOPE 9.4: net, orientation byte, fixed, start,
     /// end, floats by totalOrder.
     fn list_order(&self, other: &Self) -> Ordering {
         self.net
@@ -97,7 +97,7 @@ impl Node {
         self.y + self.height
     }
 
-    /// Document 01's order of nodes: id, x, y, width, height, floats by
+    /// The order of nodes of SCOPE 9.4: id, x, y, width, height, floats by
     /// totalOrder.
     fn list_order(&self, other: &Self) -> Ordering {
         self.id
@@ -131,7 +131,7 @@ impl Drawing {
         }
     }
 
-    /// The same drawing with its lists in document 01's orders. Exemptions are
+    /// The same drawing with its lists in the orders of SCOPE 9.4. Exemptions are
     /// a set, so their order stays as it is.
     pub fn in_list_order(&self) -> Self {
         let mut ordered = self.clone();
@@ -141,14 +141,14 @@ impl Drawing {
     }
 }
 
-/// The sheet that document 01 prints for drawing D.
+/// The sheet of drawing D in SCOPE 11.5.
 pub const SHEET_OF_D: &str = "\
 clearance 3ff0000000000000 1 2
 separation 4010000000000000 4010000000000000 16
 congestion 4034000000000000 4024000000000000 4014000000000000 1 4010000000000000 4
 ";
 
-/// Document 01's drawing D.
+/// Drawing D of SCOPE 11.5.
 pub fn drawing_d() -> Drawing {
     Drawing {
         segments: vec![horizontal(1, 0.0, 0.0, 10.0), horizontal(2, 4.0, 5.0, 15.0)],

@@ -1,5 +1,5 @@
 //! One drawing examined: everything in which the reference differs from all
-//! pairs, or from what else document 01 says of it, and in which the port
+//! pairs, or from what else SCOPE says of it, and in which the port
 //! differs from the reference.
 
 use std::fmt::Debug;
@@ -50,7 +50,7 @@ impl Examined {
     }
 
     /// Everything in which the two computations differ, or in which the
-    /// reference is not as document 01 says. Nothing, where all is well.
+    /// reference is not as SCOPE says. Nothing, where all is well.
     pub fn differences(&self) -> Vec<String> {
         let mut found = Differences::default();
         let reordered = reordered(&self.drawing);
@@ -94,7 +94,7 @@ impl Differences {
     }
 }
 
-/// The figures bit by bit, and the visits within what document 01 allows.
+/// The figures bit by bit, and the visits within what SCOPE 4 allows.
 fn compare_with_pairs(
     measure: Measure,
     report: &Report,

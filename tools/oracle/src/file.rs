@@ -1,4 +1,4 @@
-//! Document 01's drawing file, version 1: big-endian, read from front to back,
+//! The drawing file of SCOPE 10, version 1: big-endian, read from front to back,
 //! so that the first fault in byte order is the one that counts.
 
 use crate::{

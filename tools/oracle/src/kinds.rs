@@ -25,7 +25,7 @@ pub struct Kind {
     reach: f64,
     nets: usize,
     exempt: Exempt,
-    /// Whether the lists come in the order of document 01's departures; otherwise
+    /// Whether the lists come in the order of SCOPE 9.4; otherwise
     /// the segments are shuffled.
     in_order: bool,
 }
@@ -259,7 +259,7 @@ impl Kind {
         if self.in_order {
             return drawing.in_list_order();
         }
-        // Own lines are handed out in order, and so are exemptions of all nodes.
+        // Own lines are assigned in order, and so are exemptions of all nodes.
         random.shuffle(&mut drawing.segments);
         if let Exempt::All = self.exempt {
             random.shuffle(&mut drawing.exemptions);

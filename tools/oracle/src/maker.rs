@@ -37,7 +37,7 @@ impl<'a> Maker<'a> {
         (self.palette.size)(self.random)
     }
 
-    /// A small number now and then stands for a large one, so that the whole
+    /// Now and then a small number is replaced by a large one, so that the whole
     /// range of ids is used.
     fn id(&mut self, ids: u32) -> u32 {
         let id = self.random.below(ids as usize) as u32;

@@ -1,4 +1,4 @@
-//! The marked cases of document 01, (a) to (l), as drawings. Each says what
+//! The marked cases of SCOPE 13, (a) to (l), as drawings. Each says what
 //! its sheet must hold: a line, or the front of one where the document leaves
 //! the rest open.
 

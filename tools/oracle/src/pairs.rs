@@ -1,8 +1,8 @@
-//! The figures over all pairs, written from document 01 alone: no tree, no
+//! The figures over all pairs, written from the request alone (SCOPE 3): no tree, no
 //! sweep, no order of the lists and no limit. Every pair is looked at.
 //!
 //! It is slow on purpose. What it shares with the reference is only the
-//! arithmetic of f64, one rounded step where document 01 names one. Congestion
+//! arithmetic of f64, one rounded step where SCOPE 3 names one. Congestion
 //! is worked in whole numbers of 1/64.
 
 use std::ops::RangeInclusive;
@@ -35,7 +35,7 @@ pub fn figures(measure: Measure, drawing: &Drawing) -> Vec<Figure> {
     }
 }
 
-/// The visit counts that document 01 leaves possible. For congestion that is
+/// The visit counts that SCOPE 4 leaves possible. For congestion that is
 /// one count only, its formula's.
 ///
 /// The lower ends of the other two follow from its rules: a leaf nearer than
@@ -295,7 +295,7 @@ impl Congestion {
     }
 }
 
-/// Document 01's formula: segments in orientations holding at least two, plus
+/// The formula of SCOPE 4.5: segments in orientations holding at least two, plus
 /// twice the close pairs of all nets; 0 if the cutoff is 0 or less.
 fn congestion_visits(drawing: &Drawing) -> u64 {
     if drawing.cutoff <= 0.0 {

@@ -1,7 +1,7 @@
 //! The port: the proved library, called by columns, by records, or with the
 //! bytes of a drawing file.
 //!
-//! The declarations, those of the Rust package and those below, stand for
+//! The declarations, those of the Rust package and those below, are those of
 //! `crates/exports`; nothing holds the two against each other but this
 //! comparison. A slice passes as a pointer and a length, an array as a pointer.
 
@@ -93,7 +93,7 @@ pub struct Record {
     end: f64,
 }
 
-/// The five calls that document 01 counts as measures. Congestion's three have
+/// The five measures of SCOPE 6.1. Congestion's three have
 /// lists, settings, checks and visit count in common.
 #[derive(Clone, Copy, Debug, PartialEq, Eq)]
 pub enum Call {
@@ -198,8 +198,8 @@ impl Columns {
         }
     }
 
-    /// The segments as records, where there are any that the columns stand
-    /// for: columns of one length, and no orientation above 1.
+    /// The segments as records, where records can represent the columns:
+    /// columns of one length, and no orientation above 1.
     pub fn records(&self) -> Option<Vec<Record>> {
         let count = self.net.len();
         let lengths = [
@@ -221,7 +221,7 @@ impl Columns {
         Some((0..count).map(record).collect())
     }
 
-    /// What a call with these columns and so many words is lent.
+    /// What a call with these columns and this many words is lent.
     pub fn lent(&self, scratch_words: usize) -> Lent {
         Lent {
             segment_columns: [
@@ -248,7 +248,7 @@ fn column<E, T>(entries: &[E], field: impl Fn(&E) -> T) -> Vec<T> {
     entries.iter().map(field).collect()
 }
 
-/// What the port tells: 0 or the refusal's number, and the report's words.
+/// What the port returns: 0 or the refusal's number, and the report's words.
 #[derive(Clone, Debug, PartialEq)]
 pub struct Told {
     pub status: u32,
@@ -256,7 +256,7 @@ pub struct Told {
 }
 
 impl Told {
-    /// What it is to tell, in so many words, where the answer is this one.
+    /// What it has to return, in this many words, where the answer is this one.
     pub fn expected(answer: &Answer, words: usize) -> Self {
         match answer {
             Err(refusal) => Self {
@@ -270,7 +270,7 @@ impl Told {
         }
     }
 
-    /// The visits, which every report tells last.
+    /// The visits, the last word of every report.
     pub fn visits(&self) -> u64 {
         self.words[self.words.len() - 1]
     }
@@ -293,7 +293,7 @@ fn report_words(report: &Report) -> Vec<u64> {
     words
 }
 
-/// What stands in a report's words before a call: no zero, so that a word
+/// What a report's words hold before a call: no zero, so that a word
 /// which is not written shows.
 const UNWRITTEN: u64 = 0x5555_5555_5555_5555;
 

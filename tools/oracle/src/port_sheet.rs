@@ -22,11 +22,11 @@ use crate::{
 /// The program, where `rt check sheet` writes it.
 const PROGRAM: &str = env!("SHEET_PROGRAM");
 
-/// What stands in the lent buffer before a call: no byte of any sheet, so that
+/// What the lent buffer holds before a call: no byte of any sheet, so that
 /// a byte which is written shows.
 const UNWRITTEN: u8 = 0xee;
 
-/// How many differences of D's files are told, of up to 40,000.
+/// How many differences of D's files are printed, of up to 40,000.
 const TOLD: usize = 10;
 
 /// Which ways a file goes.
@@ -177,7 +177,7 @@ fn written_by_program(file: &[u8]) -> Result<Vec<u8>, String> {
     }
 }
 
-/// The drawing's file cut short, with a byte changed, with bytes behind it, or
+/// The drawing's file cut short, with a byte changed, with bytes after it, or
 /// with another count in front of one of its lists.
 fn damaged(drawing: &Drawing, whole: &[u8], random: &mut Random) -> Vec<u8> {
     let mut file = whole.to_vec();

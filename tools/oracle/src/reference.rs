@@ -1,8 +1,7 @@
 //! The reference: the unchanged Rust, run on a drawing's lists.
 //!
-//! It is fed lists in document 01's order. Congestion is fed +0 for every
-//! zero, and the total of an empty list is read as +0: both are departures of
-//! document 01. A panic of the reference is caught and reported as a fault.
+//! It is given lists in the order of SCOPE 9.4. Congestion gets +0 for every
+//! zero, and the total of an empty list is read as +0: SCOPE 9.2 and 9.3. A panic of the reference is caught and reported as a fault.
 
 use std::{
     cell::Cell,
@@ -62,7 +61,7 @@ impl From<Measured> for Run {
     }
 }
 
-/// The reference did what document 01 leaves no room for.
+/// The reference did what SCOPE leaves no room for.
 #[derive(Clone, Debug)]
 pub struct Fault(pub String);
 
@@ -84,7 +83,7 @@ pub struct Fed {
 }
 
 impl Fed {
-    /// The lists in document 01's order: what every comparison rests on.
+    /// The lists in the order of SCOPE 9.4: what every comparison rests on.
     pub fn in_list_order(drawing: &Drawing) -> Self {
         Self::new(
             &drawing.in_list_order(),

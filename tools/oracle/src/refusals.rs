@@ -1,4 +1,4 @@
-//! Refusals: document 01's list 'Turned down, in checking order', written from
+//! Refusals: the list of SCOPE 7, in the order of checking, written from
 //! that list and not from the reference.
 //!
 //! Refusal 1 belongs to the file's reader. Refusals 2 and 4 cannot come from a

@@ -102,7 +102,7 @@ fn damaged_files() -> Vec<Vec<u8>> {
     files
 }
 
-/// Counts above the limits, which are refused before anything behind them is
+/// Counts above the limits, which are refused before anything after them is
 /// read, and after everything before them.
 fn files_with_long_counts(whole: &[u8]) -> Vec<Vec<u8>> {
     let mut files = Vec::new();

@@ -50,7 +50,7 @@ fn line(name: &str, answer: &Answer) -> String {
     }
 }
 
-/// Figures as they stand on a sheet, parted by one space.
+/// Figures as a sheet has them, separated by one space.
 pub fn fields(figures: &[Figure]) -> String {
     let fields: Vec<String> = figures.iter().map(field).collect();
     fields.join(" ")

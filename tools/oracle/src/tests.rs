@@ -157,7 +157,7 @@ fn the_grid_ends_where_document_01_says() {
     }
 }
 
-/// What document 01 says of D, in the words of `crates/exports`, without the
+/// What SCOPE 11.5 says of D, in the words of `crates/exports`, without the
 /// reference between.
 #[cfg(port)]
 mod port {

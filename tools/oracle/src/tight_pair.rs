@@ -42,7 +42,7 @@ fn compare(about: &str, drawing: &Drawing, least: Option<f64>, found: &mut Vec<S
     }
 }
 
-/// Whether what the port tells is absent where there is no least distance, and
+/// Whether what the port returns is absent where there is no least distance, and
 /// otherwise a pair that is not exempt and at that distance.
 pub fn is_answer(told: &Told, drawing: &Drawing, least: Option<f64>) -> bool {
     match (told.status, &told.words[..], least) {
