@@ -21,13 +21,13 @@ use Rattle.clearance.specs.Conditions.{clearanceConditions}
 use Rattle.clearance.specs.Figures.{Figures}
 use Rattle.clearance.specs.Answer.{reportOf, accepted, allPairs, clearanceAnswer, zeros, resultOf}
 
--- what every call knows of its floats: binary64 holds them
+-- what holds of the floats of every call: they are values of binary64
 pub record Lent (s : SegmentColumns) (n : NodeColumns) (t : Float) : Type 0 where
   pub segments-held : All SegmentHeld (segments s)
   pub nodes-held : All NodeHeld (nodes n)
   pub threshold-held : T (fits binary64 t)
 
--- ---- a call that meets no refusal before 7 has fit lists: past the six conditions of the lists and that of the scratch stand the three of refusal 5
+-- ---- a call that meets no refusal before 7 has fit lists: the three conditions of refusal 5 follow the six of the lists and that of the scratch
 pub record FitCall (s : SegmentColumns) (n : NodeColumns) (t : Float) : Type 0 where
   pub segments-fit : All FitSegment (segments s)
   pub nodes-fit : All FitNode (nodes n)
@@ -51,7 +51,7 @@ fit-call s n e t words l h =
       threshold-fit = record { held = l .threshold-held; passes = c .0 };
     }
 
--- ---- the result of such a call: "A call whose allowance reaches it returns the all-pairs report, whose visits are that count; a call whose allowance does not returns the spent-allowance refusal", which is 7
+-- ---- the result of such a call (SCOPE 8.3): "A call whose allowance reaches it returns the all-pairs report, whose visits are that count; a call whose allowance does not returns the spent-allowance refusal", which is 7
 pub result-settles : (s : SegmentColumns) (n : NodeColumns) (e : ExemptionColumns) (t : Float) (allowance words : ℕ) → passes s n e t words
     → resultOf (clearanceAnswer s n e t allowance words) ≡ settle (λ g count. (0, reportOf g count)) (7, zeros) allowance (allPairs (exemptions e) (λ net. t) (segments s) (nodes n))
 unfolding clearanceAnswer settle resultOf accepted numberOf

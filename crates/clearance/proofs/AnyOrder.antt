@@ -1,4 +1,4 @@
--- "List order decides nothing in a report": the walk, its visits and the figures are the same for every order of the lists. Assumes nothing.
+-- SCOPE 9.4, "List order decides nothing in a report": the walk, its visits and the figures are the same for every order of the lists. Assumes nothing.
 use mathlib.Core.Path.{_≡_, refl}
 use mathlib.Core.Bool.{cond}
 use mathlib.Core.List.{List, map}
@@ -24,7 +24,7 @@ use Rattle.drawing.proofs.Fit.{FitSegment, FitNode}
 use Rattle.clearance.proofs.Distances.{exempt-perm, distances-good, distances-perm}
 use Rattle.clearance.proofs.Violations.{violations-perm}
 
--- the walk looks at exemptions only through `exempt`
+-- the walk uses exemptions only through `exempt`
 walk-exempt : (ex ey : List Exemption) → ((net id : ℕ) → exempt ex net id ≡ exempt ey net id) → (t : Float) (s : Segment) (tree : Tree) (g : Figures) → walk ex t s tree g ≡ walk ey t s tree g
 unfolding walk
 walk-exempt ex ey e t s bare g = refl

@@ -43,7 +43,7 @@ unfolding distancesAll
 perm-distances-all ex [] p = none
 perm-distances-all ex (s ∷ ss) p = perm-both (perm-chosen (λ n. not (exempt ex (s .net) (n .id))) (λ n. distance (segmentBox s) (n .bounds)) p) (perm-distances-all ex ss p)
 
--- the pairs of the definition are these
+-- these are the pairs of the definition
 of-one : (ex : List Exemption) (s : Segment) (ns : List Node) → chosen (notExempt ex) pairDistance (beside s ns) ≡ distancesOf ex s (map indexed ns)
 unfolding chosen indexed
 of-one ex s [] = refl

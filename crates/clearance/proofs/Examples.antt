@@ -1,4 +1,4 @@
--- Document 01's marked cases of clearance, by computing the definitions. Assumes nothing.
+-- The marked cases of clearance (SCOPE 13.g to 13.i) and drawing D (SCOPE 11.5), by computing the definitions. Assumes nothing.
 use mathlib.Core.Path.{_≡_, refl}
 use mathlib.Core.List.{[], _∷_}
 use Prim.Native.Nat.{ℕ}
@@ -56,7 +56,7 @@ twenty = ofBits binary64 0x4034_0000_0000_0000
 abbrev minus-one : Float
 minus-one = ofBits binary64 0xbff0_0000_0000_0000
 
--- "Drawing D: net 1 horizontal at 0 from 0 to 10; net 2 horizontal at 4 from 5 to 15; node 7 with x 2, y 1, width 3, height 2; exemption net 2, node 7; threshold 2"
+-- SCOPE 11.5: "Drawing D: net 1 horizontal at 0 from 0 to 10; net 2 horizontal at 4 from 5 to 15; node 7 with x 2, y 1, width 3, height 2; exemption net 2, node 7; threshold 2"
 abbrev d-segments : SegmentColumns
 d-segments = segmentColumns (1 ∷ 2 ∷ []) (1 ∷ 1 ∷ []) (zero ∷ four ∷ []) (zero ∷ five ∷ []) (ten ∷ fifteen ∷ [])
 
@@ -73,7 +73,7 @@ measured s n e threshold allowance = resultOf (clearanceAnswer s n e threshold a
 abbrev report : Gap → ℕ → ℕ → ℕ × EdgeNodeClearance
 report g v n = (0, reportOf (record { least = g; violations = v }) n)
 
--- "clearance 3ff0000000000000 1 2", and the spent allowance below 2
+-- SCOPE 11.5: "clearance 3ff0000000000000 1 2", and the spent allowance below 2
 pub record Marked : Type 0 where
   pub d : measured d-segments d-nodes d-exemptions two 1000 ≡ report (Present one) 1 2
   -- D as the program `sheet` measures it
@@ -82,11 +82,11 @@ pub record Marked : Type 0 where
   pub d-at-1 : measured d-segments d-nodes d-exemptions two 1 ≡ (7, zeros)
   -- D's first segment, D's node and another one below it, which is pruned: one visit for one segment and two nodes
   pub pruned : measured (segmentColumns (1 ∷ []) (1 ∷ []) (zero ∷ []) (zero ∷ []) (ten ∷ [])) (nodeColumns (7 ∷ 8 ∷ []) (two ∷ two ∷ []) (one ∷ twenty ∷ []) (three ∷ three ∷ []) (two ∷ two ∷ [])) d-exemptions zero 1000 ≡ report (Present one) 0 1
-  -- (g) "distance 2, threshold 2: no violation": D's first segment, and D's node one further away
+  -- SCOPE 13.g: "distance 2, threshold 2: no violation": D's first segment, and D's node one further away
   pub g : measured (segmentColumns (1 ∷ []) (1 ∷ []) (zero ∷ []) (zero ∷ []) (ten ∷ [])) (nodeColumns (7 ∷ []) (two ∷ []) (two ∷ []) (three ∷ []) (two ∷ [])) d-exemptions two 1000 ≡ report (Present two) 0 1
-  -- (h) "no nodes, threshold -1: 5"
+  -- SCOPE 13.h: "no nodes, threshold -1: 5"
   pub h : measured d-segments (nodeColumns [] [] [] [] []) d-exemptions minus-one 1000 ≡ (5, zeros)
-  -- (i) "no segments, threshold 0: absent, 0, 0"
+  -- SCOPE 13.i: "no segments, threshold 0: absent, 0, 0"
   pub i : measured (segmentColumns [] [] [] [] []) d-nodes d-exemptions zero 0 ≡ report Absent 0 0
 
 pub marked : Marked

@@ -1,4 +1,4 @@
--- The order in which the nodes come to the tree decides nothing in the tree as it is stored: code may build it from the nodes as they are given. Assumes nothing.
+-- The order of the list of nodes decides nothing in the tree as it is stored: code may build it from the nodes as they are given. Assumes nothing.
 use mathlib.Core.Path.{_≡_, refl, sym, ap, _∙_}
 use mathlib.Core.Logic.{inl, inr}
 use mathlib.Core.Bool.{Bool, true, false}
@@ -64,7 +64,7 @@ fits-of l h = all-map (λ n w. w .fit) l h
 hull-alike : (x y : IndexedNode) (l r : List IndexedNode) → Perm (x ∷ l) (y ∷ r) → All FitIndexed (x ∷ l) → All FitIndexed (y ∷ r) → Alike (hull (x .bounds) l) (hull (y .bounds) r)
 hull-alike x y l r p h k = around-alike _ _ (y ∷ r) (around-perm _ p (hull-around x l h)) (hull-around y r k)
 
--- ---- nodes of one row are one node, so every order of the nodes has one order along an axis
+-- ---- nodes with equal rows are equal, so all orders of the nodes give one order along an axis
 held-one : (m n : IndexedNode) → FitIndexed m → FitIndexed n → keyOf (m .bounds .left) ≡ keyOf (n .bounds .left) → keyOf (m .bounds .right) ≡ keyOf (n .bounds .right)
     → keyOf (m .bounds .top) ≡ keyOf (n .bounds .top) → keyOf (m .bounds .bottom) ≡ keyOf (n .bounds .bottom) → m .id ≡ n .id → m ≡ n
 held-one m n p q a b c d e =
@@ -83,7 +83,7 @@ indexed-one-order : (horizontal : Bool) {l r : List IndexedNode} → Perm l r �
 unfolding indexedInOrder
 indexed-one-order h p k = sort-same (λ a b. rowLe (indexedRow h a) (indexedRow h b)) (by-rows (indexedRow h)) FitIndexed (λ a b x y u v. row-one h a b x y (row-antisym (indexedRow h a) (indexedRow h b) u v)) p k
 
--- ---- a tree over nodes in any order: the boxes that the Rust folds are only alike, those of the leaves and so their unions are the same
+-- ---- a tree over nodes in any order: the boxes that the Rust folds lie in each other, those of the leaves and so their unions are the same
 build-any-nodes : (k : ℕ) {l r : List IndexedNode} → Perm l r → All WholeIndexed l → rejoined (build k l) ≡ rejoined (build k r)
 unfolding build rejoined
 build-any-nodes k {l} {r} p h = go k l r p h

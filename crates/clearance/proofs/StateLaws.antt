@@ -25,7 +25,7 @@ use Rattle.clearance.specs.Walk.{withPair}
 use Rattle.clearance.specs.Answer.{accepted}
 use Rattle.clearance.specs.Inner.State.{soFar, outcomeOf, nearerFirst, Answers}
 
--- ---- the visit of a pair, as the code answers it
+-- ---- the visit of a pair, as the code returns it
 pub visit-stopped : (m : ℕ) (g : Figures) → m ≡ 0 → outcomeOf Spent ≡ within m (visit (free g))
 unfolding outcomeOf
 visit-stopped m g e = sym (rw e (visit-spent (free g)))
@@ -42,14 +42,14 @@ module _ (w : Walking) (b : Bool) (t d : Float) (paid : w .remaining ≡ 0 → �
   unfolding withPair outcomeOf
   visit-counted e v f x h num = let k : gapOfFloat x ≡ lesserGap (gapOfFloat (w .least)) (Present d) = ap gapOfFloat h ∙ least-joined (w .least) d num in rw (e, f, k) (visit-went (w .remaining) (withPair false t d (soFar w)) paid)
 
-  -- a violation more, as long as the count does not wrap
+  -- one violation more, as long as the count does not wrap
   pub visit-below : b ≡ false → lt d t ≡ true → w .violations + w .remaining < 2 ^ 64 → (v : ℕ) → v ≡ (w .violations + 1) % 2 ^ 64 → (x : Float) → x ≡ leastWith (w .least) d → Number d → outcomeOf (Went (record { least = x; violations = v; remaining = w .remaining - 1 })) ≡ within (w .remaining) (visit (free (withPair b t d (soFar w))))
   visit-below e f room v wraps = visit-counted e v (wraps ∙ mod-eq-of-lt (omega arith) ∙ rw f)
 
   pub visit-clear : b ≡ false → lt d t ≡ false → (x : Float) → x ≡ leastWith (w .least) d → Number d → outcomeOf (Went (record { least = x; violations = w .violations; remaining = w .remaining - 1 })) ≡ within (w .remaining) (visit (free (withPair b t d (soFar w))))
   visit-clear e f = visit-counted e (w .violations) (rw f (omega arith))
 
--- ---- the order of two halves, as the code answers it
+-- ---- the order of two halves, as the code returns it
 module _ (l r : Subtree) where
   pub right-nearer : lt (r .lower) (l .lower) ≡ true → record { nearer = r; farther = l } ≡ nearerFirst l r
   unfolding nearerFirst
@@ -59,7 +59,7 @@ module _ (l r : Subtree) where
   unfolding nearerFirst
   left-first e = rw e
 
--- ---- the answer of what the walks came to
+-- ---- the answer from what the walks returned
 pub answers-spent : (r : Walked) (allowance : ℕ) → r ≡ Spent → Answers r allowance (Refused WorkLimitExceeded)
 unfolding outcomeOf reply
 answers-spent r allowance h = rw h

@@ -1,4 +1,4 @@
--- The tree as the code stores it: a branch's box is the union of its children's boxes, where the definition folds the boxes of the list. No walk shows the difference. Assumes nothing.
+-- The tree as the code stores it: a branch's box is the union of its children's boxes, where the definition folds the boxes of the list. For fit lists every walk is the same over both. Assumes nothing.
 use mathlib.Core.Path.{_≡_, refl}
 use mathlib.Core.Bool.{cond}
 use mathlib.Core.List.{List, [], _∷_, map}
@@ -27,7 +27,7 @@ use Rattle.clearance.proofs.WalkSteps.{lower}
 abbrev pub joined : Tree → Tree → Tree
 joined l r = branch (union (boundsOf l) (boundsOf r)) l r
 
--- a tree with every branch joined anew: what the code stores of it
+-- a tree with the box of every branch replaced by the union of its children's boxes: what the code stores
 unfoldable pub rejoined : Tree → Tree
 rejoined bare = bare
 rejoined (leaf n) = leaf n

@@ -15,7 +15,7 @@ use Rattle.clearance.specs.Figures.{exempt, pairDistance, violates}
 use Rattle.clearance.specs.Tree.{IndexedNode, indexed}
 use Rattle.clearance.proofs.Distances.{distancesOf, exempt-perm}
 
--- how many distances are below a threshold
+-- the number of distances below a threshold
 abbrev pub under : Float → List Float → ℕ
 under t ds = count (λ d. lt d t) ds
 

@@ -1,4 +1,4 @@
--- The walk of one segment over a tree brings in the distances of that segment's pairs, and a pruned part has none that would change the figures. Assumes nothing.
+-- The walk of one segment over a tree adds the distances of that segment's pairs, and a pruned part has none that would change the figures. Assumes nothing.
 use mathlib.Core.Path.{_≡_, refl, sym, ap, _∙_}
 use mathlib.Core.Logic.{inl, inr}
 use mathlib.Core.Bool.{Bool, true, false, not}
@@ -41,7 +41,7 @@ use Rattle.clearance.proofs.WalkSteps.{lower, walk-bare, walk-pruned, w
 abbrev pub sofar : List Float → ℕ → Figures
 sofar seen v = record { least = leastGap seen; violations = v }
 
--- the figures after the distances ds more
+-- the figures after the further distances ds
 abbrev pub onwards : Float → List Float → ℕ → List Float → Figures
 onwards t seen v ds = sofar (seen ++ ds) (v + under t ds)
 

@@ -1,4 +1,4 @@
--- The walk within an allowance gives the answer behind the checks. Assumes nothing.
+-- The walk within an allowance gives the answer that follows the checks. Assumes nothing.
 use mathlib.Core.Path.{_≡_, ap, _∙_}
 use mathlib.Core.List.{List}
 use Prim.Native.Nat.{ℕ}
@@ -15,7 +15,7 @@ use Rattle.clearance.specs.Answer.{accepted, allPairs}
 use Rattle.drawing.proofs.Fit.{FitSegment, FitNode, FitThreshold}
 use Rattle.clearance.proofs.AllPairs.{walk-all-pairs}
 
--- for fit lists the walk of all segments that stops so gives the answer behind the checks
+-- for fit lists, the answer from the walk of all segments within the allowance is that of the all-pairs report
 pub reply-within : (ex : List Exemption) (t : ℕ → Float) (ss : List Segment) (ns : List Node) → ((net : ℕ) → FitThreshold (t net)) → All FitSegment ss → All FitNode ns → (allowance : ℕ)
     → reply accepted (Refused WorkLimitExceeded) allowance (within allowance (walkAll ex t ss ns)) ≡ settle accepted (Refused WorkLimitExceeded) allowance (allPairs ex t ss ns)
 reply-within ex t ss ns q p h allowance =

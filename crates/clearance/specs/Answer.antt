@@ -14,28 +14,28 @@ use Rattle.clearance.specs.Conditions.{clearanceConditions}
 use Rattle.clearance.specs.Figures.{Figures, figures}
 use Rattle.clearance.specs.Walk.{visitCount}
 
--- "Accepted reports also carry the visits used, which are the visit count"
+-- SCOPE 4.1: "Accepted reports also carry the visits used, which are the visit count"
 abbrev pub reportOf : Figures → ℕ → EdgeNodeClearance
 reportOf g count = record { «minimum_clearance» = g .least; violations = g .violations; visits = count }
 
 unfoldable pub accepted : Figures → ℕ → ClearanceAnswer
 accepted g count = Report (reportOf g count)
 
--- "The all-pairs report is the measure's figures above with its visit count."
+-- SCOPE 6.3: "The all-pairs report is the measure's figures above with its visit count."
 unfoldable pub allPairs : List Exemption → (ℕ → Float) → List Segment → List Node → Charged Figures
 allPairs ex threshold ss ns = record { value = figures ex threshold ss ns; cost = visitCount ex threshold ss ns }
 
--- the checks in order; then "`WorkLimitExceeded`: the visit count exceeds the allowance", else the all-pairs report. Every net has the one threshold.
+-- The checks in the order of SCOPE 7; then SCOPE 7.7: "`WorkLimitExceeded`: the visit count exceeds the allowance", else the all-pairs report. The call has one threshold for all nets.
 unfoldable pub clearanceAnswer : SegmentColumns → NodeColumns → ExemptionColumns → Float → ℕ → ℕ → ClearanceAnswer
 clearanceAnswer s n e threshold allowance words =
     checked Refused (firstOf (clearanceConditions s n e threshold words))
     (settle accepted (Refused WorkLimitExceeded) allowance (allPairs (exemptions e) (λ net. threshold) (segments s) (nodes n)))
 
--- "a report of zeros and absent gaps"
+-- SCOPE 6.3: "a report of zeros and absent gaps"
 abbrev pub zeros : EdgeNodeClearance
 zeros = record { «minimum_clearance» = Absent; violations = 0; visits = 0 }
 
--- "A refusal returns its number and a report of zeros and absent gaps": each case by its number, 0 for a report, and its values
+-- SCOPE 6.3, 8.5: "A refusal returns its number and a report of zeros and absent gaps": each case by its number, 0 for a report, and its values
 unfoldable pub resultOf : ClearanceAnswer → ℕ × EdgeNodeClearance
 resultOf (Report r) = (0, r)
 resultOf (Refused w) = (numberOf w, zeros)

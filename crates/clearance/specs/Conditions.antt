@@ -1,4 +1,4 @@
--- The conditions of refusals 2 to 5 of the call, in checking order.
+-- The conditions of refusals 2 to 5 of the call (SCOPE 7.2 to 7.5), in checking order.
 use mathlib.Core.Bool.{Bool}
 use mathlib.Core.List.{List, [], _∷_, _++_}
 use Prim.Native.Nat.{ℕ}
@@ -10,7 +10,7 @@ use Rattle.drawing.specs.Entries.{SegmentColumns, NodeColumns, ExemptionColumns
 use Rattle.drawing.specs.Conditions.{shortScratch, unfitThreshold}
 use Rattle.drawing.specs.Checks.{listConditions, entryConditions}
 
--- clearance takes segments, nodes, exemptions, a threshold and a scratch of so many words
+-- clearance takes segments, nodes, exemptions, a threshold and a scratch of the given number of words
 unfoldable pub clearanceConditions : SegmentColumns → NodeColumns → ExemptionColumns → Float → ℕ → List (Bool × Refusal)
 clearanceConditions s n e threshold words =
     listConditions s n e

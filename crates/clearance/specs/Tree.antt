@@ -1,4 +1,4 @@
--- The tree over the nodes, which `build_clearance_bvh` builds.
+-- The tree over the nodes, which `build_clearance_bvh` builds (SCOPE 5.1 to 5.3).
 use mathlib.Core.Bool.{Bool, true, false}
 use mathlib.Core.List.{List, [], _∷_, map}
 use Prim.Native.Nat.{ℕ, zero, suc, _/_}
@@ -14,7 +14,7 @@ use Rattle.drawing.specs.Orders.{nodesInOrder}
 use Rattle.boxes.specs.declared.aabb.Aabb.{Aabb}
 use Rattle.boxes.specs.Boxes.{nodeBox, union}
 
--- what the tree knows of a node
+-- what the tree holds of a node
 pub record IndexedNode : Type 0 where
   pub id : ℕ
   pub bounds : Aabb
@@ -22,25 +22,25 @@ pub record IndexedNode : Type 0 where
 unfoldable pub indexed : Node → IndexedNode
 indexed n = record { id = n .id; bounds = nodeBox n }
 
--- `compare_indexed_nodes` compares these numbers, the first that differ deciding: along the horizontal axis, or along the vertical one
+-- SCOPE 5.2: `compare_indexed_nodes` compares these numbers, and the first that differ decide: along the horizontal axis, or along the vertical one
 unfoldable pub indexedRow : Bool → IndexedNode → List ℕ
 indexedRow true n = keyOf (n .bounds .left) ∷ keyOf (n .bounds .right) ∷ keyOf (n .bounds .top) ∷ keyOf (n .bounds .bottom) ∷ n .id ∷ []
 indexedRow false n = keyOf (n .bounds .top) ∷ keyOf (n .bounds .bottom) ∷ keyOf (n .bounds .left) ∷ keyOf (n .bounds .right) ∷ n .id ∷ []
 
--- "Each list is put in `compare_indexed_nodes` order"
+-- SCOPE 5.2: "Each list is put in `compare_indexed_nodes` order"
 unfoldable pub indexedInOrder : Bool → List IndexedNode → List IndexedNode
 indexedInOrder horizontal l = sortBy (λ a b. rowLe (indexedRow horizontal a) (indexedRow horizontal b)) l
 
--- "along its wider axis, horizontal when the spans are equal": the spans by totalOrder, as the Rust compares them
+-- SCOPE 5.2: "along its wider axis, horizontal when the spans are equal": the spans by totalOrder, as the Rust compares them
 unfoldable pub horizontalWider : Aabb → Bool
 horizontalWider b = leb (keyOf (sub binary64 (b .bottom) (b .top))) (keyOf (sub binary64 (b .right) (b .left)))
 
--- the union of a box with the boxes of a list
+-- SCOPE 5.3: the union of a box with the boxes of a list, from the first on
 unfoldable pub hull : Aabb → List IndexedNode → Aabb
 hull b [] = b
 hull b (n ∷ l) = hull (union b (n .bounds)) l
 
--- a tree over no nodes stands only for an empty list: the Rust builds none there
+-- `bare` is the tree of an empty list, for which the Rust builds none
 pub data Tree : Type 0 where
   bare : Tree
   leaf : IndexedNode → Tree
@@ -52,9 +52,9 @@ boundsOf bare = record { left = plusZero; top = plusZero; right = plusZero; bott
 boundsOf (leaf n) = n .bounds
 boundsOf (branch b l r) = b
 
--- "The tree halves its list again and again until one node is left. .. the left child takes the first half, rounded down."
--- A branch's box is the Rust's `bounds`: the boxes of the list as it is handed over, before it is put in order, folded by `union` from the first node's on.
--- The number bounds how often: the length of the list is enough.
+-- SCOPE 5.1: "The tree halves its list again and again until one node is left. .. the left child takes the first half, rounded down."
+-- SCOPE 5.3: the box of a branch is the Rust's `bounds`, the boxes of the list as it arrives, before it is put in order, folded by `union` from the first node's on.
+-- The number bounds the depth: the length of the list is enough.
 unfoldable pub build : ℕ → List IndexedNode → Tree
 build zero l = bare
 build (suc k) [] = bare
@@ -65,6 +65,6 @@ build (suc k) (n ∷ m ∷ l) =
     let half = length row / 2 in
     branch box (build k (take half row)) (build k (drop half row))
 
--- the nodes come in document 01's order
+-- SCOPE 9.4: the nodes come in the order of the departures
 unfoldable pub treeOf : List Node → Tree
 treeOf ns = build (length ns) (map indexed (nodesInOrder ns))

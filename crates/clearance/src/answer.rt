@@ -1,4 +1,4 @@
-// What a call answers, from what its walks came to.
+// What a call answers, from what its walks returned.
 ghost use Rattle.clearance.specs.Inner.State.{Answers};
 use crate::report::ClearanceAnswer;
 use crate::report::EdgeNodeClearance;

@@ -1,4 +1,4 @@
-// The checks of the call, in document 01's order.
+// The checks of the call, in the order of SCOPE 7.
 ghost use mathlib.Core.Path.{_≡_};
 ghost use Rattle.drawing.specs.Refusals.{firstOf};
 ghost use Rattle.drawing.specs.Entries.{segmentColumns, nodeColumns, exemptionColumns};
@@ -10,7 +10,7 @@ use list_checks::check_entries;
 use list_checks::check_lists;
 use list_checks::short_scratch;
 
-// The checks of the lists, the scratch of so many words, the entries and the threshold.
+// The checks of the lists, the scratch of the given number of words, the entries and the threshold.
 pub fn check_clearance(
     net: &[u32],
     orientation: &[u8],

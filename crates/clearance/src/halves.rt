@@ -2,7 +2,7 @@
 ghost use mathlib.Core.Path.{_≡_};
 ghost use Rattle.clearance.specs.Inner.State.{nearerFirst};
 
-// A part of the tree: its first leaf, how many leaves it has, and how far its box is from the segment's.
+// A part of the tree: its first leaf, its number of leaves, and the distance of its box from the segment's.
 pub struct Subtree {
     pub first: usize,
     pub count: usize,
@@ -15,7 +15,7 @@ pub struct Halves {
     pub farther: Subtree,
 }
 
-// The nearer half first, the left one on a tie. The halves come by their fields: a struct that is a parameter is handed over in memory, so that its fields would be stored and loaded again wherever the walk halves a part.
+// The nearer half first, the left one on a tie. The halves are passed by their fields: a struct parameter is passed in memory, so its fields would be stored and loaded again wherever the walk halves a part.
 pub fn nearer_first(
     first: usize,
     half: usize,

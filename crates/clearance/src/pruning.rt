@@ -1,11 +1,11 @@
-// The tests by which the walk leaves out a part of the tree, or the distances of its branches.
+// The tests by which the walk skips a part of the tree, or the distances of its branches.
 ghost use mathlib.Core.Path.{_≡_};
 ghost use Rattle.drawing.specs.Inner.LeastFloats.{Number, gapOfFloat};
 ghost use Rattle.clearance.specs.Walk.{contributes};
 ghost use Rattle.clearance.specs.Inner.State.{axisBelow, edgesBelow};
 use boxes::Aabb;
 
-// Whether a part whose box is at this distance may still change the figures. Where there is no least distance yet, `least` is a NaN: then `least <= lower` is false, and every part may. The distance of two boxes, which the walk hands over, is never a NaN.
+// Whether a part whose box is at this distance may still change the figures. Where there is no least distance yet, `least` is a NaN: then `least <= lower` is false, and every part may. The walk passes the distance of two boxes, which is never a NaN.
 pub fn clearance_subtree_can_contribute(lower: f64, threshold: f64, least: f64) -> bool
     ensures { λ r. ⌜ (Number lower → r ≡ contributes lower threshold (gapOfFloat least)) ⌝ }
 {
@@ -27,7 +27,7 @@ fn axis_below(a: f64, b: f64, c: f64, d: f64, threshold: f64) -> bool
     }
 }
 
-// Whether the farthest edges of the box `around` are nearer to the given box than the threshold. Where the threshold is above 0, so is then every box in it.
+// Whether the farthest edges of the box `around` are nearer to the box `bounds` than the threshold. Where the threshold is above 0, every box in `around` then is too.
 pub fn edges_below(bounds: Aabb, around: Aabb, threshold: f64) -> bool
     ensures { λ r. ⌜ r ≡ edgesBelow bounds around threshold ⌝ }
 {

@@ -2,7 +2,7 @@
 use drawing::Gap;
 use drawing::Refusal;
 
-// The Rust's report, with the visits used.
+// The Rust's report, with the visits used (SCOPE 4.1).
 pub struct EdgeNodeClearance {
     pub minimum_clearance: Gap,
     pub violations: usize,

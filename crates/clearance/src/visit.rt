@@ -10,20 +10,20 @@ use drawing::least_with;
 use drawing::no_gap;
 use std::num::wrapping_add_usize;
 
-// The figures so far, and how many visits are left. The least distance is a NaN where there is none yet.
+// The figures so far, and the remaining visits. The least distance is a NaN where there is none yet.
 pub struct Walking {
     pub violations: usize,
     pub least: f64,
     pub remaining: usize,
 }
 
-// The walk stops where a visit is due and none is left.
+// The walk stops where a visit is due and none remains.
 pub enum Walked {
     Spent,
     Went(Walking),
 }
 
-// Where the walks begin: nothing met, and the whole allowance left.
+// The state before the first walk: no pair measured, and the whole allowance remaining.
 pub fn at_start(allowance: usize) -> Walking
     ensures { λ r. ⌜ r ≡ atStart allowance ⌝ }
 {
@@ -34,7 +34,7 @@ pub fn at_start(allowance: usize) -> Walking
     }
 }
 
-// The visit of a pair at the given distance: charged first, then counted unless the pair is exempt. The walk hands over distances of boxes, which are numbers, and states whose violations and visits left fit a word together, so that no count wraps.
+// The visit of a pair at the given distance: charged first, then counted unless the pair is exempt (SCOPE 5.7). The walk passes distances of boxes, which are numbers, and states whose violations and remaining visits together fit a word, so no count wraps.
 pub fn visit_pair(exempt: bool, distance: f64, threshold: f64, state: Walking) -> Walked
     ensures { λ r. ⌜ (Number distance → state .violations + state .remaining < 2 ^ 64 → outcomeOf r ≡ within (state .remaining) (visit (free (withPair exempt threshold distance (soFar state))))) ⌝ }
 {

@@ -1,4 +1,4 @@
--- The leaves' ids in order, and the group of each leaf: the words are written one by one, and the tree behind them is left as it was. Assumes nothing.
+-- The leaves' ids in order, and the group of each leaf: the words are written one by one, and the tree after them is unchanged. Assumes nothing.
 use mathlib.Core.Path.{_≡_, refl, sym, ap, _∙_, subst}
 use mathlib.Core.Logic.{inl, inr}
 use mathlib.Core.List.{List}
@@ -18,11 +18,11 @@ use Rattle.exemptions.specs.Inner.Exempting.{wordAt, Rising, Bound}
 use Rattle.clearance_call.specs.Inner.Marks.{TreeBehind, IdsSorted, LeavesGrouped}
 use Rattle.exemptions.proofs.ExemptLaws.{words-sortable, words-rising}
 
--- the id of leaf j, in the tree behind 11 words for each of m leaves
+-- the id of leaf j, in the tree that follows 11 words for each of m leaves
 abbrev idOf : List ℕ → ℕ → ℕ → ℕ
 idOf s m j = leafAt (drop (11 * m) s) j .id
 
--- where the code reads it
+-- the word from which the code reads it
 id-read : (s s₀ : List ℕ) (m j : ℕ) → drop (11 * m) s ≡ drop (11 * m) s₀ → getD s (11 * m + 9 * j + 8) 0 ≡ idOf s₀ m j
 id-read s s₀ m j e =
     let f : 11 * m + 9 * j + 8 ≡ 11 * m + (9 * j + 8) = omega arith in
@@ -81,7 +81,7 @@ bound-keys key other a b v r same x = record {
 }
 
 module _ (s₀ : List ℕ) (m : ℕ) where
-  -- those of the leaves before leaf j are written behind the ids
+  -- the groups of the leaves before leaf j are written after the ids
   pub record Grouping (s : List ℕ) (j : ℕ) : Type 0 where
     pub whole : length s ≡ 20 * m
     pub few : m ≤ 4096
@@ -123,7 +123,7 @@ module _ (s₀ : List ℕ) (m : ℕ) where
         keys : (i : ℕ) → i < m → wordAt (set s (m + j) g) i ≡ wordAt s i
         keys i k = getD-set-other s (m + j) i g 0 (λ f. omega arith)
 
-    -- the first place that is not below an id which stands there has that id
+    -- the first index whose word is not below an id that occurs there has that id
     there : (i v g : ℕ) → Bound (wordAt s) 0 m v g → ((q : ℕ) × (q < m) × (wordAt s q ≡ v)) → (g < m) × (wordAt s g ≡ v)
     there i v g b z = elim (le-or-lt g (z .0)) [
       | inl h ↦ let less : g < m = omega (arith, z .1) in (less, omega (arith, b .above g (omega arith) less, u .rising .order g (z .0) (omega arith) h (z .1), z .2))

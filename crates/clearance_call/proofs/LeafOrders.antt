@@ -28,11 +28,11 @@ use Rattle.boxes.specs.Boxes.{union}
 use Rattle.clearance.specs.Tree.{hull, horizontalWider}
 use Rattle.clearance_call.specs.Inner.LeafOrder.{indexedAt, boxFrom, horizontalPart, along, leafOrder, Places, Buildable}
 
--- ---- the box around the places
+-- ---- the box around the nodes at the indices
 pub place-small : (s : List ℕ) (n : ℕ) (c : NodeColumns) → Places s n c → (k : ℕ) → k < n → getD s k 0 < length (c .id)
 place-small s n c p k h = first-at (λ i. i < length (c .id)) 0 n s (p .inside) (p .small) k h
 
--- what is left of the hull after k places
+-- after k indices, b united with the boxes at the others is the box around all
 pub record Hulled (s : List ℕ) (n : ℕ) (c : NodeColumns) (b : Aabb) (k : ℕ) : Type 0 where
   pub places : Places s n c
   pub below : k ≤ n
@@ -127,7 +127,7 @@ table-fits h s n t c b = go (cond h t (t + 5 * length (c .id))) (lo h) (hi h)
         (all-every (within (drop table s) 5) (take n s) (all-map (λ i q. has-row table i g q) (take n s) (b .places .small))))
 
 module _ (s : List ℕ) (n t : ℕ) (c : NodeColumns) (b : Buildable s n t c) (two : 2 ≤ n) where
-  -- which axis is wider is seen from the box around the part
+  -- which axis is wider follows from the box around the part
   wider-part : (box : Aabb) → box ≡ boxFrom c (getD s 0 0) (drop 1 (take n s)) → horizontalWider box ≡ horizontalPart c (take n s)
   unfolding horizontalPart
   wider-part box e =

@@ -35,14 +35,14 @@ use Rattle.clearance_call.proofs.NestedTrees.{stored-same, stored-leave
 use Rattle.clearance_call.proofs.Unpruned.{NumberGap, walk-unpruned}
 use Rattle.clearance_call.proofs.StoredWalk.{near-good, visited-room}
 
--- ---- a visit by the marks of a net is one by its exemptions
+-- ---- a visit by the marks of a net is the visit by its exemptions
 pub by-mark : (marks groups w : List ℕ) (ex : List Exemption) (net : ℕ) → Marked marks groups w ex net → (j : ℕ) → 9 * (j + 1) ≤ length w → (t d : Float) (m : ℕ) (g : Figures) (o : Outcome Figures)
     → o ≡ within m (visit (free (withPair (member marks (getD groups j 0)) t d g))) → o ≡ within m (visit (free (withPair (exempt ex net (leafAt w j .id)) t d g)))
 by-mark marks groups w ex net l j inside t d m g o h = h ∙ ap (λ (b : Bool). within m (visit (free (withPair b t d g)))) (l .leaf j inside)
 
 -- ---- the loop: the leaves before leaf j are visited
 module _ (t : Float) (w : List ℕ) (i n : ℕ) (p : Aabb) (marks groups : List ℕ) (from : Walking) where
-  -- what all leaves of the part come to
+  -- the outcome of visiting all leaves of the part
   abbrev whole : List Exemption → ℕ → Outcome Figures
   whole ex net = within (from .remaining) (runs (leafVisit ex t net p) (soFar from) (leavesFrom w i n))
 
@@ -106,7 +106,7 @@ tree-below w i n d t p b h near fit nested box under all k q =
     rw (stored-same k n w i n q (omega arith))
     (nested-below p (boundsOf tree) t fit fq number (above-zero d t (near-good d p w i n near) number under) (rw e at all) tree nested (within-self (boundsOf tree) fq))
 
--- ---- its walk is the visits of its leaves
+-- ---- the walk of such a part is the visits of its leaves
 number-gap : (x : Float) → T (fits binary64 x) → NumberGap (gapOfFloat x)
 unfolding gapOfFloat isNan
 number-gap nan h = tt

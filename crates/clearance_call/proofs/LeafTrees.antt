@@ -52,7 +52,7 @@ tree-two k (n ∷ m ∷ l) h = refl
 abbrev stored : ℕ → List IndexedNode → Tree
 stored k l = rejoined (build k l)
 
--- ---- places in order along the wider axis are the nodes in order along it
+-- ---- indices in order along the wider axis are the nodes in order along it
 module _ (c : NodeColumns) (kx ky : List ℕ) (tabled : Tabled c kx ky) where
   abbrev Small : List ℕ → Type 0
   Small l = All (λ i. i < length (c .id)) l
@@ -70,7 +70,7 @@ module _ (c : NodeColumns) (kx ky : List ℕ) (tabled : Tabled c kx ky) where
       let h = horizontalPart c l in
       sorted-entries (cond h kx ky) 5 l (indexedAt c) (indexedRow h) (node-wide h) (λ i m. table-row h i (all-mem (λ i. i < length (c .id)) l p i m)) FitIndexed (row-one h) q
 
-  -- the halves of a list of places, as nodes
+  -- the halves of a list of indices, as nodes
   module _ (l : List ℕ) (p : Small l) (q : Fitting l) where
     abbrev line : List ℕ
     line = along c kx ky l

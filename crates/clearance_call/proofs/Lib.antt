@@ -1,4 +1,4 @@
--- The laws of what the inner contracts cite, a file for each notion.
+-- The laws of what the inner contracts cite, one file for each notion.
 pub mod LeafOrders
 pub mod LeafTrees
 pub mod StoredBoxes

@@ -18,7 +18,7 @@ use Rattle.exemptions.specs.Inner.Exempting.{wordAt, nodeOf, Holds, Bound, Own,
 use Rattle.clearance_call.specs.Inner.Marks.{Grouped, Added, Marked, MarkedFor}
 use Rattle.exemptions.proofs.ExemptLaws.{listed-of, listed, unlisted, none-there}
 
--- ---- one id: the place that is found is its group, or no leaf has it
+-- ---- one id: the index that is found is its group, or no leaf has it
 bound-same : {key : ℕ → ℕ} {a b v r s : ℕ} → Bound key a b v r → Bound key a b v s → r ≡ s
 bound-same {r = r} {s = s} x y = elim (le-or-lt r s) [
   | inl h ↦ elim (le-or-lt s r) [ inl k ↦ omega arith | inr k ↦ absurd (omega (arith, x .above r (omega arith) (omega (arith, y .to)), y .below r (x .from) k)) ]
@@ -43,7 +43,7 @@ module _ (ids : List ℕ) (m id g : ℕ) (b : Bound (wordAt ids) 0 m id g) (mark
         only = λ f h. elim (member-only marks g f h) [ inl k ↦ inl k | inr k ↦ inr (ap (wordAt ids) k ∙ e) ];
       })
 
--- ---- a net: the exemptions before place i of its range are done
+-- ---- a net: the exemptions before index i of its range are done
 module _ (packed ids : List ℕ) (m from to : ℕ) where
   pub record NetMarking (marks : List ℕ) (i : ℕ) : Type 0 where
     pub room : length marks ≡ 64

@@ -43,7 +43,7 @@ stored-same (suc k) (suc l) w i n p q = elim (le-or-lt 2 n) [
   ]
 ]
 
--- ---- its leaves are those that stand in a row
+-- ---- its leaves are consecutive
 pub stored-leaves : (k : ℕ) (w : List ℕ) (i n : ℕ) → n ≤ k → leaves (storedTree k w i n) ≡ leavesFrom w i n
 unfolding leaves leavesFrom
 stored-leaves zero w i n p = let e : n ≡ 0 = omega arith in ap leaves (stored-none zero w i n e) ∙ sym (ap (leavesFrom w i) e)

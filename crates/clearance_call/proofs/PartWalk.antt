@@ -1,4 +1,4 @@
--- The walk of the part that is next and then of the parts that wait, the last one first, is what is left of the whole walk: the loop, step by step. Assumes nothing.
+-- The walk of the part that is next and then of the parts that wait, the last one first, is the rest of the whole walk: the loop, step by step. Assumes nothing.
 use mathlib.Core.Path.{_≡_, refl, sym, ap, subst, _∙_}
 use mathlib.Core.Logic.{inl, inr}
 use mathlib.Core.Bool.{true}
@@ -36,12 +36,12 @@ use Rattle.clearance_call.specs.Inner.Walking.{Part, Near, Walkable, Hal
 use Rattle.clearance_call.proofs.NestedTrees.{stored-same}
 use Rattle.clearance_call.proofs.StoredWalk.{onward-stopped, onward-went, next-room, half-walkable}
 
--- what comes of a part whose leaves were visited
+-- the step at a part whose leaves were visited
 pub steps-visited : (ex : List Exemption) (t : Float) (w : List ℕ) (p : Aabb) (net : ℕ) (part : Subtree) (state : Walking) (r : Walked) (q : Step) → q ≡ stepOf r → Walks ex t w (part .first) (part .count) p net state r → Steps ex t w p net part state q
 steps-visited ex t w p net part state Spent q e h = rw e h
 steps-visited ex t w p net part state (Went v) q e h = rw e h
 
--- ---- how many parts wait: a half has at most half of the leaves, rounded up, so behind j halvings at most 2 ^ (12 - j)
+-- ---- how many parts wait: a half has at most half of the leaves, rounded up, so after j halvings a part has at most 2 ^ (12 - j)
 half-power : (j : ℕ) → j < 12 → 2 ^ (12 - j) ≡ 2 * 2 ^ (12 - (j + 1))
 half-power j h = let e : 12 - j ≡ 1 + (12 - (j + 1)) = omega arith in ap (λ (z : ℕ). 2 ^ z) e ∙ pow-add 2 1 (12 - (j + 1))
 
@@ -54,16 +54,16 @@ room-left n j more low level = elim (le-or-lt 12 j) [
 halved-level : (n m j : ℕ) → j < 12 → n ≤ 2 ^ (12 - j) → 2 * m ≤ n + 1 → m ≤ 2 ^ (12 - (j + 1))
 halved-level n m j h level half = let e = half-power j h in omega arith
 
--- what is allowed behind one halving more is allowed here
+-- the bound after one halving more implies the bound here
 raised-level : (m j : ℕ) → j < 12 → m ≤ 2 ^ (12 - (j + 1)) → m ≤ 2 ^ (12 - j)
 raised-level m j h level = let e = half-power j h in omega arith
 
 -- ---- the parts that wait
--- what `getD` answers outside a list, which is never asked for
+-- the value of `getD` outside a list, which is never read
 abbrev pub noPart : Subtree
 noPart = record { first = 0; count = 0; lower = nan }
 
--- how many steps the first j of them can still take: a part of n leaves takes 2 n - 1 at most
+-- the most steps that the first j of them can still take: a part of n leaves takes at most 2 n - 1
 unfoldable pub stepsLeft : List Subtree → ℕ → ℕ
 stepsLeft l zero = 0
 stepsLeft l (suc j) = 2 * getD l j noPart .count - 1 + stepsLeft l j
@@ -84,7 +84,7 @@ module _ (l m : List Subtree) (top : ℕ) (put : Subtree) (room : top < length l
   other : (j : ℕ) → j < top → getD m j noPart ≡ getD l j noPart
   other j g = ap (λ (y : List Subtree). getD y j noPart) e ∙ getD-set-other l top j put noPart (λ f. omega arith)
 
-  -- the next part has k leaves: together they have the n of the part that was halved
+  -- the next part has k leaves: with the part put on the stack, the n of the part that was halved
   pub split-less : (k n : ℕ) → 1 ≤ k → 1 ≤ put .count → k + put .count ≡ n → 2 * k - 1 + stepsLeft m (top + 1) < 2 * n - 1 + stepsLeft l top
   unfolding stepsLeft
   split-less k n some more sum =
@@ -111,7 +111,7 @@ module _ (t : Float) (w : List ℕ) (p : Aabb) where
       let f = rest-walk-same ex s l m j (λ i k. h i (omega arith)) in
       λ i. after (walk ex t s (tree (e i)) g) (λ x. f x i)
 
-  -- the one at place j
+  -- the waiting part at index j
   pub record Waits (h : Subtree) (j : ℕ) : Type 0 where
     pub part : Part w (h .first) (h .count)
     pub near : Near (h .lower) p w (h .first) (h .count)
@@ -119,7 +119,7 @@ module _ (t : Float) (w : List ℕ) (p : Aabb) where
     pub level : h .count ≤ 2 ^ (12 - (j + 1))
 
   module _ (whole : Subtree) (marks groups : List ℕ) (from : Walking) where
-    -- the loop at a part, with `top` parts that wait: its walk and then theirs come to what the whole walk comes to
+    -- the loop at a part, with `top` parts that wait: its walk and then theirs have the outcome of the whole walk
     pub record Underway (part : Subtree) (state : Walking) (l : List Subtree) (top : ℕ) : Type 0 where
       pub ready : Walkable w (part .first) (part .count) (part .lower) p state
       pub level : part .count ≤ 2 ^ (12 - top)
@@ -139,7 +139,7 @@ module _ (t : Float) (w : List ℕ) (p : Aabb) where
       onwards = λ ex s h on. ap (within (from .remaining)) (after-nothing (walk ex t s (tree whole) (soFar from)));
     }
 
-    -- what the whole walk answers, for every bound of the tree's depth
+    -- what the whole walk returns, for every bound of the tree's depth
     answers : (r : Walked) → ((ex : List Exemption) (s : Segment) → Marked marks groups w ex (s .net) → segmentBox s ≡ p → outcomeOf r ≡ within (from .remaining) (walk ex t s (tree whole) (soFar from)))
         → (ex : List Exemption) (net : ℕ) → Marked marks groups w ex net → Walks ex t w (whole .first) (whole .count) p net from r
     answers r h ex net l s on of k q = h ex s (rw of l) on ∙ ap (λ (z : Tree). within (from .remaining) (walk ex t s z (soFar from))) (stored-same (whole .count) k w (whole .first) (whole .count) (le-refl (whole .count)) q)
@@ -161,7 +161,7 @@ module _ (t : Float) (w : List ℕ) (p : Aabb) where
         unfolding restWalk outcomeOf
         underway-done z = answers (Went v) (λ ex s k on. sym (ap (λ (y : ℕ). within (v .remaining) (restWalk ex s l y (soFar v))) z ∙ within-free (v .remaining) (soFar v)) ∙ went ex s k on)
 
-        -- the last of those that wait is the next part
+        -- the last of the waiting parts is the next part
         module _ (j : ℕ) (z : top ≡ suc j) (next : Subtree) (x : next ≡ getD l j noPart) where
           pub underway-next : NetMarks marks groups w → Underway next v l j
           unfolding restWalk

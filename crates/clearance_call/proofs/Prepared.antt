@@ -23,7 +23,7 @@ use Rattle.clearance_call.specs.Inner.Marks.{TreeBehind}
 use Rattle.clearance_call.proofs.LeafOrders.{ordered, order-perm}
 use Rattle.clearance_call.proofs.TableLaws.{all-places}
 
--- ---- leaves behind a word
+-- ---- leaves from a word on
 box-behind : (r : ℕ) (s : List ℕ) (p : ℕ) → boxAt (drop r s) p ≡ boxAt s (r + p)
 box-behind r s p =
     let word : (k : ℕ) → getD (drop r s) (p + k) 0 ≡ getD s (r + p + k) 0 = λ k. getD-drop r s (p + k) 0 ∙ ap (λ (z : ℕ). getD s z 0) (more k) in
@@ -118,7 +118,7 @@ module _ (c : NodeColumns) (agree : NodesAgree c) where
             few = few;
           }
 
-          -- the tree stays where the words in front of it become the ids in order and the leaves' groups
+          -- the tree is unchanged where the words before it become the ids in order and the leaves' groups
           pub grown : (s₆ : List ℕ) → drop (11 * length (c .id)) s₆ ≡ drop (11 * length (c .id)) (putMid (11 * length (c .id)) (length s₄ - 11 * length (c .id)) s₄ e) → Grown c s₆
           grown s₆ same = record {
             tableAcross = drop m s₂;

@@ -55,11 +55,11 @@ module _ (s : List ℕ) (p : ℕ) (w₀ w₁ w₂ w₃ : ℕ) (room : p + 4 ≤ 
       ∙ getD-set-other (set s p w₀) (p + 1) p w₁ 0 (λ e. omega arith)
       ∙ getD-set-same s p w₀ 0 (omega arith)
 
--- the word of a float gives the float back
+-- from the word of a float the float is read again
 back : (w : ℕ) (x : Float) → T (fits binary64 x) → w ≡ toBits binary64 x → ofBits binary64 w ≡ x
 back w x h e = ap (ofBits binary64) e ∙ ofBits-toBits binary64 x h
 
--- the word of a finite float is no NaN's
+-- the word of a finite float is not that of a NaN
 pub fit-word : (w : ℕ) → Fin binary64 (ofBits binary64 w) → T (not (nanBits binary64 w))
 fit-word w h = subst (λ (b : Bool). T (not b)) (sym (nanBits-is binary64 w)) (fin-num binary64 (ofBits binary64 w) h .1)
 
@@ -79,7 +79,7 @@ box-put s p w₀ w₁ w₂ w₃ a b c d room fa fb fc fd ea eb ec ed =
       high = λ q h. other s p w₀ w₁ w₂ w₃ room q (λ e. omega arith) (λ e. omega arith) (λ e. omega arith) (λ e. omega arith);
     }
 
--- ---- leaves in a row
+-- ---- consecutive leaves
 pub leaves-length : (w : List ℕ) (i n : ℕ) → length (leavesFrom w i n) ≡ n
 unfolding leavesFrom
 leaves-length w i zero = refl
@@ -187,7 +187,7 @@ splits-one s i n b h g e = record { len = refl; else = λ q o. refl; tree = tree
     box (suc k) q = e ∙ sym (ap boundsOf (one-leaf k s i n one) ∙ unfold boundsOf in refl)
 
 module _ (s₀ s₁ s₂ s₃ : List ℕ) (i n : ℕ) (bl br u : Aabb) (two : 2 ≤ n) (p : SplitsPut s₀ s₁ i (n / 2) bl) (q : SplitsPut s₁ s₂ (i + n / 2) (n - n / 2) br) (e : u ≡ union bl br) (b : BoxPut s₂ s₃ (9 * (i + n / 2) + 4) u) where
-  -- the leaves stay
+  -- the leaves are unchanged
   last-leaf : (j : ℕ) → leafAt s₃ j ≡ leafAt s₂ j
   last-leaf j = elim (le-or-lt j (i + n / 2)) [
     | inl h ↦ leaf-same s₂ s₃ j (λ x y z. b .low x (omega arith)) (elim (same-or-not j (i + n / 2)) [ inl g ↦ b .high (9 * j + 8) (omega arith) | inr g ↦ b .low (9 * j + 8) (omega arith) ])
@@ -197,11 +197,11 @@ module _ (s₀ s₁ s₂ s₃ : List ℕ) (i n : ℕ) (bl br u : Aabb) (two : 2 
   leaf₂ : (j : ℕ) → leafAt s₂ j ≡ leafAt s₁ j
   leaf₂ j = put-leaves s₁ s₂ (i + n / 2) (n - n / 2) br q j
 
-  -- the left part's splits stay
+  -- the splits of the left part are unchanged
   left-split : (j : ℕ) → i < j → j < i + n / 2 → splitAt s₃ j ≡ splitAt s₁ j
   left-split j x y = box-same s₁ s₃ (9 * j + 4) (λ w c d. b .low w (omega arith) ∙ q .else w (λ m f g. inl (omega arith)))
 
-  -- and so do the right part's
+  -- and so are those of the right part
   right-split : (j : ℕ) → i + n / 2 < j → j < i + n / 2 + (n - n / 2) → splitAt s₃ j ≡ splitAt s₂ j
   right-split j x y = box-same s₂ s₃ (9 * j + 4) (λ w c d. b .high w (omega arith))
 

@@ -1,4 +1,4 @@
--- The walk over the stored tree within what is left of the allowance, step by step. Assumes nothing.
+-- The walk over the stored tree within the remaining visits, step by step. Assumes nothing.
 use mathlib.Core.Path.{_≡_, refl, sym, ap, subst, _∙_}
 use mathlib.Core.Logic.{inl, inr}
 use mathlib.Core.Bool.{Bool, true, false}
@@ -52,7 +52,7 @@ module _ (w : List ℕ) (i n : ℕ) where
   branch-bounds some more b e zero h = absurd (omega arith)
   branch-bounds some more b e (suc k) h = e ∙ sym (ap boundsOf (stored-branch k w i n (omega arith)))
 
--- ---- one walk after another, as the code answers it
+-- ---- one walk after another, as the code returns it
 pub onward-stopped : (o : Outcome Figures) (f : Figures → ℕ → Outcome Figures) (r : Walked) → r ≡ Spent → outcomeOf r ≡ o → outcomeOf Spent ≡ onward o f
 unfolding outcomeOf onward
 onward-stopped o f r x e = ap (λ (z : Outcome Figures). onward z f) (ap outcomeOf (sym x) ∙ e)
@@ -61,7 +61,7 @@ pub onward-went : (o : Outcome Figures) (f : Figures → ℕ → Outcome Figures
 unfolding outcomeOf onward
 onward-went o f r w x e = ap (λ (z : Outcome Figures). onward z f) (ap outcomeOf (sym x) ∙ e)
 
--- ---- a violation is counted with a visit only, so violations and visits left together never grow
+-- ---- a violation is counted only with a visit, so the sum of violations and remaining visits never grows
 abbrev pub Visited : Figures → Charged Figures → Type 0
 Visited g c = c .value .violations ≤ g .violations + c .cost
 
@@ -69,11 +69,11 @@ pub visited-room : (m : ℕ) (g : Figures) (c : Charged Figures) (v : Walking) �
 unfolding outcomeOf
 visited-room m g c v h e = let p = within-left m c (soFar v) (v .remaining) (sym e) in omega (arith, p .0, p .2, ap (λ (f : Figures). f .violations) (p .1))
 
--- the state that a walk hands on has as much room
+-- in the state after a walk this sum is no larger
 pub walk-room : (ex : List Exemption) (t : Float) (s : Segment) (tree : Tree) (st : Walking) (r : Walked) → outcomeOf r ≡ within (st .remaining) (walk ex t s tree (soFar st)) → (v : Walking) → r ≡ Went v → v .violations + v .remaining ≤ st .violations + st .remaining
 walk-room ex t s tree st r e v h = visited-room (st .remaining) (soFar st) _ v (walk-violations ex t s tree (soFar st)) (ap outcomeOf (sym h) ∙ e)
 
--- ---- what the walk of a part answers
+-- ---- what the walk of a part returns
 pub near-box : (d : Float) (p b : Aabb) (w : List ℕ) (i n : ℕ) → d ≡ distance p b → ((k : ℕ) → n ≤ k → b ≡ boundsOf (storedTree k w i n)) → Near d p w i n
 near-box d p b w i n e f k h = e ∙ ap (distance p) (f k h)
 
@@ -108,7 +108,7 @@ module _ (ex : List Exemption) (t : Float) {w : List ℕ} {i n : ℕ} {d : Float
         (ap (λ (z : Tree). walk ex t s z (soFar st)) x ∙ walk-leaf ex t s (leafAt w i) (soFar st) (reaches s on k h (leaf (leafAt w i)) x true close)
         ∙ (λ j. visit (free (withPair (exempt ex (of j) (leafAt w i .id)) t (y j) (soFar st))))))
 
--- a smaller part may be walked from a state that has as much room
+-- a smaller part may be walked from a state whose sum is no larger
 pub half-walkable : {w : List ℕ} {i n : ℕ} {d : Float} {p : Aabb} {st : Walking} → Walkable w i n d p st → {h : Subtree} → Smaller w n p h → (v : Walking) → v .violations + v .remaining ≤ st .violations + st .remaining → Walkable w (h .first) (h .count) (h .lower) p v
 half-walkable ready half v q = record { part = half .part; near = half .near; room = omega (arith, ready .room); segment = ready .segment; box = ready .box; fit = ready .fit; nested = half .nested }
 

@@ -1,4 +1,4 @@
--- Tables of rows of five words, filled row by row, and the places of the segments put in order by theirs. Assumes nothing.
+-- Tables of rows of five words, filled row by row, and the indices of the segments put in order by theirs. Assumes nothing.
 use mathlib.Core.Path.{_≡_, refl, sym, ap, subst, _∙_}
 use mathlib.Core.Bool.{Bool, true, false}
 use mathlib.Core.List.{List, [], _∷_, _++_, map}
@@ -123,7 +123,7 @@ segment-next c t s n r q f b e u h m x y z g =
 pub all-places : (n : ℕ) → All (λ i. i < n) (upTo n)
 all-places n = mem-all (λ i. i < n) (upTo n) (upTo-below n)
 
--- what holds at every place of n entries holds of every entry
+-- what holds at every index of n entries holds of every entry
 pub all-placed : {A : Type 0} (entries : List A) (entry : ℕ → A) (n : ℕ) → length entries ≡ n → ((i : ℕ) → i < n → getD entries i (entry 0) ≡ entry i) → (P : A → Type 0) → ((i : ℕ) → P (entry i)) → All P entries
 all-placed entries entry n whole at P h = subst (All P) (upTo-placed entries entry n whole at) (mem-all P (map entry (upTo n)) (λ x m. let r = mem-map entry (upTo n) x m in subst P (sym (r .2)) (h (r .0))))
 
@@ -134,7 +134,7 @@ segment-wide : (s : Segment) → length (segmentRow s) ≡ 5
 unfolding segmentRow
 segment-wide s = refl
 
--- r is s with the places in front, q is r with the rows behind them, and o is q with the places in order
+-- r is s with the indices in its first words, q is r with the rows after them, and o is q with the indices in order
 pub segments-ordered : (c : SegmentColumns) (s r q o : List ℕ) → SegmentsAgree c → 6 * length (c .net) ≤ length s → All SegmentHeld (segments c)
     → r ≡ upTo (length (c .net)) ++ drop (length (c .net)) s → Filled (segmentRowAt c) (length (c .net)) (length (c .net)) r q → o ≡ sorted q (length (c .net)) (length (c .net)) 5 → SegmentsOrdered c s o
 unfolding segmentsInOrder

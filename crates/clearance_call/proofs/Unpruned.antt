@@ -1,4 +1,4 @@
--- Where every box of a tree is nearer than the threshold nothing is pruned, whatever the least distance is: the walk visits each leaf once, and comes to the same as visits of the leaves from left to right. Assumes nothing.
+-- Where every box of a tree is nearer than the threshold nothing is pruned, whatever the least distance is: the walk visits each leaf once, and equals the visits of the leaves from left to right. Assumes nothing.
 use mathlib.Core.Path.{_≡_, refl, sym, ap, _∙_}
 use mathlib.Core.Logic.{inl, inr}
 use mathlib.Core.Bool.{Bool, true, false}

@@ -52,7 +52,7 @@ module _ (t : ℕ → Float) (w : List ℕ) (m : ℕ) (order packed groups : Lis
   abbrev rest : ℕ → List Segment
   rest q = drop q (map (segmentAt c) (take (length (c .net)) order))
 
-  -- q segments have been walked: the others, from the state, come to the same
+  -- q segments have been walked: the walks of the others, from this state, have the outcome of all walks
   pub record Turned (state : Walking) (marks : List ℕ) (used marked q : ℕ) : Type 0 where
     pub turns : InTurns order c
     pub room : state .violations + state .remaining < 2 ^ 64

@@ -66,7 +66,7 @@ use Rattle.clearance.proofs.NodeOrder.{tree-any-nodes}
 use Rattle.clearance_call.proofs.NestedTrees.{nested-tree}
 use Rattle.clearance_call.proofs.TableLaws.{all-places, all-placed}
 
--- ---- what the checks tell of the lists
+-- ---- what holds of the lists after the checks
 pub record Sizes (s : SegmentColumns) (n : NodeColumns) (e : ExemptionColumns) (words : ℕ) : Type 0 where
   pub segments : SegmentsAgree s
   pub nodes : NodesAgree n
@@ -142,7 +142,7 @@ grown-tree n g a f w =
 segment-fit : (s : SegmentColumns) → SegmentsAgree s → All FitSegment (segments s) → (i : ℕ) → i < length (s .net) → FitSegment (segmentAt s i)
 segment-fit s a fs i h = let e = length-segments s a in subst FitSegment (segments-at s a (segmentAt s 0) i h) (all-at FitSegment (segmentAt s 0) (segments s) fs i (omega arith))
 
--- ---- the scratch: the places of the segments in order, and behind the six words for each segment the twenty for each node
+-- ---- the scratch: the indices of the segments in order, and after the six words for each segment the twenty for each node
 module _ (s : SegmentColumns) (n : NodeColumns) (e : ExemptionColumns) (words : ℕ) (z : Sizes s n e words) (s₀ s₁ : List ℕ) (long : length s₀ ≡ words) (ord : SegmentsOrdered s s₀ s₁) where
   abbrev pub m : ℕ
   m = length (n .id)

@@ -1,4 +1,4 @@
-// The clearance call: the tree over the nodes, the walk of each segment over it, and the call by columns. What it answers is defined in the crate clearance.
+// The clearance call: the tree over the nodes, the walk of each segment over it, and the call by columns. Its answer is defined in the crate clearance.
 mod marks;
 pub mod measure;
 mod order;

@@ -1,5 +1,5 @@
-// Marks of the ids that are exempt for a net, a bit for each id that leaves have. The segments are walked in the order of their nets, so the marks are made once for each net, and a visit reads one bit where it would search among the net's exemptions.
-// The leaves' ids stand in ascending order. The group of a leaf is the first place at which its id stands there: leaves of one id have one group, and its bit is their mark, so that an exemption takes one step however many leaves share its id.
+// Marks of the ids that are exempt for a net, one bit for each id of a leaf. The segments are walked in the order of their nets, so the marks are made once for each net, and a visit reads one bit instead of searching the net's exemptions.
+// The leaves' ids are stored in ascending order. The group of a leaf is the first index of its id there: leaves of one id have one group, whose bit is their mark, so an exemption takes one step however many leaves share its id.
 ghost use mathlib.Core.Path.{_≡_};
 ghost use mathlib.Core.List.{List};
 ghost use Prim.Native.Nat.{ℕ, _≤_, _<_};
@@ -19,7 +19,7 @@ use sorting::sort_indices;
 // Words of marks, for 4,096 leaves.
 pub(crate) const MARK_WORDS: usize = 64;
 
-// Puts the ids of the m leaves in ascending order, in the first words of s. The tree stands behind 11 words for each leaf.
+// Puts the ids of the m leaves in ascending order, in the first words of s. The tree follows 11 words for each leaf.
 fn sort_ids(s: &mut [u64], m: usize)
     requires { ⌜ TreeBehind (now s) m ⌝ }
     ensures { λ _. ⌜ IdsSorted (now (s .entry)) (now (s .exit)) m ⌝ }
@@ -32,7 +32,7 @@ fn sort_ids(s: &mut [u64], m: usize)
     sort_indices(s, m, m, 0);
 }
 
-// Puts the ids in order and, behind them, the groups of the leaves. Without exemptions nothing is marked, and neither is needed.
+// Puts the ids in order and, after them, the groups of the leaves. Without exemptions nothing is marked, and neither is needed.
 pub(crate) fn group_leaves(s: &mut [u64], m: usize, exemptions: usize)
     requires { ⌜ TreeBehind (now s) m ⌝ }
     ensures { λ _. ⌜ LeavesGrouped (now (s .entry)) (now (s .exit)) m exemptions ⌝ }
@@ -64,7 +64,7 @@ fn mark_id(marks: &mut [u64], ids: &[u64], m: usize, id: u32)
     insert(marks, group);
 }
 
-// Makes the marks of a net, and answers how many words of them count. Where the net has no exemptions none do, so that no word is cleared, nor read by the walk. The first k words of `packed` are the exemptions.
+// Makes the marks of a net, and returns how many words of them count. Where the net has no exemptions none do, so no word is cleared, and the walk reads none. The first k words of `packed` are the exemptions.
 fn mark_net(marks: &mut [u64], net: u32, packed: &[u64], k: usize, ids: &[u64], m: usize) -> usize
     requires { ⌜ (length (now marks) ≡ 64) × Rising (now packed) k × (0 < k → Rising (now ids) m) ⌝ }
     ensures { λ r. ⌜ (r ≤ 64) × ((ex : List Exemption) (groups w : List ℕ) → Holds (now (packed .entry)) ex → length ex ≡ k → (0 < k → Grouped (now (ids .entry)) groups w m) → Marked (take r (now (marks .exit))) groups w ex net) ⌝ }

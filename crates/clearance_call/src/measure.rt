@@ -1,4 +1,4 @@
-// The clearance measure by columns.
+// The clearance measure by columns (SCOPE 6.1).
 ghost use mathlib.Core.Path.{_≡_};
 ghost use lib.ListN.{length};
 ghost use Rattle.laws.specs.Inner.Allowance.{within};
@@ -22,7 +22,7 @@ use drawing::Check;
 use drawing::clear;
 use exemptions::gather;
 
-// The walks of all segments of a fit drawing. Without segments or without nodes there are no pairs, and nothing is put in order. Otherwise the scratch holds 6 words for each segment, for their order, and behind them 20 for each node, for the tree and the groups of its leaves.
+// The walks of all segments of a fit drawing. Without segments or without nodes there are no pairs, and nothing is put in order. Otherwise the scratch holds 6 words for each segment, for their order, then 20 for each node, for the tree and the groups of its leaves.
 fn walk_segments(
     net: &[u32],
     orientation: &[u8],

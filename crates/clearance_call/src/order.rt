@@ -1,4 +1,4 @@
-// The order of the tree's leaves: the index column is put in order along the wider axis, halved, and each half again.
+// The order of the tree's leaves (SCOPE 5.1, 5.2, 15.2): the index column is put in order along the wider axis, halved, and each half again.
 ghost use mathlib.Core.Path.{_≡_};
 ghost use mathlib.Core.Bool.{cond};
 ghost use mathlib.Core.List.{_++_};
@@ -19,7 +19,7 @@ fn horizontal_wider(bounds: Aabb) -> bool
     key_of(bounds.bottom - bounds.top) <= key_of(bounds.right - bounds.left)
 }
 
-// Where the table along the wider axis of a box starts: the first of two at t, or the second, m rows of five words behind it.
+// Where the table along the wider axis of a box starts: the first of two at t, or the second, which follows its m rows of five words.
 fn table_along(bounds: Aabb, t: usize, m: usize) -> usize
     requires { ⌜ t + 10 * m < 2 ^ 64 ⌝ }
     ensures { λ r. ⌜ r ≡ cond (Tree.horizontalWider bounds) t (t + 5 * m) ⌝ }
@@ -31,7 +31,7 @@ fn table_along(bounds: Aabb, t: usize, m: usize) -> usize
     }
 }
 
-// The box of the node at place i.
+// The box of the node at index i.
 pub(crate) fn box_at(
     i: usize,
     id: &[u32],
@@ -46,7 +46,7 @@ pub(crate) fn box_at(
     Aabb::from_node(x[i], y[i], width[i], height[i])
 }
 
-// The box around the nodes whose places stand in the first n words.
+// The box around the nodes whose indices are in the first n words.
 fn hull_of(
     s: &[u64],
     n: usize,
@@ -68,7 +68,7 @@ fn hull_of(
     bounds
 }
 
-// The leaves in order, in the first n words of s. Behind these stand, from t on, the nodes' rows along the horizontal axis and then those along the vertical one.
+// The leaves in order, in the first n words of s. After these, from t on, are the nodes' rows along the horizontal axis and then those along the vertical one.
 pub(crate) fn build_clearance_bvh(
     s: &mut [u64],
     n: usize,

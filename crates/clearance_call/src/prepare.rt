@@ -1,4 +1,4 @@
-// The tree over the nodes and the groups of its leaves, prepared in the scratch. Of 20 words for each node the first is its place in leaf order, the next ten are its rows along the two axes, and the last nine are a leaf of the tree. Once the tree is built, the words in front of it are free again: the first for each node are the ids in order, the second the leaves' groups.
+// The tree over the nodes and the groups of its leaves, prepared in the scratch. Of the 20 m words for m nodes the first m are the nodes' indices in leaf order, the next 10 m their rows along the two axes, and the last 9 m the leaves of the tree. Once the tree is built, the words before it are free again: the first m become the ids in order, the next m the leaves' groups.
 ghost use mathlib.Core.Path.{_≡_};
 ghost use Prim.Native.Nat.{_*_, _≤_, _<_};
 ghost use lib.ListN.{length, drop};

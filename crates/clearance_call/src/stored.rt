@@ -1,4 +1,4 @@
-// The tree in the scratch: nine words for each leaf, in leaf order. The first four are the edges of the leaf's box; the next four those of the branch whose right half starts at this leaf; the last is the node's id. The halves follow from the number of leaves, so that no links are stored.
+// The tree in the scratch: nine words for each leaf, in leaf order. The first four are the edges of the leaf's box; the next four those of the branch whose right half starts at this leaf; the last is the node's id. The halves follow from the number of leaves, so no links are stored.
 ghost use mathlib.Core.Path.{_≡_};
 ghost use Prim.Native.Nat.{_+_, _*_, _≤_};
 ghost use lib.ListN.{length};
@@ -11,7 +11,7 @@ use boxes::Aabb;
 use floats::bits_of;
 use floats::float_of_bits;
 
-// The box whose edges stand at word p.
+// The box whose edges are stored from word p on.
 fn box_from(words: &[u64], p: usize) -> Aabb
     requires { ⌜ p + 4 ≤ length (now words) ⌝ }
     ensures { λ r. ⌜ r ≡ boxAt (now (words .entry)) p ⌝ }
@@ -24,7 +24,7 @@ fn box_from(words: &[u64], p: usize) -> Aabb
     }
 }
 
-// The same for a box that is known to be fit, without the test for the bits of a NaN that `float_of_bits` makes: a fit box has none, and the walk reads a box at every step.
+// The same for a box that is known to be fit, without the test for a NaN that `float_of_bits` makes: a fit box has none, and the walk reads a box at every step.
 pub(crate) fn fit_box_from(words: &[u64], p: usize) -> Aabb
     requires { ⌜ p + 4 ≤ length (now words) ⌝ }
     requires { ⌜ FitBox (boxAt (now words) p) ⌝ }
@@ -38,7 +38,7 @@ pub(crate) fn fit_box_from(words: &[u64], p: usize) -> Aabb
     }
 }
 
-// Puts a box's edges at word p.
+// Stores a box's edges from word p on.
 fn put_box(words: &mut [u64], p: usize, left: f64, top: f64, right: f64, bottom: f64)
     requires { ⌜ p + 4 ≤ length (now words) ⌝ }
     ensures { λ _. ⌜ BoxPut (now (words .entry)) (now (words .exit)) p (record { left = left; top = top; right = right; bottom = bottom }) ⌝ }
@@ -49,7 +49,7 @@ fn put_box(words: &mut [u64], p: usize, left: f64, top: f64, right: f64, bottom:
     words[p + 3] = bits_of(bottom);
 }
 
-// Puts a leaf at word p.
+// Stores a leaf from word p on.
 fn put_leaf(words: &mut [u64], p: usize, id: u32, bounds: Aabb)
     requires { ⌜ p + 9 ≤ length (now words) ⌝ }
     ensures { λ _. ⌜ LeafPut (now (words .entry)) (now (words .exit)) p (record { id = id; bounds = bounds }) ⌝ }
@@ -65,7 +65,7 @@ fn put_leaf(words: &mut [u64], p: usize, id: u32, bounds: Aabb)
     words[p + 8] = id as u64;
 }
 
-// Puts the nodes as leaves from word r on, in the order of their places in the first words.
+// Stores the nodes as leaves from word r on, in the order of their indices in the first words.
 pub(crate) fn put_leaves(
     words: &mut [u64],
     r: usize,
@@ -86,7 +86,7 @@ pub(crate) fn put_leaves(
     }
 }
 
-// Puts the split boxes of the tree over the n leaves from leaf i on, and answers the box around them.
+// Stores the split boxes of the tree over the n leaves from leaf i on, and returns the box around them.
 pub(crate) fn put_splits(words: &mut [u64], i: usize, n: usize) -> Aabb
     requires { ⌜ (1 ≤ n) × (9 * (i + n) ≤ length (now words)) ⌝ }
     ensures { λ r. ⌜ SplitsPut (now (words .entry)) (now (words .exit)) i n r ⌝ }

@@ -1,4 +1,4 @@
-// Tables of rows of five words in the scratch, and the places of the segments put in order by one.
+// Tables of rows of five words in the scratch, and the indices of the segments put in order by one.
 ghost use mathlib.Core.Path.{_≡_};
 ghost use mathlib.Core.List.{[], _∷_, _++_};
 ghost use Prim.Native.Nat.{_+_, _*_, _≤_};
@@ -72,7 +72,7 @@ fn fill_node_table(
     }
 }
 
-// The nodes' rows along the horizontal axis from `at` on, and behind them those along the vertical one.
+// The nodes' rows along the horizontal axis from `at` on, then those along the vertical one.
 pub(crate) fn fill_node_tables(
     s: &mut [u64],
     at: usize,
@@ -112,7 +112,7 @@ fn fill_segment_table(
     }
 }
 
-// The places of the segments in document 01's order, in the first words of s; their rows stand behind them.
+// The indices of the segments in the order of SCOPE 9.4, in the first words of s; their rows follow.
 pub(crate) fn order_segments(
     s: &mut [u64],
     net: &[u32],

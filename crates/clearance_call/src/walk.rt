@@ -1,4 +1,4 @@
-// The walk of one segment over the stored tree, within what is left of the allowance: a loop over the parts of the tree, with a stack of those that are still to be walked.
+// The walk of one segment over the stored tree (SCOPE 5.5 to 5.7), within the remaining visits: a loop over the parts of the tree, with a stack of those that are still to be walked.
 ghost use mathlib.Core.Path.{_≡_};
 ghost use mathlib.Core.Bool.{true};
 ghost use mathlib.Core.List.{List};
@@ -56,11 +56,11 @@ fn visit_leaf(
     requires { ⌜ state .violations + state .remaining < 2 ^ 64 ⌝ }
     ensures { λ r. ⌜ outcomeOf r ≡ within (state .remaining) (visit (free (withPair (member (now (marks .entry)) (getD (now (groups .entry)) i 0)) threshold distance (soFar state)))) ⌝ }
 {
-    // `visit_pair` tests this too. With the test before the mark is read, the compiler bounds the loop over leaves by the visits left, so that the test costs nothing there.
+    // `visit_pair` tests this too. With the test before the mark is read, the compiler bounds the loop over leaves by the remaining visits, so the test costs nothing there.
     if state.remaining == 0 {
         return Walked::Spent;
     }
-    // Each side has a call with a constant: with the mark itself as an argument, `visit_pair` would test it once more.
+    // Each branch calls with a constant: with the mark itself as an argument, `visit_pair` would test it once more.
     if is_marked(marks, groups, i) {
         return visit_pair(true, distance, threshold, state);
     }
@@ -82,7 +82,7 @@ fn halve(words: &[u64], i: usize, n: usize, bounds: Aabb) -> Halves
     nearer_first(i, half, left, middle, rest, right)
 }
 
-// A part with fewer leaves is halved without a look at its farthest edges: it has few branches whose distances could be spared.
+// A part with fewer leaves is halved without a test of its farthest edges: it has few branches whose distances could be spared.
 const FEW: usize = 8;
 
 // Whether the n leaves from leaf i on, whose box is at distance `lower`, are known to be nearer than the threshold, by the farthest edges of that box. Then nothing of the part can be pruned, and the distances of its branches need not be computed.
@@ -95,7 +95,7 @@ fn part_below(words: &[u64], i: usize, n: usize, lower: f64, bounds: Aabb, thres
     if n < FEW {
         return false;
     }
-    // The box itself is not nearer. Behind this test the threshold is above a distance, and so above 0, without which `edges_below` says nothing of the boxes in a part.
+    // The box itself is not nearer. After this test the threshold is above a distance, and so above 0, without which `edges_below` implies nothing of the boxes in a part.
     if !(lower < threshold) {
         return false;
     }
@@ -133,14 +133,14 @@ fn visit_leaves(
     Walked::Went(state)
 }
 
-// What comes of a look at a part: the walk stops, or the part is done, or its halves are to be walked.
+// The outcome of the step at a part: the walk stops, or the part is done, or its halves are to be walked.
 enum Step {
     Stopped,
     Done(Walking),
     Split(Halves),
 }
 
-// What comes of a part whose leaves were visited: it is done, or the walk stopped there.
+// The step at a part whose leaves were visited: the part is done, or the walk stopped there.
 fn step_of(walked: Walked) -> Step
     ensures { λ r. ⌜ r ≡ stepOf walked ⌝ }
 {
@@ -150,7 +150,7 @@ fn step_of(walked: Walked) -> Step
     Step::Done(state)
 }
 
-// A look at one part, for a segment with the given box, whose net has these marks. The part is pruned, or its leaves are visited, or it is halved. The state comes by its fields: of a float that is itself a parameter, as `least` is here, the proof knows that it is a value of binary64.
+// The step at one part, for a segment with the given box, whose net has these marks. The part is pruned, or its leaves are visited, or it is halved. The state is passed by its fields: only of a float that is itself a parameter, as `least` is here, is it known in the proof that it is a value of binary64.
 fn look_at_part(
     words: &[u64],
     part: Subtree,

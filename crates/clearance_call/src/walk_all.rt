@@ -1,4 +1,4 @@
-// The walks of all segments, one after another in document 01's order.
+// The walks of all segments, one after another in the order of SCOPE 5.4.
 ghost use mathlib.Core.Path.{_≡_};
 ghost use mathlib.Core.List.{List};
 ghost use Prim.Native.Nat.{_+_, _*_, _^_, _≤_, _<_};
@@ -56,7 +56,7 @@ fn walk_segment(
 // No net has this number: nets have 32 bits.
 const NO_NET: u64 = 4294967296;
 
-// The segments' places stand in the first words of `order`, the k exemptions in those of `packed`, and the leaves' ids and groups in those of `ids` and `groups` where there are exemptions.
+// The segments' indices are in the first words of `order`, the k exemptions in those of `packed`, and the leaves' ids and groups in those of `ids` and `groups` where there are exemptions.
 pub(crate) fn walk_all(
     tree: &[u64],
     m: usize,

@@ -1,4 +1,4 @@
-// Clearance of a list of lines: its columns are laid out, and the call by columns does the rest, its refusals included.
+// Clearance of a list of lines, the segments of an entry by records (SCOPE 2.6, 15.9): its columns are filled, and the call by columns does the rest, its refusals included.
 ghost use mathlib.Core.Path.{_≡_};
 ghost use mathlib.Core.List.{map};
 ghost use lib.ListN.{length, take};

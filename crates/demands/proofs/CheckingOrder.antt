@@ -1,4 +1,4 @@
--- The conditions of each call stand in document 01's checking order. Assumes nothing.
+-- The conditions of each call are in the checking order of SCOPE 7. Assumes nothing.
 use Prim.Native.Nat.{ℕ}
 use native.Mathlib.Omega.{arith}
 use lib.Ieee.{Float}

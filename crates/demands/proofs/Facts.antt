@@ -11,7 +11,7 @@ use Rattle.demands.specs.Measures.{Measure, Reported}
 abbrev pub Passes : (m : Measure) → m .Drawing → m .Settings → ℕ → Type 0
 Passes m d s words = firstOf (m .conditions d s words) ≡ Passed
 
--- the report of two drawings is one
+-- two drawings have one report
 pub record Same (m : Measure) (d e : m .Drawing) (s : m .Settings) : Type 0 where
   pub figures : m .figures d s ≡ m .figures e s
   pub count : m .count d s ≡ m .count e s

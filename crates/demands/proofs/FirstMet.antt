@@ -1,4 +1,4 @@
--- The first refusal that applies is what the checks answer. Assumes nothing.
+-- The first refusal that applies is what the checks return. Assumes nothing.
 use mathlib.Core.Path.{_≡_, refl, ap, _∙_}
 use mathlib.Core.Logic.{_⊎_, inl, inr}
 use mathlib.Core.Bool.{Bool, true}

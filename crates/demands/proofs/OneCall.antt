@@ -31,7 +31,7 @@ module _ (m : Measure) (facts : Facts m) where
   short : (r : Run m) → NoneApplies (earlier m r) → m .reaches (r .allowance) (visitCount m r) ≡ false → resultOfRun m r ≡ m .refused 7
   short r h f = settled r h ∙ cond-false (m .reaches (r .allowance) (visitCount m r)) _ _ f
 
-  -- and what it leaves
+  -- and the scratch after it
   clears : (r : Run m) → NoneApplies (earlier m r) → r .after ≡ cleared (r .before)
   unfolding scratchAfter
   clears r h = r .says .leaves ∙ ap (λ (c : Check). scratchAfter c (r .before)) (passes r h)

@@ -45,7 +45,7 @@ not-zero InvalidInput e = omega arith
 not-zero OffGrid e = omega arith
 not-zero WorkLimitExceeded e = omega arith
 
--- what the results of a measure say: a number, 0 for a report; a report has its figures and its visits
+-- the results of a measure: a number, 0 for a report; a report has its figures and its visits
 record Results (m : Measure) : Type 0 where
   number : m .Result → ℕ
   of-report : (f : m .Figures) (n : ℕ) → number (m .accepted f n) ≡ 0
@@ -88,7 +88,7 @@ module _ (m : Measure) (facts : Facts m) (results : Results m) (d : m .Drawing) 
       scratch = λ r on. leaves r on Passed passes;
     }
 
-  -- ---- the same from what one call is told, with a scratch of this length or longer
+  -- ---- the same from the result of one call, with a scratch of this length or longer
   module _ (long : ℕ) (room : words ≤ long) (a : m .Allowance) (f : m .Figures) (n : ℕ) (is : told m d s a long ≡ m .accepted f n) where
     passed : (c : Check) → firstOf (m .conditions d s long) ≡ c → firstOf (m .conditions d s long) ≡ Passed
     passed Passed e = e
@@ -118,7 +118,7 @@ module _ (m : Measure) (facts : Facts m) (results : Results m) (d : m .Drawing) 
     left = leaves r on (Refused (x .refusal)) (x .first);
   }
 
-  -- and that from what one call is told
+  -- and that from the result of one call
   module _ (long : ℕ) (room : words ≤ long) (a : m .Allowance) (k : ℕ) (is : told m d s a long ≡ m .refused k) (not-0 : 0 ≡ k → ⊥) (not-7 : 7 ≡ k → ⊥) where
     number-is : (c : m .Result) → told m d s a long ≡ c → results .number c ≡ k
     number-is c e = ap (results .number) (sym e ∙ is) ∙ results .of-refusal k

@@ -21,7 +21,7 @@ use Rattle.demands.proofs.FirstMet.{first-refused, none-passed}
 use Rattle.demands.proofs.CheckingOrder.{of-tight-pair}
 
 module _ (s : SegmentColumns) (n : NodeColumns) (e : ExemptionColumns) (r : TightPair) (a : Answered s n e r) where
-  -- from what the checks say, and from the least clearance
+  -- from the outcome of the checks, and from the least clearance
   answered : (c : Check) → firstOf (tightPairConditions s n e) ≡ c → (g : Gap) → leastGap (distances (exemptions e) (segments s) (nodes n)) ≡ g → r ≡ checked tightPair.Refused c (found g (a .choice))
   unfolding answer
   answered c p g q = a .is ∙ (λ i. checked tightPair.Refused (p i) (found (q i) (a .choice)))

@@ -1,4 +1,4 @@
--- Which refusal applies, one whose condition as stated holds, and not one whose number a call returns; and in which order they are checked.
+-- Which refusal applies (SCOPE 7, 8.4): one whose condition as stated holds, not one whose number a call returns; and in which order they are checked.
 use mathlib.Core.Path.{_≡_}
 use mathlib.Core.Bool.{Bool, true, false}
 use mathlib.Core.List.{List, [], _∷_, _++_}
@@ -11,14 +11,14 @@ use Rattle.drawing.specs.declared.refusal.Refusal.the-variants.{MalformedFile, 
 abbrev pub NoneApplies : List (Bool × Refusal) → Type 0
 NoneApplies l = All (λ c. c .0 ≡ false) l
 
--- "the first refusal that applies in document 01's list", the conditions standing in checking order: its condition holds, and none in front of it does
+-- SCOPE 8.1: "the first refusal that applies in document 01's list", the conditions being in checking order: its condition holds, and none before it does
 pub record First (l : List (Bool × Refusal)) (refusal : Refusal) : Type 0 where
   pub before : List (Bool × Refusal)
   pub after : List (Bool × Refusal)
   pub it : l ≡ before ++ ((true, refusal) ∷ after)
   pub none-before : NoneApplies before
 
--- "Turned down, in checking order": the place of each in document 01's list
+-- SCOPE 7, "Turned down, in checking order": the number of each in that list
 unfoldable pub placeOf : Refusal → ℕ
 placeOf MalformedFile = 1
 placeOf ColumnsDiffer = 2
@@ -28,7 +28,7 @@ placeOf InvalidInput = 5
 placeOf OffGrid = 6
 placeOf WorkLimitExceeded = 7
 
--- conditions that are checked in this order, from a place on: none stands behind one with a later place, and the spent allowance comes behind them all
+-- conditions that are checked in this order, from a number on: none follows one with a later number, and the spent allowance follows them all
 abbrev pub InOrder : ℕ → List (Bool × Refusal) → Type 0
 InOrder place [] = place < placeOf WorkLimitExceeded
 InOrder place (c ∷ l) = (place ≤ placeOf (c .1)) × InOrder (placeOf (c .1)) l

@@ -1,10 +1,10 @@
--- What is promised of the five measures and the tight pair. A reader begins with Demand1, Demand2 and Demand3.
+-- What is promised of the five measures and the tight pair. A reader begins with Demand1, Demand2 and Demand3 (SCOPE 8.1, 8.2, 8.3).
 pub mod Demand1
 pub mod Demand2
 pub mod Demand3
 pub mod TightPair
 pub mod Marked
 pub mod ShutOut
--- what they speak of: which refusal applies, and the measures and their runs
+-- what they use: which refusal applies, and the measures and their runs
 pub mod Applies
 pub mod Measures

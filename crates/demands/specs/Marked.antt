@@ -1,5 +1,5 @@
--- Document 01's marked cases (a) to (l), each as the result of a measure's definition on a drawing. `proofs/Marked.antt` proves `Marked`.
--- Where document 01 gives no visits the equation states those that the definition counts.
+-- The marked cases of SCOPE 13, (a) to (l), each as the result of a measure's definition on a drawing. `proofs/Marked.antt` proves `Marked`.
+-- Where SCOPE 13 gives no visits the equation states those that the definition counts.
 use mathlib.Core.Path.{_≡_}
 use mathlib.Core.List.{[], _∷_}
 use Prim.Native.Nat.{ℕ}
@@ -75,7 +75,7 @@ alone net fixed start end = segmentColumns (net ∷ []) (1 ∷ []) (fixed ∷ []
 abbrev pub pair : ℕ → ℕ → (Float × Float × Float) → (Float × Float × Float) → SegmentColumns
 pair m n a b = segmentColumns (m ∷ n ∷ []) (1 ∷ 1 ∷ []) (a .0 ∷ b .0 ∷ []) (a .1 ∷ b .1 ∷ []) (a .2 ∷ b .2 ∷ [])
 
--- "Drawing D: net 1 horizontal at 0 from 0 to 10; net 2 horizontal at 4 from 5 to 15; node 7 with x 2, y 1, width 3, height 2; exemption net 2, node 7; threshold 2, cutoff 6"
+-- SCOPE 11.5: "Drawing D: net 1 horizontal at 0 from 0 to 10; net 2 horizontal at 4 from 5 to 15; node 7 with x 2, y 1, width 3, height 2; exemption net 2, node 7; threshold 2, cutoff 6"
 abbrev pub D : SegmentColumns
 D = pair 1 2 (zero, zero, ten) (four, five, fifteen)
 
@@ -88,7 +88,7 @@ no-nodes = nodeColumns [] [] [] [] []
 abbrev pub D-exemptions : ExemptionColumns
 D-exemptions = exemptionColumns (2 ∷ []) (7 ∷ [])
 
--- ---- the results: a measure on a drawing with its settings, under an allowance, with a scratch of so many words
+-- ---- the results: a measure on a drawing with its settings, under an allowance, with a scratch of the given number of words
 abbrev pub told : (m : Measure) → m .Drawing → m .Settings → m .Allowance → ℕ → m .Result
 told m drawing settings allowance words = m .result (m .answer drawing settings allowance words)
 
@@ -105,32 +105,32 @@ abbrev pub congestionIs : Float → Float → Float → ℕ → Gap → ℕ → 
 congestionIs t c o p g n = density .accepted (record { «total_length» = t; «congested_length» = c; «pair_overlap_length» = o; «peak_close_neighbors» = p }, g) n
 
 pub record Marked : Type 0 where
-  -- "(a) one segment, allowance 0: separation absent, 0 visits"
+  -- SCOPE 13.a: "(a) one segment, allowance 0: separation absent, 0 visits"
   pub a : told separation (alone 1 zero zero ten) tt 0 96 ≡ separationIs Absent Absent 0
-  -- "(b) D's separation accepted at 16, refused at 15"
+  -- SCOPE 13.b: "(b) D's separation accepted at 16, refused at 15"
   pub b-accepted : told separation D tt 16 128 ≡ separationIs (Present four) (Present four) 16
   pub b-refused : told separation D tt 15 128 ≡ separation .refused 7
-  -- "(c) D's congestion at 4 and 3"
+  -- SCOPE 13.c: "(c) D's congestion at 4 and 3"
   pub c-accepted : told density D six 4 128 ≡ congestionIs twenty ten five 1 (Present four) 4
   pub c-refused : told density D six 3 128 ≡ density .refused 7
-  -- "(d) 0 to 5 and 5 to 9, nets 1 and 2: absent"
+  -- SCOPE 13.d: "(d) 0 to 5 and 5 to 9, nets 1 and 2: absent"
   pub d : told separation (pair 1 2 (zero, zero, five) (four, five, nine)) tt 1000 128 ≡ separationIs Absent Absent 14
-  -- "(e) equal fixed, overlapping, two nets: least 0, nonzero absent"
+  -- SCOPE 13.e: "(e) equal fixed, overlapping, two nets: least 0, nonzero absent"
   pub e : told separation (pair 1 2 (four, zero, ten) (four, five, nine)) tt 1000 128 ≡ separationIs (Present zero) Absent 10
-  -- "(f) one net, gap 1: absent"
+  -- SCOPE 13.f: "(f) one net, gap 1: absent"
   pub f : told separation (pair 1 1 (zero, zero, ten) (one, five, nine)) tt 1000 128 ≡ separationIs Absent Absent 14
-  -- "(g) distance 2, threshold 2: no violation"
+  -- SCOPE 13.g: "(g) distance 2, threshold 2: no violation"
   pub g : told clearance (record { segments = alone 1 zero zero ten; nodes = node-7 two; exemptions = D-exemptions }) two 1000 160 ≡ clearanceIs (Present two) 0 1
-  -- "(h) no nodes, threshold -1: 5"
+  -- SCOPE 13.h: "(h) no nodes, threshold -1: 5"
   pub h : told clearance (record { segments = D; nodes = no-nodes; exemptions = D-exemptions }) minus-one 1000 160 ≡ clearance .refused 5
-  -- "(i) no segments, threshold 0: absent, 0, 0"
+  -- SCOPE 13.i: "(i) no segments, threshold 0: absent, 0, 0"
   pub i : told clearance (record { segments = none; nodes = node-7 one; exemptions = D-exemptions }) zero 0 160 ≡ clearanceIs Absent 0 0
-  -- "(j) gap 4, cutoff 4, two overlapping segments: congested 0, 2 visits"
+  -- SCOPE 13.j: "(j) gap 4, cutoff 4, two overlapping segments: congested 0, 2 visits"
   pub j : told density D four 2 128 ≡ congestionIs twenty zero zero 0 Absent 2
-  -- "(k) 1/64 and 1,048,576 pass, 1/128 gives 6"
+  -- SCOPE 13.k: "(k) 1/64 and 1,048,576 pass, 1/128 gives 6"
   pub k-passes : told density (alone 1 the-most a-64th a-32nd) a-64th 0 96 ≡ congestionIs a-64th zero zero 0 Absent 0
   pub k-off-the-grid : told density (alone 1 the-most a-128th a-32nd) a-64th 0 96 ≡ density .refused 6
-  -- "(l) fixed -1 and -0, cutoff 1: not close"
+  -- SCOPE 13.l: "(l) fixed -1 and -0, cutoff 1: not close"
   pub l : told density (pair 1 2 (minus-one, zero, ten) (minus-zero, zero, ten)) one 2 128 ≡ congestionIs twenty zero zero 0 Absent 2
-  -- D's sheet: "clearance 3ff0000000000000 1 2", "separation 4010000000000000 4010000000000000 16", "congestion 4034000000000000 4024000000000000 4014000000000000 1 4010000000000000 4"; the last two are (b) and (c)
+  -- SCOPE 11.5, D's sheet: "clearance 3ff0000000000000 1 2", "separation 4010000000000000 4010000000000000 16", "congestion 4034000000000000 4024000000000000 4014000000000000 1 4010000000000000 4"; the last two are (b) and (c)
   pub sheet : told clearance (record { segments = D; nodes = node-7 one; exemptions = D-exemptions }) two 1000 160 ≡ clearanceIs (Present one) 1 2

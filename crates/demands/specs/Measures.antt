@@ -1,5 +1,5 @@
--- The five measures of demand 3, each as its crate defines it, and what is meant by a run of one.
--- "A measure is one of the four calls above whose names end in `_bounded`, or `measure_parallel_congestion`, which counts as having an allowance that always reaches".
+-- The five measures (SCOPE 6.1), each as its crate defines it, and what is meant by a run of one.
+-- SCOPE 6.1, 6.2: "A measure is one of the four calls above whose names end in `_bounded`, or `measure_parallel_congestion`, which counts as having an allowance that always reaches".
 use mathlib.Core.Path.{_≡_}
 use mathlib.Core.Bool.{Bool, true, false, not}
 use mathlib.Core.List.{List, [], _∷_, _++_}
@@ -38,37 +38,37 @@ use Rattle.congestion.specs.Walk as congestionWalk
 use Rattle.congestion.specs.Answer.{densityAnswer, profileAnswer, congestionAnswer, withoutDensity, reportOf, zeros, resultOf}
 
 pub record Measure : Type 1 where
-  -- "A drawing's lists are its segments, nodes and exemptions, as far as the measure takes them", as columns
+  -- SCOPE 6.6: "A drawing's lists are its segments, nodes and exemptions, as far as the measure takes them", as columns
   pub Drawing : Type 0
-  -- "two orders hold the same whole entries, bit by bit, each equally often"
+  -- SCOPE 6.6: "two orders hold the same whole entries, bit by bit, each equally often"
   pub Reordered : Drawing → Drawing → Type 0
-  -- "Settings are whatever else it is given to read, allowance and scratch left aside."
+  -- SCOPE 6.6: "Settings are whatever else it is given to read, allowance and scratch left aside."
   pub Settings : Type 0
-  -- every float that is lent or given is a value of binary64
+  -- every float that is lent or passed is a value of binary64
   pub Held : Drawing → Settings → Type 0
-  -- the allowance, and whether it reaches a count
+  -- SCOPE 2.4: the allowance, and whether it reaches a count
   pub Allowance : Type 0
   pub reaches : Allowance → ℕ → Bool
-  -- the conditions of the refusals before 7, each with its refusal, for a scratch of so many words
+  -- SCOPE 7.2 to 7.6: the conditions of the refusals before 7, each with its refusal, for a scratch of the given number of words
   pub conditions : Drawing → Settings → ℕ → List (Bool × Refusal)
-  -- document 01, 'Figures over all pairs'
+  -- SCOPE 3, the figures over all pairs
   pub Figures : Type 0
   pub figures : Drawing → Settings → Figures
   -- the floats among them
   pub floats : Figures → List Float
-  -- the Rust's walk with no limit: what it finds, at the cost of its visits
+  -- SCOPE 5: the Rust's walk with no limit: what it finds, at the cost of its visits
   pub walk : Drawing → Settings → Charged Figures
-  -- the visit count: "That count is defined over lists and settings alone, the walk included, and takes nothing from the allowance, the scratch or the port's own tally."
+  -- SCOPE 4.1, the visit count: "That count is defined over lists and settings alone, the walk included, and takes nothing from the allowance, the scratch or the port's own tally."
   pub count : Drawing → Settings → ℕ
   -- the definition that the call's contract cites, with the length of the scratch
   pub Answer : Type 0
   pub answer : Drawing → Settings → Allowance → ℕ → Answer
-  -- "A result is what the call returns, accepted or refused by number, with the report; lent memory is left aside."
+  -- SCOPE 6.6: "A result is what the call returns, accepted or refused by number, with the report; lent memory is left aside."
   pub Result : Type 0
   pub result : Answer → Result
   -- the result of a report of figures and visits
   pub accepted : Figures → ℕ → Result
-  -- "A refusal returns its number and a report of zeros and absent gaps"
+  -- SCOPE 6.3: "A refusal returns its number and a report of zeros and absent gaps"
   pub refused : ℕ → Result
 
 -- ---- an allowance in visits reaches a count that is not above it
@@ -76,13 +76,13 @@ abbrev pub visitsReach : ℕ → ℕ → Bool
 visitsReach allowance n = leb n allowance
 
 -- ---- the floats of a report
--- the sign is plus, and it is no NaN
+-- the sign is plus, and it is not a NaN
 abbrev pub unsigned : Float → Bool
 unsigned nan = false
 unsigned (inf s) = not s
 unsigned (fin s m e) = not s
 
--- what a report holds: a value of binary64, no NaN, not negative and not -0. IEEE 754 leaves the bits of a NaN open; any other value has one bit pattern, so that equal ones are equal bit by bit.
+-- what a report holds: a value of binary64, not a NaN, not negative and not -0. IEEE 754 leaves the bits of a NaN open; any other value has one bit pattern, so equal ones are equal bit by bit.
 abbrev pub Reported : Float → Type 0
 Reported x = Binary64 x × (unsigned x ≡ true)
 
@@ -142,7 +142,7 @@ separation = record {
   refused = λ k. (k, separationCall.zeros);
 }
 
--- ---- the three calls of congestion, whose figures are a part of one report
+-- ---- the three calls of congestion (SCOPE 6.2), whose figures are a part of one report
 abbrev pub ofCongestion : (Charged (ParallelCongestion × Gap) → Charged (ParallelCongestion × Gap)) → (A : Type 0) → (A → ℕ → Bool) → (SegmentColumns → Float → A → ℕ → CongestionAnswer) → Measure
 ofCongestion part A reach answers = record {
   Drawing = SegmentColumns;
@@ -165,19 +165,19 @@ ofCongestion part A reach answers = record {
   refused = λ k. (k, zeros);
 }
 
--- `measure_parallel_density_profile_bounded`: "the congestion reference"
+-- SCOPE 6.2, `measure_parallel_density_profile_bounded`: "the congestion reference"
 abbrev pub density : Measure
 density = ofCongestion (λ c. c) ℕ visitsReach densityAnswer
 
--- `measure_parallel_congestion_profile_bounded`: "is the same with pair overlap and peak zero"
+-- SCOPE 6.2, `measure_parallel_congestion_profile_bounded`: "is the same with pair overlap and peak zero"
 abbrev pub profile : Measure
 profile = ofCongestion withoutDensity ℕ visitsReach profileAnswer
 
--- `measure_parallel_congestion`: "an allowance that always reaches"
+-- SCOPE 6.2, `measure_parallel_congestion`: "an allowance that always reaches"
 abbrev pub congestion : Measure
 congestion = ofCongestion (λ c. c) (Unit {0}) (λ always n. true) (λ s cutoff always words. congestionAnswer s cutoff words)
 
--- ---- the five
+-- ---- the five measures of SCOPE 6.1
 pub data Call : Type 0 where
   edge-node-clearance parallel-separation parallel-density-profile parallel-congestion-profile parallel-congestion : Call
 
@@ -188,13 +188,13 @@ measured parallel-density-profile = density
 measured parallel-congestion-profile = profile
 measured parallel-congestion = congestion
 
--- ---- what a call's contract says of one call: one equation for what is returned, one for the scratch at exit, and that the floats of a drawing that passes the checks are values of binary64, as their type `f64` has it
+-- ---- what a call's contract says of one call (SCOPE 8.5): one equation for what is returned, one for the scratch at exit, and that the floats of a drawing that passes the checks are values of binary64, as the type `f64` implies
 pub record Says (m : Measure) (drawing : m .Drawing) (settings : m .Settings) (allowance : m .Allowance) (before : List ℕ) (returned : m .Answer) (after : List ℕ) : Type 0 where
   pub answers : returned ≡ m .answer drawing settings allowance (length before)
   pub leaves : after ≡ scratchAfter (firstOf (m .conditions drawing settings (length before))) before
   pub held : firstOf (m .conditions drawing settings (length before)) ≡ Passed → m .Held drawing settings
 
--- a run of a measure: a call of which its contract holds, by columns or by a thin entry, whose list of records stands for columns. `readability`, specs/Calls, shows that the functions' own contracts say so of every call.
+-- a run of a measure: a call of which its contract holds, by columns or by a thin entry, whose list of records is read as columns (SCOPE 2.6). `readability`, specs/Calls, shows that the functions' own contracts imply it of every call.
 pub record Run (m : Measure) : Type 0 where
   pub drawing : m .Drawing
   pub settings : m .Settings
@@ -212,10 +212,10 @@ module _ (m : Measure) (r : Run m) where
   abbrev pub visitCount : ℕ
   visitCount = m .count (r .drawing) (r .settings)
 
-  -- the conditions of the refusals that are checked before 7, at this run
+  -- SCOPE 8.4: the conditions of the refusals that are checked before 7, at this run
   abbrev pub earlier : List (Bool × Refusal)
   earlier = m .conditions (r .drawing) (r .settings) (length (r .before))
 
-  -- "The all-pairs report is the measure's figures above with its visit count."
+  -- SCOPE 6.3: "The all-pairs report is the measure's figures above with its visit count."
   abbrev pub allPairsReport : m .Result
   allPairsReport = m .accepted (m .figures (r .drawing) (r .settings)) visitCount

@@ -1,5 +1,5 @@
--- "These are shut out: 5 or 6 for drawings that are fit (demand 2); absent gaps for every drawing (2); a sweep that handles its first event and copies that to the rest (2); a visit total not taken from the walk (3); 7 before the first visit though the allowance suffices (3); 7 for all drawings (3); a call that leaves its scratch as found (1)."
--- What every call that meets its contract does on drawing D, on the drawings of the marked cases and on one where a node is pruned, by columns or by records, whatever its allowance, whatever its scratch holds and however long that is from document 01's least on: a program of these kinds does otherwise on one of them. `proofs/ShutOut.antt` proves `ShutOut`.
+-- SCOPE 14.1 to 14.6: "These are shut out: 5 or 6 for drawings that are fit (demand 2); absent gaps for every drawing (2); a sweep that handles its first event and copies that to the rest (2); a visit total not taken from the walk (3); 7 before the first visit though the allowance suffices (3); 7 for all drawings (3); a call that leaves its scratch as found (1)."
+-- What every call that meets its contract does on drawing D, on the drawings of the marked cases and on one where a node is pruned, by columns or by records, whatever its allowance and whatever its scratch holds, of any length from the least of SCOPE 2.7 on: a program of these kinds does otherwise on one of them. `proofs/ShutOut.antt` proves `ShutOut`.
 use mathlib.Core.Path.{_≡_}
 use mathlib.Core.Bool.{true, false}
 use mathlib.Core.List.{[], _∷_}
@@ -15,24 +15,24 @@ use Rattle.demands.specs.Measures.{Measure, Run, resultOfRun, clearance,
 use Rattle.demands.specs.Demand1.{Returns, cleared}
 use Rattle.demands.specs.Marked.{zero, minus-zero, one, minus-one, two, three, four, five, six, nine, ten, twenty, a-128th, a-64th, a-32nd, the-most, none, alone, pair, D, node-7, no-nodes, D-exemptions}
 
--- a call on this drawing with these settings, with a scratch of at least so many words
+-- a call on this drawing with these settings, with a scratch of at least the given number of words
 pub record On (m : Measure) (drawing : m .Drawing) (settings : m .Settings) (words : ℕ) (r : Run m) : Type 0 where
   pub same-drawing : r .drawing ≡ drawing
   pub same-settings : r .settings ≡ settings
   pub enough : words ≤ length (r .before)
 
--- a drawing with these figures and so many visits
+-- a drawing with these figures and this number of visits
 pub record Measured (m : Measure) (drawing : m .Drawing) (settings : m .Settings) (words : ℕ) (figures : m .Figures) (visits : ℕ) : Type 0 where
-  -- "a visit total not taken from the walk": the visits are those of the walk, and the figures what it finds (that its floats are values of binary64 is said by every run on it)
+  -- SCOPE 14.4, "a visit total not taken from the walk": the visits are those of the walk, and the figures what it finds (every run on it implies that its floats are values of binary64)
   pub walk : m .Held drawing settings → m .walk drawing settings ≡ record { value = figures; cost = visits }
-  -- "5 or 6 for drawings that are fit", "7 before the first visit though the allowance suffices", "7 for all drawings": whatever allowance reaches the visits, the call is accepted; "absent gaps", "a sweep that handles its first event": with these figures; and with these visits, which do not follow the allowance
+  -- SCOPE 14.1, 14.5, "5 or 6 for drawings that are fit", "7 before the first visit though the allowance suffices", "7 for all drawings": whatever allowance reaches the visits, the call is accepted; SCOPE 14.2, 14.3, "absent gaps", "a sweep that handles its first event": with these figures; and with these visits, which do not depend on the allowance
   pub accepted : (r : Run m) → On m drawing settings words r → m .reaches (r .allowance) visits ≡ true → resultOfRun m r ≡ m .accepted figures visits
-  -- 7 for any other allowance, and nothing else; there is none where the visits are 0, nor for the call without an allowance
+  -- SCOPE 7.7: 7 for any other allowance, and nothing else; there is none where the visits are 0, nor for the call without an allowance
   pub spent : (r : Run m) → On m drawing settings words r → m .reaches (r .allowance) visits ≡ false → resultOfRun m r ≡ m .refused 7
-  -- "a call that leaves its scratch as found": it is zero, whatever was found
+  -- SCOPE 14.6, "a call that leaves its scratch as found": it is zero, whatever it held before
   pub scratch : (r : Run m) → On m drawing settings words r → r .after ≡ cleared (r .before)
 
--- a drawing that is refused by that number, for whatever allowance, and the scratch is as it was
+-- a drawing that is refused by that number, for every allowance, and the scratch is as it was
 abbrev pub TurnedDown : (m : Measure) → m .Drawing → m .Settings → ℕ → ℕ → Type 0
 TurnedDown m drawing settings words number = (r : Run m) → On m drawing settings words r → Returns m r (m .refused number) (r .before)
 
@@ -43,7 +43,7 @@ figuresOf t c o p g = (record { «total_length» = t; «congested_length» = c; 
 
 pub record Congestion (drawing : SegmentColumns) (cutoff : Float) (words : ℕ) (figures : ParallelCongestion × Gap) (visits : ℕ) : Type 0 where
   pub by-density : Measured density drawing cutoff words figures visits
-  -- "is the same with pair overlap and peak zero"
+  -- SCOPE 6.2: "is the same with pair overlap and peak zero"
   pub by-profile : Measured profile drawing cutoff words (withoutDensity (record { value = figures; cost = visits }) .value) visits
   -- without an allowance
   pub by-congestion : Measured congestion drawing cutoff words figures visits
@@ -58,13 +58,13 @@ abbrev nodes-7-and-8 : NodeColumns
 nodes-7-and-8 = nodeColumns (7 ∷ 8 ∷ []) (two ∷ two ∷ []) (one ∷ twenty ∷ []) (three ∷ three ∷ []) (two ∷ two ∷ [])
 
 pub record ShutOut : Type 0 where
-  -- ---- drawing D, each line of its sheet: every gap is present. Its sweeps begin with net 1 alone: the first event finds no pair.
+  -- ---- drawing D (SCOPE 11.5), each line of its sheet: every gap is present. Its sweeps begin with net 1 alone: the first event finds no pair.
   pub D-clearance : Measured clearance (record { segments = D; nodes = node-7 one; exemptions = D-exemptions }) two 160 (record { least = Present one; violations = 1 }) 2
   pub D-separation : Measured separation D tt 128 (record { least = Present four; leastNonzero = Present four }) 16
   pub D-congestion : Congestion D six 128 (figuresOf twenty ten five 1 (Present four)) 4
   -- a node that the walk prunes: one visit for one segment and two nodes
   pub one-pruned : Measured clearance (record { segments = alone 1 zero zero ten; nodes = nodes-7-and-8; exemptions = D-exemptions }) zero 160 (record { least = Present one; violations = 0 }) 1
-  -- ---- the marked drawings, by the marks' letters; (b) and (c) are D's
+  -- ---- the drawings of SCOPE 13, by the letters of the cases; (b) and (c) are D's
   pub a : Measured separation (alone 1 zero zero ten) tt 96 (record { least = Absent; leastNonzero = Absent }) 0
   pub d : Measured separation (pair 1 2 (zero, zero, five) (four, five, nine)) tt 128 (record { least = Absent; leastNonzero = Absent }) 14
   pub e : Measured separation (pair 1 2 (four, zero, ten) (four, five, nine)) tt 128 (record { least = Present zero; leastNonzero = Absent }) 10

@@ -1,4 +1,4 @@
--- "Tight pair (added; no threshold, allowance or scratch): checks 2, 3 and 5 of clearance, then answers any pair, by segment and node position, that is not exempt and whose distance is the least clearance, or absent if there is none."
+-- SCOPE 12.1, 12.2: "Tight pair (added; no threshold, allowance or scratch): checks 2, 3 and 5 of clearance, then answers any pair, by segment and node position, that is not exempt and whose distance is the least clearance, or absent if there is none."
 -- What follows from `Answered`, which is the call's contract (`readability`, specs/Calls). `proofs/TightPair.antt` proves `TightPairs`.
 use mathlib.Core.Path.{_≡_}
 use mathlib.Core.Option.{none, some}
@@ -28,14 +28,14 @@ module _ (s : SegmentColumns) (n : NodeColumns) (e : ExemptionColumns) (r : Tigh
     pub tight : Tight (exemptions e) (segments s) (nodes n) segment node
 
   pub record Holds : Type 0 where
-    -- "for the tight pair, an absent pair"
+    -- SCOPE 12.1: "for the tight pair, an absent pair"
     pub unfit : (why : Refusal) → First (tightPairConditions s n e) why → resultOf r ≡ (numberOf why, none)
-    -- "or absent if there is none"
+    -- SCOPE 12.2: "or absent if there is none"
     pub no-pair : NoneApplies (tightPairConditions s n e) → (threshold : Float) → leastClearance threshold ≡ Absent → resultOf r ≡ (0, none)
-    -- "any pair .. that is not exempt and whose distance is the least clearance"
+    -- SCOPE 12.2: "any pair .. that is not exempt and whose distance is the least clearance"
     pub some-pair : NoneApplies (tightPairConditions s n e) → (threshold least : Float) → leastClearance threshold ≡ Present least → Pair
 
 pub record TightPairs : Type 0 where
   pub of-each : (s : SegmentColumns) (n : NodeColumns) (e : ExemptionColumns) (r : TightPair) → Answered s n e r → Holds s n e r
-  -- "checks 2, 3 and 5 of clearance", in this order
+  -- SCOPE 12.1: "checks 2, 3 and 5 of clearance", in this order
   pub in-order : (s : SegmentColumns) (n : NodeColumns) (e : ExemptionColumns) → InOrder 0 (tightPairConditions s n e)

@@ -1,4 +1,4 @@
--- Exemptions as words in ascending order: how they are gathered, found by halving and looked up. Assumes nothing.
+-- Exemptions as words in ascending order: how they are gathered and found by halving. Assumes nothing.
 use mathlib.Core.Path.{_≡_, refl, sym, ap, _∙_, subst}
 use mathlib.Core.Logic.{inl, inr}
 use mathlib.Core.Bool.{Bool, true, false, not, _&&_}
@@ -33,7 +33,7 @@ use Rattle.exemptions.specs.declared.Range.{Range}
 use Rattle.clearance.specs.Figures.{exempt}
 use Rattle.exemptions.specs.Inner.Exempting.{word, unpacked, wordAt, nodeOf, Ascending, Rising, Holds, Gathered, Bound, Own, Listed}
 
--- ---- the search by halving: if the keys ascend, the place that is looked for is one of the n from `at` on, or the one behind them
+-- ---- the search by halving: if the keys ascend, the index sought is one of the n from `at` on, or the one after them
 pub record Halving (key : ℕ → ℕ) (a b v at n : ℕ) : Type 0 where
   pub from : a ≤ at
   pub to : at + n ≤ b
@@ -48,7 +48,7 @@ module _ (key : ℕ → ℕ) (a b v : ℕ) where
     pub halving-end : n ≤ 0 → Ascending key a b → Bound key a b v at
     halving-end h o = record { from = s .from; to = omega (arith, s .to); below = s .below o; above = λ i p q. s .above o i (omega arith) q }
 
-    -- the key in the middle is looked at
+    -- the key in the middle is compared
     module _ (h : 0 < n) where
       pub halving-up : key (at + (n - n / 2) - 1) < v → Halving key a b v (at + (n - n / 2)) (n / 2)
       halving-up k = record {
@@ -80,7 +80,7 @@ module _ (words : List ℕ) (a b id at n : ℕ) (s : Halving (nodeOf words) a b 
 
 -- ---- the range of a net: between its least word and the least word of the next net
 module _ (words : List ℕ) (k net from : ℕ) (f : Bound (wordAt words) 0 k (net * 4294967296) from) where
-  -- no word of the net stands in front
+  -- no word of the net is before it
   own-from : (i : ℕ) → wordAt words i / 4294967296 ≡ net → from ≤ i
   own-from i e = elim (le-or-lt from i) [ inl p ↦ p | inr p ↦ absurd (omega (arith, f .below i (omega arith) p)) ]
 
@@ -92,7 +92,7 @@ module _ (words : List ℕ) (k net from : ℕ) (f : Bound (wordAt words) 0 k (ne
     others = λ i h e. (own-from i e, elim (le-or-lt to i) [ inl p ↦ absurd (omega (arith, t .above i p h)) | inr p ↦ p ]);
   }
 
-  -- no words stand behind those of the last net
+  -- no words follow those of the last net
   pub own-last : net ≡ 4294967295 → ((i : ℕ) → wordAt words i < 2 ^ 64) → Own words k net (record { from = from; to = k })
   own-last last fit = record { ordered = f .to; inside = omega arith; own = λ i p q. omega (arith, f .above i p q, fit i); others = λ i h e. (own-from i e, h) }
 
@@ -104,9 +104,9 @@ nodes-ascend words k net r h o i j p q t = omega (arith, o .own i p (omega arith
 pub listed-of : (packed : List ℕ) (k net : ℕ) (range : Range) → Own packed k net range → (ex : List Exemption) → Holds packed ex → length ex ≡ k → Listed packed ex net range
 listed-of packed k net range o ex h e = record { holds = h; places = subst (λ (z : ℕ). Own packed z net range) (sym e) o }
 
--- ---- what a look-up finds
+-- ---- what a search finds
 module _ (words : List ℕ) (ex : List Exemption) (net : ℕ) (r : Range) (l : Listed words ex net r) (id : ℕ) where
-  -- a word stands for the exemption of the net and the node
+  -- a word is the exemption of the net and the node
   test : ℕ → Bool
   test u = eqb (unpacked u .net) net && eqb (unpacked u .node) id
 
@@ -140,7 +140,7 @@ module _ (words : List ℕ) (ex : List Exemption) (net : ℕ) (r : Range) (l : L
   pub none-there : r .to ≤ r .from → false ≡ exempt ex net id
   none-there e = unlisted (λ i h a b. let z = l .places .others i h a in omega arith)
 
-  -- the range does not reach beyond the words
+  -- the range does not extend beyond the words
   pub never-beyond : length words < r .to → false ≡ exempt ex net id
   never-beyond h = absurd (omega (arith, l .places .inside, l .holds .rising .room))
 
@@ -202,7 +202,7 @@ module _ (c : ExemptionColumns) (s₀ : List ℕ) where
       written = rw zero-add at (written-next packed s₀ 0 (exemptions c) (exemptionAt c i) s i v (p .written) (omega (arith, length-exemptions c (p .agree))) (e ∙ sym (ap packed (exemptions-get (c .net) (c .node) (p .agree .node) (exemptionAt c i) i h))));
     }
 
--- ---- and put in order: by a table with rows of no words the words themselves are compared
+-- ---- and put in order: with a table whose rows are empty, the words themselves are compared
 by-word : (s : List ℕ) (t i j : ℕ) → t ≤ length s → leb i j ≡ before (drop t s) 0 i j
 by-word s t i j h = compare-end s t 0 i j (t + i * 0) (t + j * 0) 0 (compare-start s t 0 i j h (row i) (row j)) (omega arith)
   where
@@ -226,7 +226,7 @@ module _ (s : List ℕ) (n : ℕ) (h : n ≤ length s) where
       order i j p q = subst (λ (x : ℕ). x ≤ getD t j 0) (getD-take n t i 0 (omega arith)) (subst (λ (x : ℕ). getD (take n t) i 0 ≤ x) (getD-take n t j 0 q)
           (sorted-at (before (drop n s) 0) _≤_ le-refl (λ x y e. leb-true x y (by-word s n x y h ∙ e)) 0 (take n t) in-order i j p (omega (arith, length-take-le n t (omega (arith, sorted-length s n n 0))))))
 
--- what is unpacked is what was packed
+-- unpacking a packed exemption yields that exemption
 unpacked-packed : (l : List Exemption) → All (λ e. e .node < 4294967296) l → map unpacked (map packed l) ≡ l
 unpacked-packed [] h = refl
 unpacked-packed (e ∷ l) h = λ i. one (h .0) i ∷ unpacked-packed l (h .1) i

@@ -1,4 +1,4 @@
-// Exemptions that can be looked up fast. Each is packed into one word, the net in the upper half; the words stand in ascending order in a slice that the caller lends, so that those of one net stand together and are found by halving.
+// Exemptions (SCOPE 2.3) for fast search. Each is packed into one word, the net in the upper half; the words are in ascending order in a slice that the caller lends, so those of one net are consecutive and are found by halving.
 ghost use mathlib.Core.Path.{_≡_};
 ghost use mathlib.Core.List.{List};
 ghost use Prim.Native.Nat.{ℕ, _≤_};
@@ -12,7 +12,7 @@ use sorting::sort_indices;
 // 2 to the power 32: the upper half of a word is the net, the lower the node.
 pub const HALF: u64 = 4294967296;
 
-// The places of one net's exemptions: from `from` on, and before `to`.
+// The indices of one net's exemptions: from `from` on, and before `to`.
 pub struct Range {
     pub from: usize,
     pub to: usize,
@@ -24,7 +24,7 @@ fn pack(net: u32, node: u32) -> u64
     net as u64 * HALF + node as u64
 }
 
-// Packs the exemptions into the first words and puts them in ascending order. That the columns agree and that there are words enough is known from a drawing's checks; where it is not so, nothing is written.
+// Packs the exemptions into the first words and puts them in ascending order. That the columns agree and that there are enough words is known from a drawing's checks; otherwise nothing is written.
 pub fn gather(words: &mut [u64], exempt_net: &[u32], exempt_node: &[u32])
     ensures { λ _. ⌜ (ExemptionsAgree (exemptionColumns (now («exempt_net» .entry)) (now («exempt_node» .entry))) → length (now («exempt_net» .entry)) ≤ length (now (words .entry)) → Gathered (exemptionColumns (now («exempt_net» .entry)) (now («exempt_node» .entry))) (now (words .entry)) (now (words .exit))) ⌝ }
 {
@@ -43,7 +43,7 @@ pub fn gather(words: &mut [u64], exempt_net: &[u32], exempt_node: &[u32])
     sort_indices(words, k, k, 0);
 }
 
-// The first place from a on, and before b, whose word is at least v; b where there is none. That the words ascend is known to the caller, who put them in order; where they do not, some place from a to b is answered, and a where these are no places of the words.
+// The first index from a on, and before b, whose word is at least v; b where there is none. The caller put the words in ascending order. Where they do not ascend, some index from a to b is returned; where a to b is no range of the words, a is.
 pub fn first_at_least(words: &[u64], a: usize, b: usize, v: u64) -> usize
     ensures { λ r. ⌜ (a ≤ b → b ≤ length (now (words .entry)) → Ascending (wordAt (now (words .entry))) a b → Bound (wordAt (now (words .entry))) a b v r) ⌝ }
 {
@@ -53,7 +53,7 @@ pub fn first_at_least(words: &[u64], a: usize, b: usize, v: u64) -> usize
     if words.len() < b {
         return a;
     }
-    // it is one of the n places from `at` on, or the place behind them
+    // the index sought is one of the n from `at` on, or the one after them
     let mut at = a;
     let mut n = b - a;
     while 0 < n {
@@ -67,7 +67,7 @@ pub fn first_at_least(words: &[u64], a: usize, b: usize, v: u64) -> usize
     at
 }
 
-// The same for the nodes of the words. `below` is 1 where the node looked at is below id, and 0 where it is not: a comparison here would become a branch, guessed wrong half of the time.
+// The same for the nodes of the words. `below` is 1 where the node in the middle is below id, and 0 where it is not: a comparison here would become a branch, mispredicted half of the time.
 fn first_node(words: &[u64], a: usize, b: usize, id: u32) -> usize
     requires { ⌜ (a ≤ b) × (b ≤ length (now words)) ⌝ }
     ensures { λ r. ⌜ (Ascending (nodeOf (now (words .entry))) a b → Bound (nodeOf (now (words .entry))) a b id r) ⌝ }
@@ -85,12 +85,12 @@ fn first_node(words: &[u64], a: usize, b: usize, id: u32) -> usize
     at
 }
 
-// The places of that net's exemptions among the first k words, which ascend once they are gathered.
+// The indices of that net's exemptions among the first k words, which ascend once they are gathered.
 pub fn range_of(words: &[u64], k: usize, net: u32) -> Range
     ensures { λ r. ⌜ (Rising (now (words .entry)) k → Own (now (words .entry)) k net r) ⌝ }
 {
     let from = first_at_least(words, 0, k, net as u64 * HALF);
-    // the words of the last net reach up to the last of all words
+    // the words of the last net extend to the end
     if net == 4294967295 {
         return Range { from: from, to: k };
     }
@@ -98,7 +98,7 @@ pub fn range_of(words: &[u64], k: usize, net: u32) -> Range
     Range { from: from, to: to }
 }
 
-// Whether a node of that id is exempt for the net whose exemptions stand in the range, as `range_of` answers it for gathered words. Where the range is empty or reaches beyond the words, no node is.
+// Whether a node of that id is exempt for the net whose exemptions are in the range that `range_of` returns for gathered words. Where the range is empty or extends beyond the words, no node is.
 pub fn is_exempt(words: &[u64], range: Range, id: u32) -> bool
     ensures { λ r. ⌜ ((ex : List Exemption) (net : ℕ) → Listed (now (words .entry)) ex net range → r ≡ exempt ex net id) ⌝ }
 {

@@ -1,2 +1,2 @@
--- what is made of the functions that take a slice of records
+-- made text on the functions that take a slice of records
 mod Claims

@@ -37,12 +37,12 @@ congestionWords r =
     let c = r .congestion in
     toBits binary64 (c .«total_length») ∷ toBits binary64 (c .«congested_length») ∷ toBits binary64 (c .«pair_overlap_length») ∷ c .«peak_close_neighbors» ∷ presentWord (r .«minimum_positive») ∷ bitsWord (r .«minimum_positive») ∷ r .visits ∷ []
 
--- the words of a tight pair: whether there is one, and its positions, "by segment and node position"; zeros where it is absent
+-- SCOPE 12.2: the words of a tight pair: whether there is one, and its positions, "by segment and node position"; zeros where it is absent
 unfoldable pub pairWords : Option (ℕ × ℕ) → List ℕ
 pairWords none = 0 ∷ 0 ∷ 0 ∷ []
 pairWords (some p) = 1 ∷ p .0 ∷ p .1 ∷ []
 
--- what is returned of the tight pair, a number, and what is written, words, are of one and the same answer, of which the call's promise holds: "any pair", so that the choice is left to the program
+-- what is returned of the tight pair, a number, and what is written, words, are of one and the same answer, of which the call's promise holds. SCOPE 12.2: "any pair", so the choice is left to the program
 pub record PairWritten (s : SegmentColumns) (n : NodeColumns) (e : ExemptionColumns) (number : ℕ) (words : List ℕ) : Type 0 where
   pub answer : TightPair
   pub answered : Answered s n e answer

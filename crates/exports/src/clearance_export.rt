@@ -38,7 +38,7 @@ fn clearance_words(answer: ClearanceAnswer) -> [u64; 4]
     ]
 }
 
-// Writes the words of the report, and answers the status.
+// Writes the words of the report, and returns the status.
 pub(crate) fn write_clearance(answer: ClearanceAnswer, out: &mut [u64; 4]) -> u32
     ensures { λ r. ⌜ r ≡ resultOf answer .0 ⌝ }
     ensures { λ _. ⌜ now (out .exit) ≡ clearanceWords (resultOf answer .1) ⌝ }

@@ -47,7 +47,7 @@ fn congestion_words(answer: CongestionAnswer) -> [u64; 7]
     ]
 }
 
-// Writes the words of the report, and answers the status.
+// Writes the words of the report, and returns the status.
 pub(crate) fn write_congestion(answer: CongestionAnswer, out: &mut [u64; 7]) -> u32
     ensures { λ r. ⌜ r ≡ resultOf answer .0 ⌝ }
     ensures { λ _. ⌜ now (out .exit) ≡ congestionWords (resultOf answer .1) ⌝ }
@@ -91,7 +91,7 @@ pub extern "C" fn readability_density_profile(
     write_congestion(answer, out)
 }
 
-// The congestion profile: the same with pair overlap and peak zero.
+// The congestion profile: the same with pair overlap and peak zero (SCOPE 6.2).
 #[no_mangle]
 pub extern "C" fn readability_congestion_profile(
     net: &[u32],
@@ -151,7 +151,7 @@ pub extern "C" fn readability_congestion(
     write_congestion(answer, out)
 }
 
-// The ratio takes nothing from the two figures that are left at zero.
+// The ratio (SCOPE 3.17) does not depend on the two figures that are set to zero here.
 #[no_mangle]
 pub extern "C" fn readability_ratio(total: f64, congested: f64) -> f64
     ensures { λ r. ⌜ r ≡ Ratio.ratio total congested ⌝ }

@@ -40,7 +40,7 @@ fn separation_words(answer: SeparationAnswer) -> [u64; 5]
     ]
 }
 
-// Writes the words of the report, and answers the status.
+// Writes the words of the report, and returns the status.
 pub(crate) fn write_separation(answer: SeparationAnswer, out: &mut [u64; 5]) -> u32
     ensures { λ r. ⌜ r ≡ resultOf answer .0 ⌝ }
     ensures { λ _. ⌜ now (out .exit) ≡ separationWords (resultOf answer .1) ⌝ }

@@ -1,10 +1,10 @@
-// The sheet of a drawing file.
+// The sheet of a drawing file (SCOPE 11).
 ghost use mathlib.Core.Path.{_≡_};
 ghost use mathlib.Core.List.{_++_};
 ghost use lib.ListN.{length, drop};
 ghost use Rattle.printing.specs.Sheet as Sheet;
 
-// The text's length. The text stands at the front of the buffer, and the bytes behind it are untouched.
+// Writes the text to the first bytes of the buffer, leaves the other bytes as they were, and returns the text's length.
 #[no_mangle]
 pub extern "C" fn readability_sheet(bytes: &[u8], text: &mut [u8; 256]) -> usize
     ensures { λ r. ⌜ r ≡ length (Sheet.sheet (now (bytes .entry))) ⌝ }

@@ -1,4 +1,4 @@
-// The tight pair.
+// The tight pair (SCOPE 12).
 ghost use mathlib.Core.Path.{_≡_};
 ghost use Rattle.drawing.specs.Entries.{segmentColumns, nodeColumns, exemptionColumns};
 ghost use Rattle.tight_pair.specs.TightPair.{resultOf};

@@ -1,5 +1,5 @@
--- What the calls' own contracts say, as the checker reads them: of each of the five measures, by columns and by records, and of the tight pair, that it asks nothing of its caller, that it ends, and what it returns; of a measure, that its run is one of `demands`, specs/Measures.
--- Each entry names the function's own code, its `routine`, so it speaks of the function and not of a copy of its contract. `a` are the arguments in the order of the signature, `x` is what is returned, and `e` are the arguments at exit.
+-- What the calls' own contracts say, as the checker reads them (SCOPE 8.1, 8.5): of each of the five measures, by columns and by records, and of the tight pair, that it requires nothing of its caller, that it ends, and what it returns; of a measure, that its run is one of `demands`, specs/Measures.
+-- Each entry names the function's own code, its `routine`, so the statement is about the function and not about a copy of its contract. `a` are the arguments in the order of the signature, `x` is what is returned, and `e` are the arguments at exit.
 use Prim.Native.Nat.{ℕ}
 use mathlib.Core.List.{List}
 use prog.Routine.{Env, Name, Routine}
@@ -56,11 +56,11 @@ use Rattle.demands.specs.Measures.{Says, clearance, separation, density, profil
 abbrev pub Meets : (n : ℕ) (ps : List (PK n)) (r : RK n) → Routine → In n ps → Out n ps r → Type 2
 Meets n ps r routine P Q = (w : World) (γ : Env) (k : Name) → γ k ≡ routine → Known (w .𝓤) (w .H) (w .𝓖 .A) (givenOf (w .𝓤) (w .H) (w .𝓜) (w .𝓖)) (Over (w .𝓤) (w .H) (w .𝓜) (w .𝓖) (w .𝓡) γ) n ps r P Q k
 
--- a function of n lifetimes with these parameters and this result; `Asked` is what it asks of a caller, and `Learnt` what a caller knows after the call
+-- a function of n lifetimes with these parameters and this result; `Asked` is what it requires of a caller, and `Learnt` what a caller knows after the call
 pub record Contract (n : ℕ) (ps : List (PK n)) (r : RK n) (routine : Routine) (Asked : In n ps) (Learnt : Out n ps r) (Claim : Out n ps r) : Type 2 where
-  -- "every call ends, for all inputs"
+  -- SCOPE 8.1: "every call ends, for all inputs"
   pub ends : Meets n ps r routine Asked Learnt
-  -- "with no condition laid on its caller"
+  -- SCOPE 8.1: "with no condition laid on its caller"
   pub asks-nothing : (κs : Lfts n) (a : Dens κs ps) → Asked κs a
   -- what a caller knows
   pub says : (κs : Lfts n) (a : Dens κs ps) (x : resT r κs .Denot) (e : AtExit (endedOf n ps r) κs) → Learnt κs a x e → Claim κs a x e
@@ -88,7 +88,7 @@ pub record Calls : Type 2 where
   pub of-tight-pair : Contract 12 tightPairKinds.ps tightPairKinds.r tightPairCode.routine tightPairReads.Asked tightPairReads.Learnt (λ κs a x e. let b = a .1 .1 .1 .1 .1 in let c = b .1 .1 .1 .1 .1 in
       Answered (segmentColumns (now (a .0)) (now (a .1 .0)) (now (a .1 .1 .0)) (now (a .1 .1 .1 .0)) (now (a .1 .1 .1 .1 .0)))
       (nodeColumns (now (b .0)) (now (b .1 .0)) (now (b .1 .1 .0)) (now (b .1 .1 .1 .0)) (now (b .1 .1 .1 .1 .0))) (exemptionColumns (now (c .0)) (now (c .1 .0))) x)
-  -- ---- the thin entries: "it is called by columns or by a thin entry, where there is one". A list of records stands for columns, and the entry answers what the call by columns answers of them.
+  -- ---- the thin entries, SCOPE 2.6, 6.1: "it is called by columns or by a thin entry, where there is one". A list of records is read as columns, and the entry answers what the call by columns answers of them.
   -- records, id, x, y, width, height, exempt_net, exempt_node, threshold, allowance, scratch
   pub of-clearance-by-records : Contract 9 clearanceEntryKinds.ps clearanceEntryKinds.r clearanceEntryCode.routine clearanceEntryReads.Asked clearanceEntryReads.Learnt (λ κs a x e. let b = a .1 in let c = b .1 .1 .1 .1 .1 in
       Says clearance (record {
@@ -103,6 +103,6 @@ pub record Calls : Type 2 where
   pub of-profile-by-records : Contract 2 profileEntryKinds.ps profileEntryKinds.r profileEntryCode.routine profileEntryReads.Asked profileEntryReads.Learnt (λ κs a x e. Says profile (parallelColumns (now (a .0))) (a .1 .0) (a .1 .1 .0) (now (a .1 .1 .1 .0)) x (now (e .1 .1 .1 .0)))
   -- records, cutoff, scratch: no allowance
   pub of-congestion-by-records : Contract 2 congestionEntryKinds.ps congestionEntryKinds.r congestionEntryCode.routine congestionEntryReads.Asked congestionEntryReads.Learnt (λ κs a x e. Says congestion (parallelColumns (now (a .0))) (a .1 .0) tt (now (a .1 .1 .0)) x (now (e .1 .1 .0)))
-  -- the columns of a list of entries stand for that list, so lists of records in two orders are drawings in two orders, and so is one of records and one of columns; and refusal 2 does not arise for them
+  -- the entries of a list's columns are that list, so lists of records in two orders are drawings in two orders, and so are one of records and one of columns; and refusal 2 does not arise for them
   pub stand-for : (l : List Segment) → segments (columnsOf l) ≡ l
   pub never-differ : (l : List Segment) → segmentsDiffer (columnsOf l) ≡ false

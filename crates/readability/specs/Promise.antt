@@ -8,15 +8,15 @@ use Rattle.demands.specs.ShutOut.{ShutOut}
 use Rattle.readability.specs.Calls.{Calls}
 
 pub record Promise : Type 2 where
-  -- demand 1: "every call ends, for all inputs, with no condition laid on its caller": of the functions themselves, the six by columns and the five by records, with the equations that make a call a run of its measure
+  -- SCOPE 8.1, demand 1: "every call ends, for all inputs, with no condition laid on its caller": of the functions themselves, the six by columns and the five by records, with the equations that make a call a run of its measure
   pub calls : Calls
-  -- the demands, of every run of the five measures
+  -- SCOPE 8.1, 8.2, 8.3: the demands, of every run of the five measures
   pub demand-1 : Demand1
   pub demand-2 : Demand2
   pub demand-3 : Demand3
-  -- the tight pair, of every answer that its contract allows
+  -- SCOPE 12: the tight pair, of every answer that its contract allows
   pub tight-pairs : TightPairs
-  -- "The marked cases below form one proved statement over the definitions."
+  -- SCOPE 13: "The marked cases below form one proved statement over the definitions."
   pub marked : Marked
-  -- "These are shut out"
+  -- SCOPE 14: "These are shut out"
   pub shut-out : ShutOut

@@ -1,4 +1,4 @@
-// The measures of a drawing under the Rust's names, each from the crate that has it. By columns a call has the Rust's name alone; the thin entries, whose names end in `_by_records`, take the Rust's list of records. What is promised of them is in specs/Promise.
+// The measures of a drawing under the Rust's names (SCOPE 6.1), each from the crate that has it. By columns a call has the Rust's name alone; the thin entries, whose names end in `_by_records`, take the Rust's list of records. What is promised of them is in specs/Promise.
 pub use clearance::ClearanceAnswer;
 pub use clearance::EdgeNodeClearance;
 pub use clearance_call::measure_edge_node_clearance_bounded;

@@ -1,4 +1,4 @@
--- The first 4,097 entries of a list decide as the whole list does: with more than 4,096 entries a call is refused, whatever they are. Assumes nothing.
+-- The first 4,097 entries of a list decide as the whole list does: with more than 4,096 entries a call is refused (SCOPE 7.3), whatever they are. Assumes nothing.
 use mathlib.Core.Path.{_≡_, refl, sym, subst, _∙_}
 use mathlib.Core.Logic.{inl, inr}
 use mathlib.Core.Bool.{true, cond}
@@ -54,7 +54,7 @@ pub congestion-many : (l : List Segment) (cutoff : Float) (words : ℕ) → 4096
 unfolding congestionConditions
 congestion-many l cutoff words h = sym (first-stop (segmentConditions (columnsOf l) words) _ (check.Refused TooManyEntries) TooManyEntries (sym (segments-many l words h)) refl)
 
--- refusal 2 of the other lists comes first
+-- refusal 2 of the other lists is checked first
 abbrev stops : NodeColumns → ExemptionColumns → Refusal
 stops n e = cond (nodesDiffer n) ColumnsDiffer (cond (exemptionsDiffer e) ColumnsDiffer TooManyEntries)
 
@@ -72,7 +72,7 @@ pub clearance-many : (l : List Segment) (n : NodeColumns) (e : ExemptionColumns)
 unfolding clearanceConditions
 clearance-many l n e threshold words h = sym (first-stop (listConditions (columnsOf l) n e) _ (check.Refused (stops n e)) (stops n e) (sym (lists-many l n e h)) refl)
 
--- ---- so 4,097 entries decide what the checks say, and with them what is answered
+-- ---- so 4,097 entries decide the outcome of the checks, and with it the answer
 decided : {A : Type 0} (f : List Segment → A) (a : A) → ((k : List Segment) → 4096 < length k → f k ≡ a) → (l : List Segment) → f (take 4097 l) ≡ f l
 decided f a many l = few-or-many (λ j k. f j ≡ f k) l (λ k. refl) (λ j k h i. many j h ∙ sym (many k i))
 

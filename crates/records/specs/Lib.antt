@@ -1,4 +1,4 @@
--- The columns that a list of records stands for.
+-- A list of records as columns.
 pub mod Records
 -- what only contracts of inner functions and proofs cite
 pub mod Inner

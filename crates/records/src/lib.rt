@@ -1,4 +1,4 @@
-// The thin entries: each measure takes the lent list of segment records, as the Rust does, and answers what its call by columns answers of the columns that the list stands for.
+// The thin entries (SCOPE 2.6): each measure takes the lent list of segment records, as the Rust does, and answers what its call by columns answers of the same segments.
 pub mod edge_node;
 pub mod parallel;
 

@@ -1,4 +1,4 @@
--- The laws of the tight pair, a file for each notion.
+-- The laws of the tight pair, one file for each notion.
 pub mod Checked
 pub mod PairInput
 pub mod PairLaws

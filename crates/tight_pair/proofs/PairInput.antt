@@ -1,4 +1,4 @@
--- What a call of the tight pair knows of its columns once the checks have passed. Assumes nothing.
+-- What holds of the columns of a call of the tight pair once the checks have passed. Assumes nothing.
 use mathlib.Core.Path.{_≡_, sym, _∙_, subst}
 use mathlib.Core.Bool.{Bool, false}
 use mathlib.Core.List.{List, [], _∷_, _++_}
@@ -25,7 +25,7 @@ use Rattle.drawing.proofs.Fit.{FitSegment, FitNode}
 use Rattle.tight_pair.specs.Conditions.{tightPairConditions}
 use Rattle.exemptions.proofs.ExemptLaws.{exemptions-agree}
 
--- conditions that all pass do so in two parts
+-- where the conditions of two lists all pass, those of each list do
 passed-both : (l m : List (Bool × Refusal)) → firstOf (l ++ m) ≡ Passed → (firstOf l ≡ Passed) × (firstOf m ≡ Passed)
 unfolding firstOf
 passed-both [] m e = (λ i. Passed, e)
@@ -34,7 +34,7 @@ passed-both (c ∷ l) m e =
     let r = passed-both l m (h .1) in
     (first-no (c .0) (c .1) l (h .0) ∙ r .0, r .1)
 
--- the floats of a column are binary64's
+-- the floats of a column are values of binary64
 abbrev Floats : List Float → Type 0
 Floats l = (i : ℕ) → T (fits binary64 (getD l i nan))
 
@@ -71,12 +71,12 @@ module _ (s : SegmentColumns) (n : NodeColumns) (e : ExemptionColumns) (p : firs
   lists : ListsPass s n e
   lists = lists-pass s n e (parts .0)
 
-  -- what `gather` promises its words for
+  -- the condition under which `gather` writes its words
   pub pair-exemptions : ExemptionsAgree e × (length (e .net) ≤ 4096)
   unfolding listConditions
   pair-exemptions = (exemptions-agree e (passed-head _ _ _ (passed-head _ _ _ (passed-head _ _ _ (parts .0) .1) .1) .0), lists .few-exemptions)
 
-  -- what `look_at_segments` asks
+  -- what `look_at_segments` requires
   pub pair-columns : SegmentsAgree s × NodesAgree n
   pair-columns = (lists .segments, lists .nodes)
 

@@ -62,9 +62,9 @@ module _ (d : Float) (i j : ℕ) (b : Best) where
   unfolding bestWith
   taken x e f = rw (f, e)
 
--- ---- entries in turn: what is left after i of them
+-- ---- entries in turn: the rest after i of them
 module _ {A S : Type 0} (step : ℕ → A → S → S) (l : List A) (i : ℕ) (b : S) where
-  -- z is the entry at place i
+  -- z is the entry at position i
   turn-next : (z : A) → getD l i z ≡ z → i < length l → inTurn step i (drop i l) b ≡ inTurn step (i + 1) (drop (i + 1) l) (step i z b)
   unfolding inTurn
   turn-next z e h = rw (drop-cons l i z h, e, add-one i)
@@ -177,7 +177,7 @@ record Placed (ex : List Exemption) (ss : List Segment) (ns : List Node) (i j : 
   free : exempt ex (segment .net) (node .id) ≡ false
   far : d ≡ distance (segmentBox segment) (nodeBox node)
 
--- the entries from a place on are an entry and those behind it
+-- the entries from a position on are an entry and those after it
 drop-head : {A : Type 0} (l : List A) (i : ℕ) (x : A) (r : List A) → drop i l ≡ x ∷ r → (getElem? l i ≡ some x) × (drop (suc i) l ≡ r)
 drop-head [] zero x r e = let z : _≡_ {A = ℕ} 0 1 = cc in absurd (omega arith)
 drop-head [] (suc i) x r e = let z : _≡_ {A = ℕ} 0 1 = cc in absurd (omega arith)
@@ -192,7 +192,7 @@ all-put : (b : Bool) (x : Float) → Good x → All Good (put b x [])
 all-put true x h = (h, tt)
 all-put false x h = tt
 
--- `seen` are the distances of the pairs that were looked at and are not exempt
+-- `seen` are the distances of the pairs so far that are not exempt
 record Looked (ex : List Exemption) (ss : List Segment) (ns : List Node) (seen : List Float) (b : Best) : Type 0 where
   least : b .least ≡ leastGap seen
   place : (d : Float) → b .least ≡ Present d → Placed ex ss ns (b .segment) (b .node) d

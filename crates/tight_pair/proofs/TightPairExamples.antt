@@ -24,7 +24,7 @@ use Rattle.tight_pair.specs.TightPair.{Tight, found, answer, Answered, r
 abbrev float : ℕ → Float
 float bits = ofBits binary64 bits
 
--- "Drawing D: net 1 horizontal at 0 from 0 to 10; net 2 horizontal at 4 from 5 to 15; node 7 with x 2, y 1, width 3, height 2; exemption net 2, node 7"
+-- SCOPE 11.5: "Drawing D: net 1 horizontal at 0 from 0 to 10; net 2 horizontal at 4 from 5 to 15; node 7 with x 2, y 1, width 3, height 2; exemption net 2, node 7"
 abbrev d-segments : SegmentColumns
 d-segments =
     segmentColumns (1 ∷ 2 ∷ []) (1 ∷ 1 ∷ []) (float 0 ∷ float 0x4010_0000_0000_0000 ∷ []) (float 0 ∷ float 0x4014_0000_0000_0000 ∷ [])

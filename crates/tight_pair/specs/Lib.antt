@@ -1,4 +1,4 @@
--- The definitions, a file for each notion.
+-- The definitions, one file for each notion.
 pub mod Conditions
 pub mod TightPair
 -- what only contracts of inner functions and proofs cite

@@ -1,4 +1,4 @@
-// The checks of the call, in document 01's order.
+// The checks of the call (SCOPE 12.1), in the order of SCOPE 7.
 ghost use mathlib.Core.Path.{_≡_};
 ghost use Rattle.drawing.specs.Refusals.{firstOf};
 ghost use Rattle.drawing.specs.Entries.{segmentColumns, nodeColumns, exemptionColumns};

@@ -1,4 +1,4 @@
-// The tight pair: a segment and a node, not exempt, whose distance is the least clearance.
+// The tight pair (SCOPE 12): a segment and a node, not exempt, whose distance is the least clearance.
 ghost use mathlib.Core.Path.{_≡_};
 ghost use mathlib.Core.List.{List};
 ghost use Prim.Native.Nat.{ℕ};
@@ -46,7 +46,7 @@ fn is_nearer(distance: f64, least: Gap) -> bool
     }
 }
 
-// The best so far with one pair more. The exemption is looked up only where the pair would be the best.
+// The best so far with one pair more. The exemption is searched only where the pair would be the best.
 fn with_pair(
     words: &[u64],
     range: Range,
@@ -99,7 +99,7 @@ fn look_at_nodes(
     best
 }
 
-// Each segment in turn and each node, up to a segment that has a pair at distance 0. The first k words hold the exemptions.
+// Each segment in turn with each node, until a segment has a pair at distance 0. The first k words hold the exemptions.
 fn look_at_segments(
     words: &[u64],
     k: usize,

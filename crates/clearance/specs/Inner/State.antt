@@ -1,4 +1,4 @@
--- What inner contracts cite, and no reader of the answer needs: the state that a walk hands on, the tests on the edges of two boxes, the order of two halves, and the answer from what the walks came to.
+-- What inner contracts cite, and no reader of the answer needs: the state that a walk passes to the next, the tests on the edges of two boxes, the order of two halves, and the answer from the outcome of the walks.
 use mathlib.Core.Path.{_≡_}
 use mathlib.Core.Bool.{Bool, _&&_, cond}
 use Prim.Native.Nat.{ℕ}
@@ -17,15 +17,15 @@ use Rattle.clearance.specs.declared.halves.Halves.{Halves}
 use Rattle.clearance.specs.Figures.{Figures}
 use Rattle.clearance.specs.Answer.{accepted}
 
--- the figures that a state holds
+-- the figures in a state
 abbrev pub soFar : Walking → Figures
 soFar w = record { least = gapOfFloat (w .least); violations = w .violations }
 
--- the state before the first walk: no pair met, no distance yet, and nothing used of the allowance
+-- the state before the first walk: no pair measured, no distance yet, and the whole allowance remaining
 abbrev pub atStart : ℕ → Walking
 atStart allowance = record { violations = 0; least = nan; remaining = allowance }
 
--- what a run within the allowance came to, from what the code answers
+-- the outcome of a run within the allowance, from what the code returns
 unfoldable pub outcomeOf : Walked → Outcome Figures
 outcomeOf Spent = spent
 outcomeOf (Went w) = left (soFar w) (w .remaining)
@@ -42,6 +42,6 @@ edgesBelow p q t = axisBelow (p .left) (p .right) (q .left) (q .right) t && axis
 unfoldable pub nearerFirst : Subtree → Subtree → Halves
 nearerFirst l r = cond (lt (r .lower) (l .lower)) (record { nearer = r; farther = l }) (record { nearer = l; farther = r })
 
--- the answer of a call whose checks passed and whose walks came to r
+-- the answer of a call whose checks passed and whose walks returned r
 abbrev pub Answers : Walked → ℕ → ClearanceAnswer → Type 0
 Answers r allowance a = a ≡ reply accepted (Refused WorkLimitExceeded) allowance (outcomeOf r)

@@ -1,4 +1,4 @@
--- The order in which the tree's leaves stand. Only the inner functions of the build cite it.
+-- The order of the tree's leaves. Only inner contracts cite this.
 use mathlib.Core.Bool.{Bool, cond}
 use mathlib.Core.List.{List, [], _∷_, _++_, map}
 use Prim.Native.Nat.{ℕ, zero, suc, _+_, _*_, _/_, _≤_, _<_}
@@ -14,24 +14,24 @@ use Rattle.boxes.specs.declared.aabb.Aabb.{Aabb}
 use Rattle.boxes.specs.Boxes.{union}
 use Rattle.clearance.specs.Tree.{IndexedNode, indexed, hull, horizontalWider, Tree, bare, leaf, branch, boundsOf}
 
--- the node at a place of the columns
+-- the node at an index of the columns
 abbrev pub indexedAt : NodeColumns → ℕ → IndexedNode
 indexedAt c i = indexed (nodeAt c i)
 
--- the box around the nodes at the places of a list, the first one given
+-- the box around the nodes at the indices of a list, the first one given
 unfoldable pub boxFrom : NodeColumns → ℕ → List ℕ → Aabb
 boxFrom c i l = hull (indexedAt c i .bounds) (map (indexedAt c) l)
 
--- whether the nodes at these places extend further along the horizontal axis
+-- whether the nodes at these indices extend further along the horizontal axis, or as far along both
 unfoldable pub horizontalPart : NodeColumns → List ℕ → Bool
 horizontalPart c [] = horizontalWider (boxFrom c 0 [])
 horizontalPart c (i ∷ l) = horizontalWider (boxFrom c i l)
 
--- the places in the order of the table along the wider axis
+-- the indices in the order of the table along the wider axis
 unfoldable pub along : NodeColumns → List ℕ → List ℕ → List ℕ → List ℕ
 along c kx ky l = sortBy (before (cond (horizontalPart c l) kx ky) 5) l
 
--- a list of places halved again and again, each part put in order before it is halved; the number bounds how often
+-- a list of indices halved again and again, each part put in order before it is halved; the number bounds the depth
 unfoldable pub leafOrder : ℕ → NodeColumns → List ℕ → List ℕ → List ℕ → List ℕ
 leafOrder zero c kx ky l = l
 leafOrder (suc k) c kx ky l =
@@ -50,13 +50,13 @@ treeOver (suc k) (n ∷ m ∷ l) =
     let right = treeOver k (drop half (n ∷ m ∷ l)) in
     branch (union (boundsOf left) (boundsOf right)) left right
 
--- the first n words of a slice are places of the columns
+-- the first n words of a slice are indices of the columns
 pub record Places (s : List ℕ) (n : ℕ) (c : NodeColumns) : Type 0 where
   pub inside : n ≤ length s
   pub small : All (λ i. i < length (c .id)) (take n s)
   pub agree : NodesAgree c
 
--- and behind them, from t on, there is room for two tables, each of a row of five words for every node
+-- and after them, from word t on, there is room for two tables, each with a row of five words for every node
 pub record Buildable (s : List ℕ) (n t : ℕ) (c : NodeColumns) : Type 0 where
   pub places : Places s n c
   pub apart : n ≤ t

@@ -25,6 +25,6 @@ TreeBelow p t bare = Unit {0}
 TreeBelow p t (leaf n) = lt (distance p (n .bounds)) t ≡ true
 TreeBelow p t (branch b l r) = (lt (distance p b) t ≡ true) × TreeBelow p t l × TreeBelow p t r
 
--- the visit of a leaf, for a segment of the net and with the box p
+-- the visit of a leaf, for a segment of the net with the box p
 abbrev pub leafVisit : List Exemption → Float → ℕ → Aabb → Figures → IndexedNode → Charged Figures
 leafVisit ex t net p g n = visit (free (withPair (exempt ex net (n .id)) t (distance p (n .bounds)) g))

@@ -14,7 +14,7 @@ use Rattle.clearance.specs.Tree.{IndexedNode, Tree, bare, leaf, branch, boundsO
 use Rattle.clearance_call.specs.Inner.LeafOrder.{indexedAt, leafOrder, treeOver}
 use Rattle.clearance_call.specs.Inner.Tables.{nodeRowAt}
 
--- the box whose edges stand at word p, as bit patterns
+-- the box whose edges are stored from word p on, as bit patterns
 abbrev pub boxAt : List ℕ → ℕ → Aabb
 boxAt w p = record { left = ofBits binary64 (getD w p 0); top = ofBits binary64 (getD w (p + 1) 0); right = ofBits binary64 (getD w (p + 2) 0); bottom = ofBits binary64 (getD w (p + 3) 0) }
 
@@ -28,7 +28,7 @@ leafAt w i = leafFrom w (9 * i)
 abbrev pub splitAt : List ℕ → ℕ → Aabb
 splitAt w i = boxAt w (9 * i + 4)
 
--- the tree over the n leaves from leaf i on: the left child takes the first half, rounded down; the number bounds how often
+-- the tree over the n leaves from leaf i on: the left child takes the first half, rounded down; the number bounds the depth
 unfoldable pub storedTree : ℕ → List ℕ → ℕ → ℕ → Tree
 storedTree zero w i n = bare
 storedTree (suc k) w i n =
@@ -54,13 +54,13 @@ pub record LeafPut (s r : List ℕ) (p : ℕ) (n : IndexedNode) : Type 0 where
   pub leaf : leafFrom r p ≡ n
   pub low : (q : ℕ) → q < p → getD r q 0 ≡ getD s q 0
 
--- the nodes whose places stand in the first n words were put as leaves, from word r on, and no word before r changed
+-- the nodes whose indices are in the first n words were put as leaves, from word r on, and no word before r changed
 pub record LeavesPut (s e : List ℕ) (r n : ℕ) (c : NodeColumns) : Type 0 where
   pub len : length e ≡ length s
   pub low : (q : ℕ) → q < r → getD e q 0 ≡ getD s q 0
   pub leaf : (j : ℕ) → j < n → leafFrom e (r + 9 * j) ≡ indexedAt c (getD s j 0)
 
--- word q belongs to no split box of the leaves behind leaf i, of n from i on
+-- word q belongs to no split box of the leaves after leaf i, among the n from leaf i on
 abbrev pub Outside : ℕ → ℕ → ℕ → Type 0
 Outside i n q = (j : ℕ) → i < j → j < i + n → (q < 9 * j + 4) ⊎ (9 * j + 8 ≤ q)
 
@@ -71,7 +71,7 @@ pub record SplitsPut (s r : List ℕ) (i n : ℕ) (b : Aabb) : Type 0 where
   pub tree : (k : ℕ) → n ≤ k → storedTree k r i n ≡ treeOver k (leavesFrom s i n)
   pub box : (k : ℕ) → n ≤ k → b ≡ boundsOf (treeOver k (leavesFrom s i n))
 
--- r holds the tree over the nodes, at the words from 11 for each node on: the tree over the leaf order that two tables of the nodes' rows give
+-- r holds the tree over the nodes, after 11 words for each node: the tree over the leaf order that two tables of the nodes' rows give
 pub record Grown (c : NodeColumns) (r : List ℕ) : Type 0 where
   pub tableAcross : List ℕ
   pub tableDown : List ℕ

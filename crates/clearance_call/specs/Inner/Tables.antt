@@ -11,11 +11,11 @@ use Rattle.drawing.specs.Orders.{segmentRow, segmentsInOrder}
 use Rattle.clearance.specs.Tree.{indexedRow}
 use Rattle.clearance_call.specs.Inner.LeafOrder.{indexedAt}
 
--- the row of the node at a place, along the horizontal axis or along the vertical one
+-- the row of the node at an index, along the horizontal axis or along the vertical one
 abbrev pub nodeRowAt : Bool → NodeColumns → ℕ → List ℕ
 nodeRowAt horizontal c i = indexedRow horizontal (indexedAt c i)
 
--- the row of the segment at a place
+-- the row of the segment at an index
 abbrev pub segmentRowAt : SegmentColumns → ℕ → List ℕ
 segmentRowAt c i = segmentRow (segmentAt c i)
 
@@ -34,7 +34,7 @@ pub record NodesFilled (c : NodeColumns) (t : ℕ) (s r : List ℕ) : Type 0 whe
   pub across : (i : ℕ) → i < length (c .id) → take 5 (drop (i * 5) (drop t r)) ≡ nodeRowAt true c i
   pub down : (i : ℕ) → i < length (c .id) → take 5 (drop (i * 5) (drop (t + 5 * length (c .id)) r)) ≡ nodeRowAt false c i
 
--- the first words of r are the places of the segments, in document 01's order of the segments; what lies behind the six words for each segment is as in s
+-- the first words of r are the indices of the segments, in the order of SCOPE 9.4; the words after the six for each segment are as in s
 pub record SegmentsOrdered (c : SegmentColumns) (s r : List ℕ) : Type 0 where
   pub same : length r ≡ length s
   pub behind : drop (6 * length (c .net)) r ≡ drop (6 * length (c .net)) s

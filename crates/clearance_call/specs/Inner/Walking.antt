@@ -1,4 +1,4 @@
--- What the walk of one segment is handed and hands on. Only inner contracts cite this.
+-- What the walk of one segment requires and returns. Only inner contracts cite this.
 use mathlib.Core.Path.{_≡_}
 use mathlib.Core.Bool.{true}
 use mathlib.Core.List.{List, map}
@@ -40,7 +40,7 @@ pub record Part (w : List ℕ) (i n : ℕ) : Type 0 where
 abbrev pub Near : Float → Aabb → List ℕ → ℕ → ℕ → Type 0
 Near d p w i n = (k : ℕ) → n ≤ k → d ≡ distance p (boundsOf (storedTree k w i n))
 
--- they may be walked from a state by a segment with the box p, all boxes being fit: each visit that is left may still be a violation
+-- they may be walked from a state by a segment with the box p, all boxes being fit: each remaining visit may still add a violation, and the sum of both fits a word
 pub record Walkable (w : List ℕ) (i n : ℕ) (d : Float) (p : Aabb) (state : Walking) : Type 0 where
   pub part : Part w i n
   pub near : Near d p w i n
@@ -73,35 +73,35 @@ pub record NetMarks (marks groups w : List ℕ) : Type 0 where
   pub marked : Marked marks groups w ex net
   pub room : length w ≤ 9 * length groups
 
--- what the walk over them answers, for every segment with the box p
+-- what the walk over them returns, for every segment with the box p
 abbrev pub Walks : List Exemption → Float → List ℕ → ℕ → ℕ → Aabb → ℕ → Walking → Walked → Type 0
 Walks ex threshold w i n p net state r =
     (s : Segment) → segmentBox s ≡ p → s .net ≡ net → (k : ℕ) → n ≤ k → outcomeOf r ≡ within (state .remaining) (walk ex threshold s (storedTree k w i n) (soFar state))
 
--- what comes of a part whose leaves were visited: it is done, or the walk stopped there
+-- the step at a part whose leaves were visited: the part is done, or the walk stopped there
 abbrev pub stepOf : Walked → Step
 stepOf Spent = Stopped
 stepOf (Went v) = Done v
 
--- what a look at a part answers: what its walk does, or, where it is not pruned, the halves whose walks are its walk
+-- what the step at a part returns: the outcome of its walk, or, where it is not pruned, the halves whose walks are its walk
 abbrev pub Steps : List Exemption → Float → List ℕ → Aabb → ℕ → Subtree → Walking → Step → Type 0
 Steps ex t w p net part state Stopped = Walks ex t w (part .first) (part .count) p net state Spent
 Steps ex t w p net part state (Done v) = Walks ex t w (part .first) (part .count) p net state (Went v)
 Steps ex t w p net part state (Split h) = Halved w (part .first) (part .count) p h × (contributes (part .lower) t (gapOfFloat (state .least)) ≡ true) × (1 < part .count)
 
--- words hold k exemptions
+-- the words hold k exemptions
 pub record Held (packed : List ℕ) (k : ℕ) : Type 0 where
   pub ex : List Exemption
   pub holds : Holds packed ex
   pub count : length ex ≡ k
 
--- the first words are places of the segments, one for each, and the segments' boxes are fit
+-- the first words are indices of the segments, one for each, and the segments' boxes are fit
 pub record InTurns (order : List ℕ) (c : SegmentColumns) : Type 0 where
   pub agree : SegmentsAgree c
   pub inside : length (c .net) ≤ length order
   pub small : All (λ i. i < length (c .net)) (take (length (c .net)) order)
   pub fit : (i : ℕ) → i < length (c .net) → FitBox (segmentBox (segmentAt c i))
 
--- the walks of the segments at these places, one after another, each with its net's threshold, over the n leaves from leaf 0 on
+-- the walks of the segments at these indices, one after another, each with its net's threshold, over the n leaves from leaf 0 on
 abbrev pub allWalks : List Exemption → (ℕ → Float) → List ℕ → ℕ → List ℕ → SegmentColumns → Charged Figures
 allWalks ex threshold w n order c = runs (λ g s. walk ex (threshold (s .net)) s (storedTree n w 0 n) g) noFigures (map (segmentAt c) (take (length (c .net)) order))

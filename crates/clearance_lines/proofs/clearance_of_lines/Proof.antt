@@ -1,4 +1,4 @@
--- `clearance_lines::clearance_of_lines` meets its contract: that of the call by columns, of the columns that were laid out. Assumes nothing.
+-- `clearance_lines::clearance_of_lines` meets its contract: that of the call by columns, of the columns that were filled. Assumes nothing.
 use mathlib.Core.Path.{sym}
 use borrow.Author.Needs.{needs}
 use denote.Ref.{now}

@@ -1,4 +1,4 @@
--- `exemptions::first_at_least` meets its contract: among words that ascend the place is one of the n from `at` on, or behind them. Assumes nothing.
+-- `exemptions::first_at_least` meets its contract: among words that ascend the index sought is one of the n from `at` on, or the one after them. Assumes nothing.
 use native.Mathlib.Omega.{arith}
 use borrow.Author.Needs.{needs}
 use Rattle.exemptions.specs.Inner.Exempting.{wordAt}

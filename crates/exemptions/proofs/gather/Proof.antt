@@ -1,4 +1,4 @@
--- `exemptions::gather` meets its contract: after i turns the first i words are packed exemptions, and the sort puts them in order. Assumes nothing.
+-- `exemptions::gather` meets its contract: after i iterations the first i words are packed exemptions, and the sort puts them in order. Assumes nothing.
 use Prim.Native.Nat.{_-_}
 use native.Mathlib.Omega.{arith}
 use borrow.Author.Needs.{needs}

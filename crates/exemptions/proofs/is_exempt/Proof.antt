@@ -1,4 +1,4 @@
--- `exemptions::is_exempt` meets its contract: an empty range holds nothing, and in the others the node stands where the search ends or nowhere. Assumes nothing.
+-- `exemptions::is_exempt` meets its contract: an empty range holds nothing, and in any other the node is where the search ends or nowhere. Assumes nothing.
 use borrow.Author.Needs.{needs}
 use Rattle.exemptions.proofs.ExemptLaws.{none-there, never-beyond, found, not-found}
 use Rattle.exemptions.proofs.is_exempt.Statement.{statement}

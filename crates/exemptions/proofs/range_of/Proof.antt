@@ -1,4 +1,4 @@
--- `exemptions::range_of` meets its contract: the net's words stand from its least word on and before the next net's. Assumes nothing.
+-- `exemptions::range_of` meets its contract: the net's words are those from its least word on and before the next net's. Assumes nothing.
 use native.Mathlib.Omega.{arith}
 use borrow.Author.Needs.{needs}
 use Rattle.exemptions.proofs.ExemptLaws.{own-between, own-last}

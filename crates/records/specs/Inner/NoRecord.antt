@@ -1,4 +1,4 @@
--- What stands for a record past the end of a list: no call looks there. The contracts of the entries cite nothing of it.
+-- The value for a record past the end of a list, which no call reads. The contracts of the entries do not cite it.
 use mathlib.Core.Bool.{false}
 use lib.Ieee.{nan}
 use Rattle.records.specs.declared.parallel.ParallelSegment.{ParallelSegment}

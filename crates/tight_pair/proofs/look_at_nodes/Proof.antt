@@ -1,4 +1,4 @@
--- `tight_pair::look_at_nodes` meets its contract: after j turns the first j nodes are looked at. Assumes nothing.
+-- `tight_pair::look_at_nodes` meets its contract: after j iterations the first j nodes have been compared. Assumes nothing.
 use mathlib.Core.Path.{ap, _∙_}
 use Prim.Native.Nat.{_-_}
 use native.Mathlib.Omega.{arith}

@@ -1,4 +1,4 @@
--- `tight_pair::look_at_segments` meets its contract: after i turns the first i segments are looked at. Assumes nothing.
+-- `tight_pair::look_at_segments` meets its contract: after i iterations the first i segments have been compared. Assumes nothing.
 use mathlib.Core.Path.{sym, _∙_}
 use Prim.Native.Nat.{_-_}
 use native.Mathlib.Omega.{arith}

@@ -1,4 +1,4 @@
--- `tight_pair::tight_pair` meets its contract: a refusal stands, and else the best pair of all is tight. Assumes nothing.
+-- `tight_pair::tight_pair` meets its contract: a refusal is returned, and otherwise the best pair of all is tight. Assumes nothing.
 use denote.Ref.{now}
 use mathlib.Core.Path.{sym, _∙_}
 use borrow.Author.Needs.{needs}

@@ -1,4 +1,4 @@
--- What only the contracts of the inner functions around the tight pair cite: the best pair so far, and how it is carried over the pairs.
+-- What only the contracts of the inner functions around the tight pair cite: the best pair so far, and how each pair changes it.
 use mathlib.Core.Bool.{Bool, true, false, cond}
 use mathlib.Core.List.{List, [], _∷_}
 use Prim.Native.Nat.{ℕ, suc}
@@ -20,7 +20,7 @@ nearer d (Present least) = lt d least
 abbrev pub noPair : Best
 noPair = record { least = Absent; segment = 0; node = 0 }
 
--- the best so far with segment i and node j looked at, which count unless they are exempt
+-- the best so far with segment i and node j, which count unless they are exempt
 unfoldable pub bestWith : Bool → Float → ℕ → ℕ → Best → Best
 bestWith true d i j b = b
 bestWith false d i j b = cond (nearer d (b .least)) (record { least = Present d; segment = i; node = j }) b
@@ -34,6 +34,6 @@ inTurn step i (x ∷ l) b = inTurn step (suc i) l (step i x b)
 unfoldable pub lookNodes : List Exemption → ℕ → Aabb → ℕ → List Node → Best → Best
 lookNodes ex net box i ns b = inTurn (λ j n c. bestWith (exempt ex net (n .id)) (distance box (nodeBox n)) i j c) 0 ns b
 
--- each segment and each node
+-- each segment with each node
 unfoldable pub lookSegments : List Exemption → List Segment → List Node → Best
 lookSegments ex ss ns = inTurn (λ i s b. lookNodes ex (s .net) (segmentBox s) i ns b) 0 ss noPair

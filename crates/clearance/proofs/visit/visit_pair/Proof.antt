@@ -1,4 +1,4 @@
--- `clearance::visit::visit_pair` meets its contract, case by case: no visit is left, the pair is exempt, its distance is below the threshold, or it is not. Assumes nothing.
+-- `clearance::visit::visit_pair` meets its contract, case by case: no visit remains, the pair is exempt, its distance is below the threshold, or it is not. Assumes nothing.
 use Rattle.clearance.proofs.StateLaws.{visit-stopped, visit-passed, visit-below, visit-clear}
 use borrow.Author.Needs.{needs}
 use Rattle.clearance.proofs.visit.visit_pair.Statement.{statement}

@@ -1,4 +1,4 @@
--- `clearance_call::marks::group_leaves` meets its contract: after leaf j the groups of the leaves before it are written. Assumes nothing.
+-- `clearance_call::marks::group_leaves` meets its contract: at leaf j the groups of the leaves before it are written. Assumes nothing.
 use mathlib.Core.Path.{refl}
 use Prim.Native.Nat.{_-_}
 use native.Mathlib.Omega.{arith}

@@ -1,4 +1,4 @@
--- `clearance_call::marks::mark_id` meets its contract: the place that is found is the id's group, or no leaf has the id. Assumes nothing.
+-- `clearance_call::marks::mark_id` meets its contract: the index that is found is the id's group, or no leaf has the id. Assumes nothing.
 use native.Mathlib.Omega.{arith}
 use Rattle.clearance_call.proofs.MarkLaws.{added-none, added-group}
 use borrow.Author.Needs.{needs}

@@ -1,4 +1,4 @@
--- `clearance_call::marks::mark_net` meets its contract: after place i the groups are marked whose ids the net's exemptions before it name. Assumes nothing.
+-- `clearance_call::marks::mark_net` meets its contract: at index i the groups are marked whose ids the net's exemptions before it name. Assumes nothing.
 use Prim.Native.Nat.{_-_}
 use native.Mathlib.Omega.{arith}
 use borrow.Author.Needs.{needs}

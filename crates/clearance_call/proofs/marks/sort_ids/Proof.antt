@@ -1,4 +1,4 @@
--- `clearance_call::marks::sort_ids` meets its contract: after leaf j the ids of the leaves before it are written. Assumes nothing.
+-- `clearance_call::marks::sort_ids` meets its contract: at leaf j the ids of the leaves before it are written. Assumes nothing.
 use mathlib.Core.Path.{refl}
 use Prim.Native.Nat.{_-_}
 use native.Mathlib.Omega.{arith}

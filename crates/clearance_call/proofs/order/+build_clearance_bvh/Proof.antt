@@ -24,7 +24,7 @@ build-at t = and 6 build-kinds.ps (is 6 build-kinds.ps μ-build t) build.Pre
 abbrev build-below : ℕ → In 6 build-kinds.ps
 build-below t = and 6 build-kinds.ps (falls 6 build-kinds.ps _<_ μ-build t) build.Pre
 
--- what the calls ask and give
+-- what the calls require and ensure
 abbrev claims : ℕ → build-lts.Claims
 claims t = (hull-of-reads.Asked, hull-of-reads.Learnt, table-along-reads.Asked, table-along-reads.Learnt, sort-indices-reads.Asked, sort-indices-reads.Learnt, build-below t, build.Post)
 

@@ -23,7 +23,7 @@ put-splits-at t = and 1 put-splits-kinds.ps (is 1 put-splits-kinds.ps μ-put-spl
 abbrev put-splits-below : ℕ → In 1 put-splits-kinds.ps
 put-splits-below t = and 1 put-splits-kinds.ps (falls 1 put-splits-kinds.ps _<_ μ-put-splits t) put-splits.Pre
 
--- what the calls ask and give
+-- what the calls require and ensure
 abbrev claims : ℕ → put-splits-lts.Claims
 claims t = (box-from-reads.Asked, box-from-reads.Learnt, put-splits-below t, put-splits.Post, union-reads.Asked, union-reads.Learnt, put-box-reads.Asked, put-box-reads.Learnt)
 

@@ -1,4 +1,4 @@
--- `clearance_call::tables::fill_node_tables` meets its contract: the second table leaves the first as it is. Assumes nothing.
+-- `clearance_call::tables::fill_node_tables` meets its contract: the second table leaves the first unchanged. Assumes nothing.
 use Rattle.drawing.specs.Entries.{nodeColumns}
 use Rattle.clearance_call.proofs.TableLaws.{both-tables}
 use borrow.Author.Needs.{needs}

@@ -1,4 +1,4 @@
--- `clearance_call::tables::fill_segment_table` meets its contract: after i turns the first i rows are filled. Assumes nothing.
+-- `clearance_call::tables::fill_segment_table` meets its contract: after i iterations the first i rows are filled. Assumes nothing.
 use borrow.Author.Needs.{needs}
 use Prim.Native.Nat.{_≤_, _-_}
 use native.Mathlib.Omega.{arith}

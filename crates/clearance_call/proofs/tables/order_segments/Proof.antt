@@ -1,4 +1,4 @@
--- `clearance_call::tables::order_segments` meets its contract: the rows decide the order of the segments, since the floats of the columns are binary64's. Assumes nothing.
+-- `clearance_call::tables::order_segments` meets its contract: the rows decide the order of the segments, since the floats of the columns are values of binary64. Assumes nothing.
 use Rattle.drawing.specs.Entries.{segmentColumns}
 use Rattle.clearance_call.proofs.TableLaws.{segments-ordered}
 use Rattle.drawing.proofs.ListOrders.{segments-held}

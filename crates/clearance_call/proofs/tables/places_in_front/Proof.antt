@@ -1,4 +1,4 @@
--- `clearance_call::tables::places_in_front` meets its contract: the words in front are lent to `fill_places`. Assumes nothing.
+-- `clearance_call::tables::places_in_front` meets its contract: the first words are lent to `fill_places`. Assumes nothing.
 use borrow.Author.Needs.{needs}
 use Rattle.sorting.proofs.Entries.{front-filled}
 use Rattle.clearance_call.proofs.tables.places_in_front.Statement.{statement}

@@ -1,4 +1,4 @@
--- `clearance_call::tables::put_node` meets its contract: the words stand in the order of the axis. Assumes nothing.
+-- `clearance_call::tables::put_node` meets its contract: the words are in the order of the axis. Assumes nothing.
 use borrow.Author.Needs.{needs}
 use Rattle.clearance_call.proofs.TableLaws.{across-row, down-row}
 use Rattle.clearance_call.proofs.tables.put_node.Statement.{statement}

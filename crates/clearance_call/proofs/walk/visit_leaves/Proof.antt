@@ -1,4 +1,4 @@
--- `clearance_call::walk::visit_leaves` meets its contract: after leaf j the leaves before it are visited. Assumes nothing.
+-- `clearance_call::walk::visit_leaves` meets its contract: at leaf j the leaves before it are visited. Assumes nothing.
 use Prim.Native.Nat.{_+_, _-_}
 use Rattle.clearance_call.proofs.LeafRuns.{Visiting, visiting-none, visiting-stopped, visiting-next, visiting-all, distance-number}
 use Rattle.clearance_call.proofs.NestedTrees.{nested-at}

@@ -1,4 +1,4 @@
--- `clearance_call::walk::visit_segment_candidates` meets its contract: the part that is next and those that wait are what is left of the walk. The measure counts the steps that these can still take. Assumes nothing.
+-- `clearance_call::walk::visit_segment_candidates` meets its contract: the part that is next and those that wait are the rest of the walk. The measure counts the steps that these can still take. Assumes nothing.
 use mathlib.Core.Path.{refl}
 use Prim.Native.Nat.{_+_, _-_, _*_}
 use Rattle.clearance_call.proofs.PartWalk.{stepsLeft, Underway, underway-start, underway-stopped, underway-done, underway-next, next-less, underway-halves, underway-room, underway-split, split-less}

@@ -1,4 +1,4 @@
--- `clearance_call::walk_all::walk_all` meets its contract: after q segments the others, from the state, come to the same, and the marks are those of the last segment's net. Assumes nothing.
+-- `clearance_call::walk_all::walk_all` meets its contract: after q segments the walks of the others, from the state, have the outcome of all walks, and the marks are those of the last segment's net. Assumes nothing.
 use mathlib.Core.Path.{refl, ap, _∙_}
 use Prim.Native.Nat.{_-_}
 use native.Mathlib.Omega.{arith}

@@ -1,5 +1,5 @@
 -- Made by tools/records-proofs of the proof over the other record.
--- `records::edge_node::edge_node_lines` meets its contract. The walk of the code is made text (tools/records-proofs); what it leaves is answered here. Assumes nothing.
+-- `records::edge_node::edge_node_lines` meets its contract. The derivation over the code is made text (tools/records-proofs); what it leaves open is proved here. Assumes nothing.
 mod Lts
 mod Tie
 use Prim.Native.Nat.{_-_, _≤_}

@@ -1,4 +1,4 @@
--- `records::parallel::parallel_lines` meets its contract. The walk of the code is made text (tools/records-proofs); what it leaves is answered here. Assumes nothing.
+-- `records::parallel::parallel_lines` meets its contract. The derivation over the code is made text (tools/records-proofs); what it leaves open is proved here. Assumes nothing.
 mod Lts
 mod Tie
 use Prim.Native.Nat.{_-_, _≤_}
