@@ -1,4 +1,4 @@
--- The bits of a number: one set, one cleared, those below a place, the greatest one. Assumes nothing.
+-- The bits of a number: one set, one cleared, those below an index, the greatest one. Assumes nothing.
 use mathlib.Core.Path.{_≡_, sym, ap, _∙_, subst}
 use mathlib.Core.Logic.{inl, inr}
 use mathlib.Core.Bool.{true, false}
@@ -52,7 +52,7 @@ module _ (x k : ℕ) (off : x / 2 ^ k % 2 ≡ 0) where
       let p : 2 ^ w ≡ 2 ^ suc i * 2 ^ k = ap (λ (z : ℕ). 2 ^ z) e ∙ pow-add 2 (suc i) k in
       subst (λ (z : ℕ). x + 2 ^ k < z) (sym p) (div-lt-iff-lt-mul (pow-pos k) .0 r)
 
--- ---- x with 2 ^ k taken off, where bit k is set
+-- ---- x with 2 ^ k subtracted, where bit k is set
 module _ (x k : ℕ) (on : x / 2 ^ k % 2 ≡ 1) where
   pub power-le : 2 ^ k ≤ x
   power-le = let h : 1 * 2 ^ k ≤ x = le-div-iff-mul-le (pow-pos k) .0 (omega arith) in omega arith
@@ -136,7 +136,7 @@ module _ (x t : ℕ) (least : 2 ^ t ≤ x) (most : x < 2 ^ (t + 1)) where
   pub top-below : (b : ℕ) → x < 2 ^ b → t < b
   top-below b h = elim (le-or-lt b t) [ inl l ↦ absurd (omega (arith, pow-mono l)) | inr l ↦ l ]
 
-  -- what is left below it
+  -- the bits below it
   pub cut-top : x % 2 ^ t ≡ x - 2 ^ t
   cut-top =
       let twice : 2 ^ (t + 1) ≡ 2 * 2 ^ t = ap (λ (z : ℕ). 2 ^ z) (add-one t) ∙ pow-succ' 2 t in

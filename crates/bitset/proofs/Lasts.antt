@@ -23,7 +23,7 @@ pub record Greatest (w : List ℕ) (from to p : ℕ) : Type 0 where
   pub below : p < to
   pub last : NoneIn w (suc p) to
 
--- ---- what makes an answer
+-- ---- what gives an answer
 none-more : (w : List ℕ) (a b : ℕ) → member w b ≡ false → NoneIn w a b → NoneIn w a (suc b)
 none-more w a b m h q x y = elim (le-or-lt b q) [ inl l ↦ ap (member w) (omega arith) ∙ m | inr l ↦ h q x l ]
 
@@ -45,7 +45,7 @@ last-is w from (suc t) p g = elim (le-or-lt t p) [
   | inr l ↦ rw (le-leb from t (omega (arith, g .from-on)), g .last t l (omega arith)) (last-is w from t p (record { is-in = g .is-in; from-on = g .from-on; below = l; last = λ q a b. g .last q a (omega arith) }))
 ]
 
--- ---- what an answer tells
+-- ---- what an answer says
 found-empty : {A : Type 0} (p x : ℕ) → Empty ≡ Found p x → A
 found-empty p x e = let z : _≡_ {A = ℕ} 0 1 = cc in absurd (omega arith)
 

@@ -31,7 +31,7 @@ module _ {w : List ℕ} {to rest at bits : ℕ} (s : Looking w to rest at bits) 
   abbrev words : List ℕ
   words = wordsWith w to rest
 
-  -- nothing is left of this word
+  -- the word is empty
   module _ (z : bits ≡ 0) where
     none-here : NoneIn words (at * 64) (64 * length words)
     none-here p l h = elim (le-or-lt (at * 64 + 64) p) [
@@ -51,7 +51,7 @@ module _ {w : List ℕ} {to rest at bits : ℕ} (s : Looking w to rest at bits) 
     unfolding lastWith
     looking-ends from h = sym (last-none words from (64 * length words) (λ p l g. none-here p (omega arith) g))
 
-  -- the greatest bit that is left, t
+  -- the greatest bit of the word, t
   module _ (t : ℕ) (least : 2 ^ t ≤ bits) (most : bits < 2 ^ (t + 1)) where
     pub top-short : t < 64
     top-short = top-below bits t least most 64 (s .short)
@@ -71,7 +71,7 @@ module _ {w : List ℕ} {to rest at bits : ℕ} (s : Looking w to rest at bits) 
       | inr g ↦ bit-here p (omega arith) g ∙ top-last bits t least most (p - at * 64) (omega arith)
     ]
 
-    -- without its greatest bit it is the rest below that bit's place
+    -- without its greatest bit it is the rest below that bit's index
     bits-less : bits - 1 * 2 ^ t % 2 ^ 64 ≡ restBelow words (at * 64 + t)
     unfolding restBelow
     bits-less =

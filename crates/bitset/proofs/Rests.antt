@@ -1,4 +1,4 @@
--- The words up to that of `to`, with the rest below `to` in its place: they have the members below `to`. Assumes nothing.
+-- The words up to that of `to`, with the rest below `to` in place of that word: they have the members below `to`. Assumes nothing.
 use mathlib.Core.Path.{_≡_, sym, ap, _∙_, subst}
 use mathlib.Core.Logic.{inl, inr}
 use mathlib.Core.List.{List, [], _∷_}
@@ -14,7 +14,7 @@ use Rattle.bitset.proofs.Digits.{bit-cut, bit-high, shift-one}
 use Rattle.bitset.proofs.Sets.{member-beyond}
 use Rattle.bitset.proofs.Lasts.{NoneIn, last-same}
 
--- a member by the word and the bit of its place
+-- a member by the word and the bit of its index
 pub by-word : (w : List ℕ) (at p : ℕ) → at * 64 ≤ p → p < at * 64 + 64 → member w p ≡ bitAt (getD w at 0) (p - at * 64)
 unfolding member
 by-word w at p l h =
@@ -48,7 +48,7 @@ rest-again : (w : List ℕ) (to k : ℕ) → k ≤ to % 64 → restBelow w to % 
 unfolding restBelow
 rest-again w to k h = cut-again (getD w (to / 64) 0) (to % 64) k h
 
--- words that agree up to a place agree about it and about the rest below it
+-- words that agree up to an index agree about it and about the rest below it
 same-up-to : (v w : List ℕ) (p : ℕ) → getD v (p / 64) 0 % 2 ^ suc (p % 64) ≡ getD w (p / 64) 0 % 2 ^ suc (p % 64) → (member v p ≡ member w p) × (restBelow v p ≡ restBelow w p)
 unfolding member restBelow
 same-up-to v w p e =
@@ -59,7 +59,7 @@ same-up-to v w p e =
       sym (cut-again x (suc k) k (omega arith)) ∙ ap (λ (z : ℕ). z % 2 ^ k) e ∙ cut-again y (suc k) k (omega arith),
     )
 
--- ---- the words with `rest` in the place of that of `to`
+-- ---- the words with `rest` in place of that of `to`
 module _ (w : List ℕ) (to rest : ℕ) where
   pub with-length : length (wordsWith w to rest) ≡ min (to / 64) (length w) + 1
   unfolding wordsWith

@@ -1,4 +1,4 @@
--- The members of a set of places: none beyond the words; one more, one less. Assumes nothing.
+-- The members of a set of indices: none beyond the words; one more, one less. Assumes nothing.
 use mathlib.Core.Path.{_≡_, refl, sym, _∙_}
 use mathlib.Core.Logic.{_⊎_, inl, inr}
 use mathlib.Core.Bool.{Bool, true, false, not, _&&_, _||_}
@@ -32,7 +32,7 @@ member-none n p = elim (le-or-lt n (p / 64)) [
   | inr h ↦ none-at (replicate n 0) p (getD-replicate n (p / 64) 0 0 h)
 ]
 
--- ---- another word v takes the place of the word of `place`
+-- ---- another word v replaces the word of `place`
 module _ (w : List ℕ) (place v : ℕ) (inside : place / 64 < length w) where
   put-here : member (set w (place / 64) v) place ≡ bitAt v (place % 64)
   unfolding member
@@ -46,7 +46,7 @@ module _ (w : List ℕ) (place v : ℕ) (inside : place / 64 < length w) where
     | inr e ↦ rw (getD-set-other w (place / 64) (p / 64) v 0 e)
   ]
 
--- ---- a place put in
+-- ---- an index put in
 pub length-inserted : (w : List ℕ) (place : ℕ) → length (inserted w place) ≡ length w
 unfolding inserted
 length-inserted w place = elim (decide (member w place)) [ inl m ↦ rw m | inr m ↦ rw m (length-set w (place / 64) (getD w (place / 64) 0 + 2 ^ (place % 64))) ]
@@ -84,7 +84,7 @@ module _ (w : List ℕ) (place p : ℕ) where
     | inr h ↦ elim (or-elim (eqb p place) (member w p) (sym (member-inserted w place h p) ∙ m)) [ inl e ↦ inr (eqb-true p place e) | inr k ↦ inl k ]
   ]
 
--- ---- a place taken out
+-- ---- an index taken out
 pub length-removed : (w : List ℕ) (place : ℕ) → length (removed w place) ≡ length w
 unfolding removed
 length-removed w place = elim (decide (member w place)) [ inl m ↦ rw m (length-set w (place / 64) (getD w (place / 64) 0 - 2 ^ (place % 64))) | inr m ↦ rw m ]

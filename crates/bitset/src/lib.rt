@@ -1,5 +1,5 @@
-// An ordered set of small numbers, its places, kept as bits in a slice of 64-bit words that the caller lends: place p is in the set where bit p % 64 of word p / 64 is set.
-// Places beyond the words are never members: putting one in or taking one out leaves the words as they are.
+// An ordered set of indices, stored as bits in a slice of 64-bit words that the caller lends: index p is in the set where bit p % 64 of word p / 64 is set.
+// Indices beyond the words are never members: inserting or removing one leaves the words as they are.
 ghost use mathlib.Core.Path.{_≡_};
 ghost use Prim.Native.Nat.{_+_, _/_, _^_, _≤_, _<_, min};
 ghost use Rattle.bitset.specs.Inner.Members.{member, inserted, removed, restBelow, lastWith};
@@ -10,7 +10,7 @@ pub enum Last {
     Empty,
 }
 
-// Whether a place is in.
+// Whether an index is in the set.
 pub fn contains(words: &[u64], place: usize) -> bool
     ensures { λ r. ⌜ r ≡ member (now (words .entry)) place ⌝ }
 {
@@ -21,7 +21,7 @@ pub fn contains(words: &[u64], place: usize) -> bool
     (words[at] >> (place % 64)) % 2 == 1
 }
 
-// Puts a place in.
+// Puts an index into the set.
 pub fn insert(words: &mut [u64], place: usize)
     ensures { λ _. ⌜ now (words .exit) ≡ inserted (now (words .entry)) place ⌝ }
 {
@@ -38,7 +38,7 @@ pub fn insert(words: &mut [u64], place: usize)
     words[at] = more;
 }
 
-// Takes a place out.
+// Takes an index out of the set.
 pub fn remove(words: &mut [u64], place: usize)
     ensures { λ _. ⌜ now (words .exit) ≡ removed (now (words .entry)) place ⌝ }
 {
@@ -64,7 +64,7 @@ fn top_bit(word: u64) -> usize
     last as usize
 }
 
-// The word of `to`, or the count of the words where `to` lies beyond them.
+// The word of `to`, or the number of words where `to` is beyond them.
 fn word_of(count: usize, to: usize) -> usize
     ensures { λ r. ⌜ r ≡ min (to / 64) «count» ⌝ }
 {
@@ -83,8 +83,8 @@ pub fn rest_below(words: &[u64], to: usize) -> u64
     words[at] % (1u64 << (to % 64))
 }
 
-// The greatest member from `from` on and below `to`, given the rest below `to`: `rest` stands for the word of `to`. It looks at the rest first and then at the words below, so it takes constant time and a step for each empty word that it passes over.
-// A caller that goes down through a range hands back the rest that it was given: while a word has members left, none is read from the words, and the next search need not wait for a read.
+// The greatest member from `from` on and below `to`, given the rest below `to`: `rest` is used in place of the word of `to`. The rest is searched first and then the words below, so it takes constant time and a step for each empty word that it passes.
+// A caller that goes down through a range passes the rest that it was given: while a word has members left, no word is read, and the next search need not wait for a read.
 pub fn last_below(words: &[u64], from: usize, to: usize, rest: u64) -> Last
     ensures { λ r. ⌜ r ≡ lastWith (now (words .entry)) from to rest ⌝ }
 {

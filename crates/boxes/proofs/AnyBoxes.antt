@@ -13,8 +13,8 @@ use Rattle.floats.proofs.Extremes.{greater}
 use Rattle.boxes.specs.declared.aabb.Aabb.{Aabb}
 use Rattle.boxes.specs.Boxes.{axisGap, distance}
 
--- ---- a float less one that is below it
--- of two fractions, the one above less the one below
+-- ---- x - y where y is below x
+-- of two fractions, the larger minus the smaller
 sum-good : (s t : Bool) (a b c : ℕ) → below t b s a ≡ true → Good (sum binary64 s a (not t) b c)
 unfolding sum
 sum-good false false a b c h = rw (le-ltb a b (omega (arith, ltb-true b a h))) (round-good (a - b) c)

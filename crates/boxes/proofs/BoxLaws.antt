@@ -1,4 +1,4 @@
--- Boxes of fit entries are fit, and: the distance to a box is not larger than the distance to a box inside it, so boxes that lie in each other are equally far away. Assumes nothing.
+-- Boxes of fit entries are fit, and: the distance to a box is not larger than the distance to a box inside it, so boxes that contain each other are equally far away. Assumes nothing.
 use mathlib.Core.Path.{_≡_, sym, ap, _∙_}
 use mathlib.Core.Logic.{inl, inr}
 use mathlib.Core.Bool.{Bool, true, false}
@@ -22,7 +22,7 @@ use Rattle.boxes.specs.Boxes.{fromNode, fromSegment, nodeBox, segmentBox
 use Rattle.boxes.specs.Inner.Fitting.{Span, Inside, FitBox, Within}
 use Rattle.boxes.proofs.Growth.{grows}
 
--- the place of a float in the order of the values
+-- the rank of a float, which orders the values
 abbrev pub at : Float → ℕ
 at x = rank binary64 x
 
@@ -33,7 +33,7 @@ not-below x y p q e = ltb-false (at x) (at y) (sym (lt-rank binary64 x y p q) �
 below : (x y : Float) → Fin binary64 x → Fin binary64 y → lt x y ≡ true → at x < at y
 below x y p q e = lt→ binary64 x y (fin-num binary64 x p) (fin-num binary64 y q) (of-true (lt x y) e)
 
--- ---- at most, as places in that order
+-- ---- at most, as ranks
 le-at : (x y : Float) → Fin binary64 x → Fin binary64 y → T (le x y) → at x ≤ at y
 le-at x y p q h = le→ binary64 x y (fin-num binary64 x p) (fin-num binary64 y q) h
 
@@ -106,7 +106,7 @@ join-least : (a b c d u v : Float) → Inside a b u v → Inside c d u v → Ins
 unfolding lesserOf greaterOf
 join-least a b c d u v h k = record { low = picked (λ z. T (le u z)) (lt c a) a c (h .low) (k .low); high = picked (λ z. T (le z v)) (lt b d) b d (h .high) (k .high) }
 
--- what the gap of two spans is before rounding, in units of the format's smallest value: `-` stops at 0
+-- the gap of two spans before rounding, in units of the format's smallest positive value: `-` stops at 0
 abbrev between : Float → Float → Float → Float → ℕ
 between a b c d = max (at c - at b) (at a - at d)
 
@@ -211,18 +211,18 @@ union-least b c u h k = record {
   down = join-least (b .top) (b .bottom) (c .top) (c .bottom) (u .top) (u .bottom) (h .down) (k .down);
 }
 
--- "monotone rounding justifies pruning"
+-- SCOPE 15.7: "monotone rounding justifies pruning"
 pub distance-within : (s b u : Aabb) → FitBox s → FitBox b → FitBox u → Within b u → mag binary64 (distance s u) ≤ mag binary64 (distance s b)
 distance-within s b u p q r w =
     let x = axis-gap-wider (s .left) (s .right) (b .left) (b .right) (u .left) (u .right) (p .across) (q .across) (r .across) (w .across) in
     let y = axis-gap-wider (s .top) (s .bottom) (b .top) (b .bottom) (u .top) (u .bottom) (p .down) (q .down) (r .down) (w .down) in
     omega (arith, distance-mag s u p r, distance-mag s b p q)
 
--- boxes that lie in each other differ at most in the signs of zeros
+-- boxes that contain each other differ at most in the signs of zeros
 pub record Alike (b c : Aabb) : Type 0 where
   pub into : Within b c
   pub back : Within c b
 
--- no distance shows that: a distance is never -0
+-- no distance depends on these: a distance is never -0
 pub distance-alike : (s b c : Aabb) → FitBox s → FitBox b → FitBox c → Alike b c → distance s b ≡ distance s c
 distance-alike s b c p q r h = good-one (distance s b) (distance s c) (distance-good s b p q) (distance-good s c p r) (le-antisymm (distance-within s c b p r q (h .back)) (distance-within s b c p q r (h .into)))

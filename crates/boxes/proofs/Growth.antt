@@ -18,7 +18,7 @@ powers : (e : ℤ) → (a : ℕ) × (b : ℕ) × (up e ≡ 2 ^ a) × (down e ≡
 powers (pos k) = (k, 0, refl, refl)
 powers (negsuc k) = (0, suc k, refl, refl)
 
--- the magnitude of a finite float is held by the format: rounding keeps it
+-- the magnitude of a finite float is a value of the format: rounding keeps it
 rnd-own : (f : Format) (x : Float) → Fin f x → rnd f (mag f x) ≡ mag f x
 rnd-own f nan p = absurd (p .1)
 rnd-own f (inf s) p = absurd (p .1)
@@ -36,7 +36,7 @@ rnd-own f (fin s (suc m) e) p =
     let is : mag f (fin s (suc m) e) ≡ suc m * 2 ^ (a + c) = eq-of-mul-eq-mul-right (2 ^ b) (pow-pos b) _ _ (exact ∙ split) in
     ap (rnd f) is ∙ rnd-exact f (suc m) (a + c) (fits-small f s m e (p .0)) (lt-of-le-of-lt (le-of-eq (sym is)) (fin-lt f (fin s (suc m) e) p)) ∙ sym is
 
--- a finite float less nothing
+-- a finite float minus zero
 shift-none : (f : Format) (x : Float) → Fin f x → shift f (rank f x) (overflow f) ≡ rank f x
 shift-none f x p = go (sgn x) (overflow f) (mag f x) (rank f x) (rank-is f x) (fin-lt f x p) (rnd-own f x p) (shift-up f (rank f x) (overflow f)) (shift-down f (rank f x) (overflow f))
   where
@@ -45,7 +45,7 @@ shift-none f x p = go (sgn x) (overflow f) (mag f x) (rank f x) (rank-is f x) (f
     go true B zero r e h own above under = let d : r - B ≡ 0 = omega arith in above (omega arith) ∙ ap (λ (z : ℕ). B + rnd f z) d ∙ ap (λ (z : ℕ). B + z) own ∙ omega arith
     go true B (suc m) r e h own above under = let d : B - r ≡ suc m = omega arith in under (omega arith) ∙ ap (λ (z : ℕ). B - rnd f z) d ∙ ap (λ (z : ℕ). B - z) own ∙ sym e
 
--- x + w is x less -w, and -w is below zero
+-- x + w is x - (-w), and -w is below zero
 pub grows : (f : Format) (x w : Float) → Fin f x → Fin f w → T (lt (fin false 0 (pos 0)) w) → rank f x ≤ rank f (add f x w)
 unfolding lt sub neg
 grows f x nan p q h = absurd (q .1)

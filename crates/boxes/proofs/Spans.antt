@@ -1,4 +1,4 @@
--- A box's right and bottom edges are never -0, so its spans are never -0 either. Assumes nothing.
+-- The right and bottom edges of the boxes of fit nodes, and of unions of these, are never -0, so their spans are never -0 either. Assumes nothing.
 use mathlib.Core.Path.{_≡_, ap, _∙_}
 use mathlib.Core.Logic.{inl, inr}
 use mathlib.Core.Bool.{Bool, true, false, not, cond}
@@ -21,11 +21,11 @@ use Rattle.boxes.specs.Boxes.{fromNode, nodeBox, union}
 use Rattle.boxes.specs.Inner.Fitting.{Span, FitBox}
 use Rattle.boxes.proofs.BoxLaws.{span-at, fit-node, fit-union}
 
--- no -0: where the value is not below zero the sign is plus
+-- not -0: where the value is not below zero the sign is plus
 abbrev pub Firm : Format → Float → Type 0
 Firm f x = overflow f ≤ rank f x → sgn x ≡ false
 
--- ---- a difference that is not below zero has the sign plus, but for -0 less +0
+-- ---- a difference that is not below zero has the sign plus, except for -0 - +0
 sub-plain : (f : Format) (x y : Float) → Fin f x → Fin f y → (T (sgn x) → T (not (sgn y)) → 0 < mag f x + mag f y) → rank f y ≤ rank f x → sgn (sub f x y) ≡ false
 sub-plain f x y p q z h =
     ap sgn (sub-round f x y p q)
@@ -62,7 +62,7 @@ edge-firm f x (fin false n d) p q h = λ o. elim (le-or-lt (rank f y) (rank f x)
     none : (B r m : ℕ) → r ≡ B - m → 0 < m → 0 < B → B ≤ r → ⊥
     none B r m e h k o = omega arith
 
--- ---- boxes whose right and bottom edges are no -0
+-- ---- boxes whose right and bottom edges are not -0
 pub record Whole (b : Aabb) : Type 0 where
   pub fit : FitBox b
   pub right : Firm binary64 (b .right)

@@ -1,4 +1,4 @@
-// Axis-aligned boxes: those of nodes and segments, the union of two, and how far two lie apart.
+// Axis-aligned boxes: those of nodes and segments, the union of two, and their distance. SCOPE 3.1 to 3.3, 15.3.
 ghost use mathlib.Core.Path.{_≡_};
 ghost use Rattle.boxes.specs.Boxes as Boxes;
 use floats::greater;

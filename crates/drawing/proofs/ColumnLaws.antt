@@ -1,4 +1,4 @@
--- The columns of a list of segments: none differs in length, and they stand for the list. Assumes nothing.
+-- The columns of a list of segments: none differs in length, and their entries are the list. Assumes nothing.
 use mathlib.Core.Path.{_≡_, refl, ap}
 use mathlib.Core.Bool.{false}
 use mathlib.Core.List.{List, [], _∷_}
@@ -20,7 +20,7 @@ pub columns-count : (l : List Segment) → length (columnsOf l .net) ≡ length 
 unfolding columnsOf
 columns-count l = length-map l (λ (s : Segment). s .net)
 
--- the columns stand for the list
+-- the columns hold the list
 pub columns-entries : (l : List Segment) → segments (columnsOf l) ≡ l
 unfolding columnsOf segmentsOf
 columns-entries [] = refl

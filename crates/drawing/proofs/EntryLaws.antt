@@ -1,4 +1,4 @@
--- The entries that columns of equal length stand for, place by place. Assumes nothing.
+-- The entries of columns of equal length, by index. Assumes nothing.
 use mathlib.Core.Path.{_≡_, refl, ap}
 use mathlib.Core.List.{List, [], _∷_}
 use Prim.Native.Nat.{ℕ, zero, suc, _<_}

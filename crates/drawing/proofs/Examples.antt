@@ -24,7 +24,7 @@ pub two-faults : firstOf (segmentConditions (one-segment 0 0 0) 95) ≡ Refused 
 unfolding firstOf segmentConditions segmentsDiffer differ some-of tooMany shortScratch segmentsOf unfitSegment unfitLine ofBits lt
 two-faults = refl
 
--- with one word more the second one shows
+-- with one word more the second refusal is returned
 pub second-fault : firstOf (segmentConditions (one-segment 0 0 0) 96) ≡ Refused InvalidInput
 unfolding firstOf segmentConditions segmentsDiffer differ some-of tooMany shortScratch segmentsOf unfitSegment unfitLine ofBits lt
 second-fault = refl
@@ -34,17 +34,17 @@ pub zeros-are-equal : firstOf (segmentConditions (one-segment 0 0x8000_0000_0000
 unfolding firstOf segmentConditions segmentsDiffer differ some-of tooMany shortScratch segmentsOf unfitSegment unfitLine ofBits lt
 zeros-are-equal = refl
 
--- "a threshold below 0 (-0 passes)"
+-- SCOPE 7.5: "a threshold below 0 (-0 passes)"
 pub minus-zero-threshold : unfitThreshold (float 0x8000_0000_0000_0000) ≡ false
 unfolding unfitThreshold ofBits lt
 minus-zero-threshold = refl
 
--- marked case (h): "threshold -1: 5"
+-- SCOPE 13.h: "threshold -1: 5"
 pub negative-threshold : unfitThreshold (float 0xbff0_0000_0000_0000) ≡ true
 unfolding unfitThreshold ofBits lt
 negative-threshold = refl
 
--- marked case (k): "1/64 and 1,048,576 pass, 1/128 gives 6"
+-- SCOPE 13.k: "1/64 and 1,048,576 pass, 1/128 gives 6"
 pub on-the-grid : offGridLine (float 0) (float 0x3f90_0000_0000_0000) (float 0x4130_0000_0000_0000) ≡ false
 unfolding offGridLine onGrid ofBits
 on-the-grid = refl

@@ -32,7 +32,7 @@ pub first-none : firstOf [] ≡ Passed
 unfolding firstOf
 first-none = refl
 
--- a check that answers before another
+-- one check after another: the first that refuses decides
 abbrev pub then : Check → Check → Check
 then Passed d = d
 then (Refused r) d = Refused r
@@ -46,7 +46,7 @@ first-append (c ∷ l) m = go (c .0) (first-append l m)
     go true e = refl
     go false e = e
 
--- the answer c of the first conditions stands, or the others decide
+-- the answer c of the first conditions is the answer, or the others decide
 pub first-stop : (l m : List (Bool × Refusal)) (c : Check) (r : Refusal) → c ≡ firstOf l → c ≡ Refused r → c ≡ firstOf (l ++ m)
 first-stop l m c r e g = g ∙ sym (first-append l m ∙ ap (λ (d : Check). then d (firstOf m)) (sym e ∙ g))
 
@@ -68,7 +68,7 @@ pub few : (n : ℕ) → tooMany n ≡ false → n ≤ 4096
 unfolding tooMany
 few n e = ltb-false 4096 n e
 
--- of a list of lengths, none differs from n
+-- in a list of lengths, none differs from n
 as-long : (n m : ℕ) → not (eqb n m) ≡ false → m ≡ n
 as-long n m e = sym (eqb-true n m (not-false (eqb n m) e))
 
@@ -86,7 +86,7 @@ nodes-agree c e =
     let a = none-all (λ (m : ℕ). not (eqb n m)) (length (c .x) ∷ length (c .y) ∷ length (c .width) ∷ length (c .height) ∷ []) e in
     record { x = as-long n _ (a .0); y = as-long n _ (a .1 .0); width = as-long n _ (a .1 .1 .0); height = as-long n _ (a .1 .1 .1 .0) }
 
--- ---- what is known of segments that pass
+-- ---- what is known about segments that pass
 pub record SegmentsPass (s : SegmentColumns) (words : ℕ) : Type 0 where
   pub agree : SegmentsAgree s
   pub few-segments : length (s .net) ≤ 4096
@@ -121,7 +121,7 @@ lists-pass s n x e =
     let g = passed-head _ _ _ (f .1) in
     record { segments = segments-agree s (a .0); nodes = nodes-agree n (b .0); few-segments = few _ (d .0); few-nodes = few _ (f .0); few-exemptions = few _ (g .0) }
 
--- behind their checks the columns need not be compared again
+-- after their checks the columns need not be compared again
 pub entries-compared : (s : SegmentColumns) (n : NodeColumns) (x : ExemptionColumns) → firstOf (listConditions s n x) ≡ Passed → firstOf (comparedEntryConditions s n) ≡ firstOf (entryConditions s n)
 unfolding listConditions comparedEntryConditions
 entries-compared s n x e =
@@ -133,7 +133,7 @@ entries-compared s n x e =
 pub not-passed : {A : Type 0} (k c : Check) (r : Refusal) → c ≡ k → c ≡ Refused r → k ≡ Passed → A
 not-passed k c r h g e = clash true refl (ap is-passed (sym e ∙ sym h ∙ g))
 
--- ---- the scratch at exit, from what a call's checks said
+-- ---- the scratch at exit, from what a call's checks returned
 pub refused-scratch : (k c : Check) (r : Refusal) (l : List ℕ) → c ≡ k → c ≡ Refused r → l ≡ scratchAfter k l
 unfolding scratchAfter
 refused-scratch k c r l h g = sym (rw (sym h ∙ g))

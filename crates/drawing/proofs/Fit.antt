@@ -1,4 +1,4 @@
--- Entries that refusal 5 lets pass: what is known of their numbers. Assumes nothing.
+-- Entries that refusal 5 does not apply to: what is known about their numbers. Assumes nothing.
 use mathlib.Core.Path.{_≡_}
 use mathlib.Core.Bool.{false, not, _||_}
 use Prim.Native.Nat.{_≤_}
@@ -14,7 +14,7 @@ use Rattle.drawing.specs.Entries.{Segment, Node}
 use Rattle.drawing.specs.Conditions.{unfitLine, unfitSegment, unfitExtent, unfitBox, unfitNode, unfitThreshold}
 use Rattle.drawing.specs.Held.{SegmentHeld, NodeHeld}
 
--- ---- fit entries: binary64 holds their floats, and the conditions of refusal 5 do not hold of them
+-- ---- fit entries: their floats are values of binary64, and the conditions of refusal 5 do not hold of them
 pub record FitSegment (s : Segment) : Type 0 where
   pub held : SegmentHeld s
   pub passes : unfitSegment s ≡ false
@@ -27,7 +27,7 @@ pub record FitThreshold (t : Float) : Type 0 where
   pub held : T (fits binary64 t)
   pub passes : unfitThreshold t ≡ false
 
--- ---- what is known of them
+-- ---- what is known about them
 finite-of : (x : Float) → not (finite x) ≡ false → T (finite x)
 finite-of x e = of-true (finite x) (not-false (finite x) e)
 

@@ -13,7 +13,7 @@ use Rattle.floats.proofs.Gaps.{Good, good-lt, good-one}
 use Rattle.drawing.specs.declared.gap.Gap.the-variants.{Absent, Present}
 use Rattle.drawing.specs.Gaps.{gapFrom, leastGap, lesserGap}
 
--- gaps that are no NaN and not negative are ranked by their magnitude
+-- gaps that are not NaN and not negative are ranked by their magnitude
 pub gaps-ranked : Ranked Good lt (mag binary64)
 gaps-ranked = record { below = λ x y p q. good-lt x y p q; one = λ x y p q e. good-one x y p q e }
 

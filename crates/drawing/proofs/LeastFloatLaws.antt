@@ -1,4 +1,4 @@
--- The least gap so far, kept as a float: what it stands for, and that one more gap makes it the lesser of the two. Assumes nothing.
+-- The least gap so far, kept as a float: which gap it encodes, and that one more gap makes it the lesser of the two. Assumes nothing.
 use mathlib.Core.Path.{_≡_, refl, sym, ap, _∙_}
 use mathlib.Core.Logic.{inl, inr}
 use mathlib.Core.Bool.{Bool, true, false, not, _&&_, _||_, cond}
@@ -16,7 +16,7 @@ use Rattle.drawing.specs.declared.gap.Gap.the-variants.{Absent, Present}
 use Rattle.drawing.specs.Gaps.{lesserGap}
 use Rattle.drawing.specs.Inner.LeastFloats.{Number, gapOfFloat, leastWith}
 
--- ---- what it stands for
+-- ---- which gap it encodes
 pub gap-absent : (x : Float) → ne x x ≡ true → Absent ≡ gapOfFloat x
 unfolding gapOfFloat
 gap-absent x e = sym (ap gapOfFloat (differs-from-itself x (of-true (ne x x) e)))

@@ -1,4 +1,4 @@
--- Document 01's list orders give one list for every order of the entries. Assumes nothing.
+-- Sorting in the orders of SCOPE 9.4 gives one list for every order of the entries. Assumes nothing.
 use mathlib.Core.Path.{_≡_, sym, ap, subst}
 use mathlib.Core.List.{List, [], _∷_}
 use Prim.Native.Nat.{ℕ}
@@ -62,7 +62,7 @@ pub nodes-in-order-perm : (l : List Node) → Perm (nodesInOrder l) l
 unfolding nodesInOrder
 nodes-in-order-perm l = sort-perm (λ a b. rowLe (nodeRow a) (nodeRow b)) l
 
--- what holds at every place of lent columns holds of every entry
+-- what holds at every index of lent columns holds of every entry
 pub segments-all : (P : Segment → Type 0) (c : SegmentColumns) → SegmentsAgree c → ((i : ℕ) → P (segmentAt c i)) → All P (segments c)
 segments-all P c a h = at-all P (segmentAt c 0) (segments c) (λ k b. subst P (sym (segments-at c a (segmentAt c 0) k (omega (arith, length-segments c a)))) (h k))
 

@@ -1,4 +1,4 @@
--- A scan of columns for an entry that passes a test: the invariant of the loops that look at every entry. Assumes nothing.
+-- A scan of columns for an entry that passes a test: the invariant of the loops that test every entry. Assumes nothing.
 use mathlib.Core.Path.{_≡_, refl, sym, ap, _∙_}
 use mathlib.Core.Bool.{Bool, true, false}
 use mathlib.Core.List.{List}
@@ -18,7 +18,7 @@ pub record Scanned {A : Type 0} (p : A → Bool) (l : List A) (n i : ℕ) : Type
   pub whole : length l ≡ n
   pub left : some-of p l ≡ some-of p (drop i l)
 
--- z is the entry at place i
+-- z is the entry at index i
 module _ {A : Type 0} (p : A → Bool) (l : List A) (n i : ℕ) where
   pub scanned-none : length l ≡ n → Scanned p l n 0
   scanned-none e = record { small = omega arith; whole = e; left = refl }

@@ -1,4 +1,4 @@
--- Conditions of refusals 2 to 5 that the calls share, in checking order. The list of each call is in its measure's crate, specs/Conditions; `firstOf` of it is what its checks answer. "Each call checks only what it is given, a list it does not take counting as 0 entries."
+-- Conditions of refusals 2 to 5 that the calls share, in checking order (SCOPE 7). The list of each call is in its measure's crate, specs/Conditions; `firstOf` of it is what its checks return. SCOPE 7: "Each call checks only what it is given, a list it does not take counting as 0 entries."
 use mathlib.Core.Bool.{Bool}
 use mathlib.Core.List.{List, [], _∷_}
 use Prim.Native.Nat.{ℕ}
@@ -18,7 +18,7 @@ nodesDiffer c = differ (length (c .id)) (length (c .x) ∷ length (c .y) ∷ len
 unfoldable pub exemptionsDiffer : ExemptionColumns → Bool
 exemptionsDiffer c = differ (length (c .net)) (length (c .node) ∷ [])
 
--- of segments and a scratch of so many words: refusals 2, 3, 4 and 5
+-- of segments and the number of words of the scratch: refusals 2, 3, 4 and 5 (SCOPE 7.2 to 7.5)
 unfoldable pub segmentConditions : SegmentColumns → ℕ → List (Bool × Refusal)
 segmentConditions s words =
     (segmentsDiffer s, ColumnsDiffer)
@@ -27,7 +27,7 @@ segmentConditions s words =
     ∷ (some-of unfitSegment (segments s), InvalidInput)
     ∷ []
 
--- of segments, nodes and exemptions, which clearance and the tight pair take: refusals 2 and 3
+-- of segments, nodes and exemptions, which clearance and the tight pair take: refusals 2 and 3 (SCOPE 7.2, 7.3)
 unfoldable pub listConditions : SegmentColumns → NodeColumns → ExemptionColumns → List (Bool × Refusal)
 listConditions s n e =
     (segmentsDiffer s, ColumnsDiffer)
@@ -38,7 +38,7 @@ listConditions s n e =
     ∷ (tooMany (length (e .net)), TooManyEntries)
     ∷ []
 
--- and refusal 5, of their entries
+-- and refusal 5, of their entries (SCOPE 7.5)
 unfoldable pub entryConditions : SegmentColumns → NodeColumns → List (Bool × Refusal)
 entryConditions s n =
     (some-of unfitSegment (segments s), InvalidInput)

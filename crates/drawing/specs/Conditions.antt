@@ -1,4 +1,4 @@
--- The conditions of document 01's refusals 2 to 6, each over the lists alone.
+-- The conditions of refusals 2 to 6, SCOPE 7.2 to 7.6, each over its arguments alone.
 use mathlib.Core.Bool.{Bool, not, _||_}
 use mathlib.Core.List.{List}
 use Prim.Native.Nat.{ℕ, _+_, _*_}
@@ -10,26 +10,26 @@ use Rattle.floats.specs.Values.{plusZero}
 use Rattle.floats.specs.Grid.{onGrid}
 use Rattle.drawing.specs.Entries.{Segment, Node}
 
--- 2. "The columns of one list differ in length": some length is not the first one's
+-- SCOPE 7.2: "The columns of one list differ in length": some length is not the first one's
 unfoldable pub differ : ℕ → List ℕ → Bool
 differ n l = some-of (λ m. not (eqb n m)) l
 
--- 3. "A list holds more than 4,096 entries"
+-- SCOPE 7.3: "A list holds more than 4,096 entries"
 unfoldable pub tooMany : ℕ → Bool
 tooMany n = ltb 4096 n
 
--- 4. "The scratch is shorter than stated above": "at least 32 times (segments + nodes) plus 64 words"
+-- SCOPE 7.4, 2.7: "The scratch is shorter than stated above": "at least 32 times (segments + nodes) plus 64 words"
 unfoldable pub shortScratch : ℕ → ℕ → ℕ → Bool
 shortScratch words segments nodes = ltb words (32 * (segments + nodes) + 64)
 
--- 5. "an orientation byte above 1, a non-finite number, start not below end"
+-- SCOPE 7.5: "an orientation byte above 1, a non-finite number, start not below end"
 unfoldable pub unfitLine : ℕ → Float → Float → Float → Bool
 unfitLine orientation fixed start end = ltb 1 orientation || not (finite fixed) || not (finite start) || not (finite end) || not (lt start end)
 
 unfoldable pub unfitSegment : Segment → Bool
 unfitSegment s = unfitLine (s .orientation) (s .fixed) (s .start) (s .end)
 
--- 5. along one axis of a node's box: "a non-finite number, .. width or height not above 0, a non-finite right or bottom edge"
+-- SCOPE 7.5, along one axis of a node's box: "a non-finite number, .. width or height not above 0, a non-finite right or bottom edge"
 unfoldable pub unfitExtent : Float → Float → Bool
 unfitExtent corner extent = not (finite corner) || not (finite extent) || not (lt plusZero extent) || not (finite (add binary64 corner extent))
 
@@ -40,15 +40,15 @@ unfitBox x y width height = unfitExtent x width || unfitExtent y height
 unfoldable pub unfitNode : Node → Bool
 unfitNode n = unfitBox (n .x) (n .y) (n .width) (n .height)
 
--- 5. "a non-finite number, .. or a threshold below 0 (-0 passes)"
+-- SCOPE 7.5: "a non-finite number, .. or a threshold below 0 (-0 passes)"
 unfoldable pub unfitThreshold : Float → Bool
 unfitThreshold t = not (finite t) || lt t plusZero
 
--- 5. "a non-finite number"
+-- SCOPE 7.5: "a non-finite number"
 unfoldable pub unfitCutoff : Float → Bool
 unfitCutoff c = not (finite c)
 
--- 6. "a coordinate or the cutoff is off the grid"
+-- SCOPE 7.6: "a coordinate or the cutoff is off the grid"
 unfoldable pub offGridLine : Float → Float → Float → Bool
 offGridLine fixed start end = not (onGrid fixed) || not (onGrid start) || not (onGrid end)
 

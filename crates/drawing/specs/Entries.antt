@@ -1,4 +1,4 @@
--- The entries that columns stand for: "columns of equal length (net, orientation byte 1 horizontal or 0 vertical, fixed, start, end)".
+-- The entries that columns hold. SCOPE 2.1, 2.5: "columns of equal length (net, orientation byte 1 horizontal or 0 vertical, fixed, start, end)". Nodes are those of SCOPE 2.2, exemptions those of SCOPE 2.3.
 use mathlib.Core.List.{List, [], _∷_, map}
 use Prim.Native.Nat.{ℕ}
 use lib.Ieee.{Float}
@@ -49,7 +49,7 @@ nodeColumns is xs ys ws hs = record { id = is; x = xs; y = ys; width = ws; heigh
 abbrev pub exemptionColumns : List ℕ → List ℕ → ExemptionColumns
 exemptionColumns ns ms = record { net = ns; node = ms }
 
--- the entries at each place, as many as the shortest column holds
+-- the entries at each index, as many as the shortest column holds
 unfoldable pub segmentsOf : List ℕ → List ℕ → List Float → List Float → List Float → List Segment
 segmentsOf [] os fs ss es = []
 segmentsOf (n ∷ ns) [] fs ss es = []
@@ -80,7 +80,7 @@ nodes c = nodesOf (c .id) (c .x) (c .y) (c .width) (c .height)
 abbrev pub exemptions : ExemptionColumns → List Exemption
 exemptions c = exemptionsOf (c .net) (c .node)
 
--- and the other way: the columns of a list of entries
+-- and conversely: the columns of a list of entries
 unfoldable pub columnsOf : List Segment → SegmentColumns
 columnsOf l = segmentColumns (map (λ (s : Segment). s .net) l) (map (λ (s : Segment). s .orientation) l) (map (λ (s : Segment). s .fixed) l) (map (λ (s : Segment). s .start) l) (map (λ (s : Segment). s .end) l)
 

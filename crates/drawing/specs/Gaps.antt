@@ -1,4 +1,4 @@
--- Gaps that may be absent: "each least gap is either absent or one float value".
+-- Gaps that may be absent. SCOPE 6.4: "each least gap is either absent or one float value".
 use mathlib.Core.List.{List}
 use mathlib.Core.Option.{Option, none, some}
 use lib.Ieee.{Float, lt}
@@ -11,7 +11,7 @@ unfoldable pub gapFrom : Option Float → Gap
 gapFrom none = Absent
 gapFrom (some x) = Present x
 
--- the least of a list of gaps, "absent if there is none"
+-- the least of a list of gaps, SCOPE 3.5, 3.9, 3.15: "absent if there is none"
 unfoldable pub leastGap : List Float → Gap
 leastGap l = gapFrom (least lt l)
 

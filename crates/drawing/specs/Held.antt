@@ -1,4 +1,4 @@
--- The floats of entries are values of binary64: `f64`, the type of the columns and settings, holds no others. The contracts of the calls say so of every drawing that passes their checks, so that no statement on two calls has to assume it.
+-- The floats of entries are values of binary64 (SCOPE 1.3): `f64`, the type of the columns and settings, holds no others. The contracts of the calls say so of every drawing that passes their checks, so that no statement about two calls has to assume it.
 use lib.Dec.{T}
 use lib.Ieee.{Float, binary64, fits}
 use Rattle.laws.specs.Lists.{All}

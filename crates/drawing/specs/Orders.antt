@@ -1,4 +1,4 @@
--- Document 01's list orders: "segments came in the order net, orientation byte, fixed, start, end, and its nodes in the order id, x, y, width, height, floats by totalOrder".
+-- The orders in which the lists are walked. SCOPE 9.4: "segments came in the order net, orientation byte, fixed, start, end, and its nodes in the order id, x, y, width, height, floats by totalOrder".
 use mathlib.Core.List.{List, [], _∷_}
 use Prim.Native.Nat.{ℕ}
 use Rattle.laws.specs.Rows.{rowLe}

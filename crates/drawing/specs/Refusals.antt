@@ -1,4 +1,4 @@
--- The refusals' numbers, the first refusal that applies, what is answered and what becomes of the scratch.
+-- The refusals' numbers, the first refusal that applies, what a call answers and what is in the scratch at exit.
 use mathlib.Core.Bool.{Bool, cond}
 use mathlib.Core.List.{List, [], _∷_}
 use Prim.Native.Nat.{ℕ}
@@ -8,7 +8,7 @@ use Rattle.drawing.specs.declared.refusal.Refusal.the-variants.{Malforme
 use Rattle.drawing.specs.declared.refusal.Check.{Check}
 use Rattle.drawing.specs.declared.refusal.Check.the-variants.{Passed, Refused}
 
--- document 01, 'Turned down, in checking order': the number of each
+-- SCOPE 7: the number of each refusal, in the order of checking
 unfoldable pub numberOf : Refusal → ℕ
 numberOf MalformedFile = 1
 numberOf ColumnsDiffer = 2
@@ -18,12 +18,12 @@ numberOf InvalidInput = 5
 numberOf OffGrid = 6
 numberOf WorkLimitExceeded = 7
 
--- what a check answers, by its number: 0 where it passed, as for a call that is accepted
+-- the number of what a check returns: 0 where it passed, as for an accepted call
 unfoldable pub numberOfCheck : Check → ℕ
 numberOfCheck Passed = 0
 numberOfCheck (Refused r) = numberOf r
 
--- conditions with their refusals, in checking order: "the first refusal that applies"
+-- conditions with their refusals, in checking order. SCOPE 7, 8.1: "the first refusal that applies"
 unfoldable pub firstOf : List (Bool × Refusal) → Check
 firstOf [] = Passed
 firstOf (c ∷ l) = let r = firstOf l in cond (c .0) (Refused (c .1)) r
@@ -33,7 +33,7 @@ abbrev pub checked : {A : Type 0} → (Refusal → A) → Check → A → A
 checked refused Passed a = a
 checked refused (Refused r) a = refused r
 
--- the scratch at exit: "After an accepted call or a spent allowance the whole scratch is zero"; an earlier refusal leaves it as it was
+-- the scratch at exit. SCOPE 6.5: "After an accepted call or a spent allowance the whole scratch is zero"; an earlier refusal leaves it as it was
 unfoldable pub scratchAfter : Check → List ℕ → List ℕ
 scratchAfter Passed s = replicate (length s) 0
 scratchAfter (Refused r) s = s

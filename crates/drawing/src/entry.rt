@@ -1,4 +1,4 @@
-// Refusal 5 of one entry or setting.
+// Refusal 5 of one entry or setting. SCOPE 7.5.
 ghost use mathlib.Core.Path.{_≡_};
 ghost use Rattle.drawing.specs.Conditions as Conditions;
 use floats::is_finite;

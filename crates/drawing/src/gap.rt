@@ -1,4 +1,4 @@
-// A least gap: the Rust's `Option<f64>`, absent or one float. And the least gap so far, as a walk keeps it: one float.
+// A least gap: the Rust's `Option<f64>`, absent or one float (SCOPE 6.4, 15.5). And the least gap so far, as a walk keeps it: one float.
 ghost use mathlib.Core.Path.{_≡_};
 ghost use lib.Ieee.{nan};
 ghost use Rattle.drawing.specs.Gaps as Gaps;
@@ -10,7 +10,7 @@ pub enum Gap {
     Present(f64),
 }
 
-// The lesser of two gaps, the one that is there where the other is absent.
+// The lesser of two gaps, the present one where the other is absent.
 pub fn minimum_option(left: Gap, right: Gap) -> Gap
     ensures { λ r. ⌜ r ≡ Gaps.lesserGap left right ⌝ }
 {
@@ -23,15 +23,15 @@ pub fn minimum_option(left: Gap, right: Gap) -> Gap
     }
 }
 
-// No gap yet. While a walk runs, its least gap is a float, and a NaN where there is none: no gap is a NaN, and +infinity may be one.
-// A walk hands its figures on at every visit. An enum would be copied by a load wider than the stores that made it, of the tag and of the float; the processor hands such a load nothing from stores that are still under way, so that it waits until they are done.
+// No gap yet. While a walk runs, its least gap is a float, and a NaN where there is none: a gap is never a NaN, and may be +infinity.
+// A walk passes its figures on at every visit. An enum would be copied by a load wider than the stores that made it, of the tag and of the float; the processor cannot forward stores that are still pending to such a load, so the load waits until they are done.
 pub fn no_gap() -> f64
     ensures { λ r. ⌜ r ≡ nan ⌝ }
 {
     0.0 / 0.0
 }
 
-// The least gap so far with one more. A NaN is not at most anything, so that the first gap takes its place.
+// The least gap so far with one more. A NaN is not at most anything, so the first gap replaces it.
 pub fn least_with(least: f64, gap: f64) -> f64
     ensures { λ r. ⌜ r ≡ LeastFloats.leastWith least gap ⌝ }
 {

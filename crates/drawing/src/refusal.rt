@@ -1,4 +1,4 @@
-// Why a call is turned down, one case for each number of document 01's list 'Turned down'.
+// Why a call is refused, one case for each number of SCOPE 7.
 ghost use mathlib.Core.Path.{_≡_};
 ghost use Rattle.drawing.specs.Refusals as Refusals;
 
@@ -12,7 +12,7 @@ pub enum Refusal {
     WorkLimitExceeded,
 }
 
-// What the checks of a call answer before any work starts.
+// What the checks of a call return before any work starts.
 pub enum Check {
     Passed,
     Refused(Refusal),

@@ -1,4 +1,4 @@
-// Clearing: of the whole scratch when a call is done, and of a part that must be zero before a sweep.
+// Clearing: of the whole scratch when a call is done (SCOPE 6.5), and of a part that must be zero before a sweep.
 ghost use mathlib.Core.Path.{_≡_};
 ghost use lib.ListN.{length, replicate};
 

@@ -1,4 +1,4 @@
--- Big-endian numbers: of two byte strings one behind the other, and of the bytes from a place on. Assumes nothing.
+-- Big-endian numbers: of two byte strings joined, and of the bytes from an index on. Assumes nothing.
 use mathlib.Core.Path.{_≡_, refl, sym, ap, _∙_}
 use mathlib.Core.List.{List, [], _∷_, _++_}
 use Prim.Native.Nat.{ℕ, _+_, _*_, _^_, _≤_}
@@ -8,7 +8,7 @@ use lib.ListN.{length, getD, take, drop, length-drop}
 use lib.Seq.{getD-drop, drop-drop, take-add, length-take-le}
 use Rattle.file.specs.Reading.{bigEndian}
 
--- the number of the bytes in front counts for as many powers of 256 as bytes follow
+-- the number of the leading bytes is multiplied by 256 for each byte that follows
 more : (p n b x : ℕ) → p * (256 * n + b) + x ≡ p * 256 * n + (p * (256 * 0 + b) + x)
 more p n b x = omega arith
 
@@ -22,7 +22,7 @@ unfolding bigEndian
 append n [] l = refl
 append n (b ∷ k) l = append (256 * n + b) k l
 
--- four bytes from a place on
+-- four bytes from an index on
 front-four : (l : List ℕ) → 4 ≤ length l → take 4 l ≡ getD l 0 0 ∷ getD l 1 0 ∷ getD l 2 0 ∷ getD l 3 0 ∷ []
 front-four [] h = absurd (omega arith)
 front-four (a ∷ []) h = absurd (omega arith)

@@ -1,4 +1,4 @@
--- The loops over a list's places: a column that is filled, and a byte that is looked for. Assumes nothing.
+-- The loops over a list's entries: a column that is filled, and a search for a byte. Assumes nothing.
 use mathlib.Core.Path.{_≡_, refl, sym, ap, _∙_}
 use mathlib.Core.Bool.{Bool, true, false}
 use mathlib.Core.List.{List, [], _++_, map}
@@ -38,11 +38,11 @@ module _ {A : Type 0} (f : List ℕ → A) (s₀ : List A) (n : ℕ) (l : List �
       let z : 0 + length xs ≡ n = omega arith in
       written-all f s₀ 0 xs s i (p .written) (omega arith) ∙ (λ j. take-all (length xs) (map f xs) (omega (arith, length-map xs f)) j ++ drop (z j) s₀)
 
--- ---- the first i places have no byte above 1
+-- ---- the first i entries have no byte above 1
 abbrev pub above : List ℕ → Bool
 above l = ltb 1 (bigEndian 0 (take 1 l))
 
--- the byte at a place is the number of one byte from there on
+-- the byte at an index is the number of one byte from there on
 pub byte-is : (at : ℕ) (l : List ℕ) → at < length l → getD l at 0 ≡ bigEndian 0 (take 1 (drop at l))
 unfolding bigEndian
 byte-is at l h = rw (drop-cons l at 0 h) (omega arith)

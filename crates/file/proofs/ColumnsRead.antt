@@ -20,14 +20,14 @@ unfolding readingOf resultOf fileResult
 reading-result x (got d rest) e = ap resultOf e
 reading-result x (refused w) e = ap resultOf e
 
--- k bytes at offset o of each entry, where the entries are all there
+-- k bytes at offset o of each entry, where no byte of the entries is missing
 pub room-at : (k o w n at to : ℕ) (l : List ℕ) → o + k ≤ w → at + w * n ≤ length l → to ≡ at + o → Room k w n to l
 room-at k o w n at to l h g e = λ i b. le-trans (le-of-eq (ap (λ (t : ℕ). t + w * i + k) e)) (le-trans (within i (mul-le-mul-left w b)) g)
   where
     within : (i : ℕ) → w * suc i ≤ w * n → at + o + w * i + k ≤ at + w * n
     within i m = omega (arith, mul-suc w i)
 
--- a filled column is f of the entries, where f of an entry stands at its offset
+-- a filled column is f of the entries, where f of an entry is at its offset
 pub column-read : {A B : Type 0} (list : Drawing → List A) (f : A → B) (value : List ℕ → A) (g : List ℕ → B) (o w n at to : ℕ) (l : List ℕ) (d : Drawing) (r : List ℕ) (old out : List B) → read l ≡ got d r → list d ≡ map value (places w n (drop at l)) → ((t : List ℕ) → f (value t) ≡ g (drop o t)) → to ≡ at + o → out ≡ map g (places w n (drop to l)) ++ drop n old → out ≡ columnAfter list f (read l) old
 unfolding columnAfter
 column-read list f value g o w n at to l d r old out e p q k h =

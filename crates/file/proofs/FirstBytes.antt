@@ -1,4 +1,4 @@
--- A drawing file has at most 9,773 bytes, so the first 9,774 bytes of an input decide what it says: whoever has read one byte more than the longest file has seen every byte left over. Assumes nothing.
+-- A drawing file has at most 9,773 bytes, so the first 9,774 bytes of an input decide what it says: one byte more than the longest file is enough to see that bytes are left over. Assumes nothing.
 use mathlib.Core.Path.{_≡_, refl, sym, ap, subst, _∙_}
 use mathlib.Core.Bool.{Bool, true, false, cond}
 use mathlib.Core.List.{List, [], _∷_, _++_}
@@ -16,17 +16,17 @@ use Rattle.drawing.specs.declared.refusal.Refusal.{Refusal}
 use Rattle.drawing.specs.declared.refusal.Refusal.the-variants.{MalformedFile, TooManyEntries}
 use Rattle.file.specs.Reading.{Read, got, refused, then, bigEndian, number, float, version, orientation, segment, node, exemption, entries, counted, settings, parts, ended, read}
 
--- the same outcome with more bytes behind
+-- the same outcome with more bytes at the end
 abbrev pub behind : {A : Type 0} → List ℕ → Read A → Read A
 behind more (got a rest) = got a (rest ++ more)
 behind more (refused r) = refused r
 
--- how many bytes an outcome leaves at least, where it leaves any
+-- the outcome leaves at least n bytes, or is a refusal
 abbrev pub Leaves : {A : Type 0} → ℕ → Read A → Type 0
 Leaves n (got a rest) = n ≤ length rest
 Leaves n (refused r) = Unit {0}
 
--- a reader that looks at no more than k bytes
+-- a reader that reads no more than k bytes
 pub record Within (k : ℕ) {A : Type 0} (r : List ℕ → Read A) : Type 0 where
   pub alike : (l more : List ℕ) → k ≤ length l → r (l ++ more) ≡ behind more (r l)
   pub leaves : (l : List ℕ) (n : ℕ) → k + n ≤ length l → Leaves n (r l)
@@ -130,7 +130,7 @@ ended-alike more (got a []) e = absurd (not-suc-le-zero e)
 ended-alike more (got a (b ∷ rest)) e = refl
 ended-alike more (refused r) e = refl
 
--- what is behind the first 9,774 bytes decides nothing
+-- the bytes after the first 9,774 decide nothing
 pub first-bytes : (l : List ℕ) → read (take 9774 l) ≡ read l
 unfolding read
 first-bytes l = by-length (le-or-lt 9774 (length l))

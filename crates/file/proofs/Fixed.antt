@@ -1,4 +1,4 @@
--- Parts of the file that are of one width: such a part is read where all its bytes are there and it has no fault, and else the file is malformed. Assumes nothing.
+-- Parts of the file that are of one width: such a part is read where none of its bytes is missing and it has no fault, and else the file is malformed. Assumes nothing.
 use mathlib.Core.Path.{_≡_, refl, sym, ap, _∙_}
 use mathlib.Core.Logic.{inl, inr}
 use mathlib.Core.Bool.{Bool, true, false, _||_}
@@ -24,7 +24,7 @@ pub then-refused : {A B : Type 0} (x : Read A) (k : A → List ℕ → Read B) (
 unfolding then
 then-refused x k r e = rw e
 
--- `entry` reads w bytes, says `value` of them and refuses those that `bad` finds a fault in
+-- `entry` reads w bytes, gives `value` of them and refuses those that `bad` finds a fault in
 pub record Fixed {A : Type 0} (w : ℕ) (bad : List ℕ → Bool) (value : List ℕ → A) (entry : List ℕ → Read A) : Type 0 where
   pub short : (l : List ℕ) → length l < w → entry l ≡ refused MalformedFile
   pub wrong : (l : List ℕ) → w ≤ length l → bad l ≡ true → entry l ≡ refused MalformedFile
@@ -43,7 +43,7 @@ fixed-number k =
     no : false ≡ true → ⊥
     no e = let z : _≡_ {A = ℕ} 0 1 = cc in omega arith
 
--- what takes no bytes
+-- a part of no bytes
 pub fixed-got : {A : Type 0} (a : A) → Fixed 0 (λ l. false) (λ l. a) (λ l. got a l)
 fixed-got a =
     record {
@@ -52,7 +52,7 @@ fixed-got a =
       reads = λ l h e. refl;
     }
 
--- one part behind another
+-- one part after another
 module _
     {A B : Type 0}
     {w v : ℕ}
@@ -92,7 +92,7 @@ module _
             ∙ second (value l) .reads (drop w l) (simp length-drop (omega arith)) (neither-right (bad l) (bad′ (value l) (drop w l)) e)
             ∙ ap (got (value′ (value l) (drop w l))) (drop-drop v w l)
 
--- the same part, its width, faults and value said in other words
+-- the same part, with equal width, faults and value
 pub fixed-as : {A : Type 0} {w v : ℕ} {bad bad′ : List ℕ → Bool} {value value′ : List ℕ → A} {entry : List ℕ → Read A} → w ≡ v → ((l : List ℕ) → bad′ l ≡ bad l) → ((l : List ℕ) → value l ≡ value′ l) → Fixed w bad value entry → Fixed v bad′ value′ entry
 fixed-as {w} {v} {bad} {bad′} {value} {value′} {entry} e p q f =
     record {
@@ -101,7 +101,7 @@ fixed-as {w} {v} {bad} {bad′} {value} {value′} {entry} e p q f =
       reads = λ l h t. f .reads l (omega arith) (sym (p l) ∙ t) ∙ (λ i. got (q l i) (drop (e i) l));
     }
 
--- so many entries of one width
+-- n entries of one width
 pub fixed-entries : {A : Type 0} {w : ℕ} {bad : List ℕ → Bool} {value : List ℕ → A} {entry : List ℕ → Read A} → Fixed w bad value entry → (n : ℕ) → Fixed (w * n) (λ l. some-of bad (places w n l)) (λ l. map value (places w n l)) (entries entry n)
 unfolding entries places some-of
 fixed-entries {w} {bad} {value} {entry} f zero = fixed-as (omega arith) (λ l. refl) (λ l. refl) (fixed-got [])

@@ -1,4 +1,4 @@
--- A list with its count in front, its entries all of one width: whether it is all there, and what it says. Assumes nothing.
+-- A list after its count, its entries all of one width: whether bytes are missing, and what it says. Assumes nothing.
 use mathlib.Core.Path.{_≡_, refl, sym, ap, subst, _∙_}
 use mathlib.Core.Logic.{inl, inr}
 use mathlib.Core.Bool.{Bool, true, false, cond}
@@ -25,13 +25,13 @@ use Rattle.file.proofs.FixedPlaces.{length-places, some-never}
 abbrev countIn : List ℕ → ℕ
 countIn l = bigEndian 0 (take 4 l)
 
--- the list has n entries of w bytes, as many as the limit at most, and all their bytes are there
+-- the list has n entries of w bytes, at most as many as the limit, and none of their bytes is missing
 pub record There (limit w : ℕ) (l : List ℕ) (n : ℕ) : Type 0 where
   pub is : n ≡ countIn l
   pub few : n ≤ limit
   pub whole : 4 + w * n ≤ length l
 
--- the list is read: its entries and the bytes behind it
+-- the list is read: its entries and the bytes after it
 pub record Listed {A : Type 0} (limit w : ℕ) (value : List ℕ → A) (entry : List ℕ → Read A) (l : List ℕ) (n : ℕ) : Type 0 where
   pub there : There limit w l n
   pub reads : counted limit entry l ≡ got (map value (places w n (drop 4 l))) (drop (4 + w * n) l)
@@ -67,7 +67,7 @@ module _ {A : Type 0} {w : ℕ} {bad : List ℕ → Bool} {value : List ℕ → 
           reads = counted-few limit entry l n (omega (arith, t .whole)) (t .is) (t .few) ∙ fixed-entries f n .reads (drop 4 l) (simp length-drop (omega (arith, t .whole))) b ∙ ap (got (map value (places w n (drop 4 l)))) (drop-drop (w * n) 4 l);
         }
 
--- what is seen of a list of this width before its entries are looked at
+-- what is known about a list of this width before its entries are read
 pub data Seen (limit w : ℕ) (l : List ℕ) : Type 0 where
   short : length l < 4 → Seen limit w l
   many : 4 ≤ length l → limit < countIn l → Seen limit w l
@@ -86,7 +86,7 @@ see limit w l = elim (le-or-lt 4 (length l)) [
   ]
 ]
 
--- ---- the count that a list answers
+-- ---- the count that a list gives
 module _ {A : Type 0} where
   count-refused : (x : Read (List A)) (r : Refusal) → x ≡ refused r → Refused r ≡ countOf x
   unfolding countOf
@@ -105,14 +105,14 @@ module _ {A : Type 0} {w : ℕ} {bad : List ℕ → Bool} {value : List ℕ → 
   count-listed : (n : ℕ) → Listed limit w value entry l n → Entries n ≡ countOf (counted limit entry l)
   count-listed n g = count-got _ _ _ n (g .reads) (length-map (places w n (drop 4 l)) value ∙ length-places w n (drop 4 l))
 
-  -- the answer where all bytes are there
+  -- the answer where no byte is missing
   pub count-wrong : (n : ℕ) → There limit w l n → some-of bad (places w n (drop 4 l)) ≡ true → Refused MalformedFile ≡ countOf (counted limit entry l)
   count-wrong n t b = count-refused _ MalformedFile (counted-wrong f limit l n t b)
 
   pub count-right : (n : ℕ) → There limit w l n → some-of bad (places w n (drop 4 l)) ≡ false → Entries n ≡ countOf (counted limit entry l)
   count-right n t b = count-listed n (counted-there f limit l n t b)
 
-  -- what the answer says of the list
+  -- what the answer says about the list
   pub listed-of : (n : ℕ) → Entries n ≡ countOf (counted limit entry l) → Listed limit w value entry l n
   listed-of n e = go (see limit w l)
     where
@@ -152,7 +152,7 @@ module _ {A : Type 0} {w : ℕ} {bad : List ℕ → Bool} {value : List ℕ → 
 pub listed-as : {A : Type 0} {w : ℕ} {value : List ℕ → A} {entry : List ℕ → Read A} (f : Fixed w noFault value entry) (limit : ℕ) (l : List ℕ) (n : ℕ) → Entries n ≡ countOf (counted limit (number w) l) → Listed limit w value entry l n
 listed-as {w} f limit l n e = counted-there f limit l n (listed-of (fixed-number w) limit l n e .there) (some-never (places w n (drop 4 l)))
 
--- ---- a list whose count stands at a place of the file: its entries, and the place behind it
+-- ---- a list whose count is at an index of the file: its entries, and the bytes after it
 pub record PartAt {A : Type 0} (limit w : ℕ) (value : List ℕ → A) (entry : List ℕ → Read A) (l : List ℕ) (at n : ℕ) : Type 0 where
   pub few : n ≤ limit
   pub room : at + 4 + w * n ≤ length l
@@ -172,7 +172,7 @@ part-of {limit} {w} {value} {entry} {l} {at} {n} h g =
 pub product : (w n : ℕ) → w ≤ 36 → n ≤ 240 → w * n ≤ 8640
 product w n h k = le-trans (mul-le-mul-left w k) (omega arith)
 
--- ---- a list of plain numbers from a place of the file on, with what the bytes left say
+-- ---- a list of plain numbers from an index of the file on, by the number of remaining bytes
 module _ (bytes : List ℕ) (at limit w : ℕ) (a : at ≤ length bytes) where
   pub count-short : length bytes - at < 4 → Refused MalformedFile ≡ countOf (counted limit (number w) (drop at bytes))
   count-short h = count-refused _ MalformedFile (counted-short limit (number w) (drop at bytes) (simp length-drop h))

@@ -71,7 +71,7 @@ badOrientation l = ltb 1 (numberAt 1 4 l)
 abbrev pub noFault : List ℕ → Bool
 noFault l = false
 
--- an offset behind another
+-- an offset from another
 further : (k m : ℕ) (r l : List ℕ) → r ≡ drop m l → drop k r ≡ drop (m + k) l
 further k m r l e = ap (drop k) e ∙ drop-drop k m l
 

@@ -1,4 +1,4 @@
--- The places of entries of one width: how many, what stands at each, and the same places seen from an offset on. Assumes nothing.
+-- The indices of entries of one width: how many, what is at each, and the same indices moved by an offset. Assumes nothing.
 use mathlib.Core.Path.{_≡_, refl, sym, ap, _∙_}
 use mathlib.Core.Bool.{Bool, false}
 use mathlib.Core.List.{List, [], _∷_, map, map-map}
@@ -30,7 +30,7 @@ unfolding places
 places-from o w zero l = refl
 places-from o w (suc n) l = ap (λ (m : List (List ℕ)). drop o l ∷ m) (ap (places w n) (drops-swap o w l) ∙ places-from o w n (drop w l))
 
--- a value that stands at an offset of each entry
+-- a value at an offset of each entry
 pub map-from : {A : Type 0} (f : List ℕ → A) (o w n : ℕ) (l : List ℕ) → map f (places w n (drop o l)) ≡ map (λ r. f (drop o r)) (places w n l)
 map-from f o w n l = ap (map f) (places-from o w n l) ∙ map-map f (drop o) (places w n l)
 

@@ -1,4 +1,4 @@
--- Of a file that is read: its parts stand where their counts say, and there is nothing behind them. Assumes nothing.
+-- Of a file that is read: its parts are where their counts say, and nothing follows them. Assumes nothing.
 use mathlib.Core.Path.{_≡_, refl, sym, ap, subst, _∙_}
 use mathlib.Core.Logic.{inl, inr}
 use mathlib.Core.Bool.{Bool}
@@ -24,7 +24,7 @@ use Rattle.file.proofs.ReadingParts.{nodesPlace, exemptionsPlace, setti
 no-reading : {A B : Type 0} (x : Read A) (r : Refusal) (a : A) (l : List ℕ) → x ≡ refused r → x ≡ got a l → B
 no-reading x r a l e g = let d : refused r ≡ got a l = sym e ∙ g in let z : _≡_ {A = ℕ} 0 1 = cc in absurd (omega arith)
 
--- ---- where a part and what follows are read, the part is
+-- ---- where a part and what follows are read, the part is read
 module _ {A B : Type 0} {w : ℕ} {bad : List ℕ → Bool} {value : List ℕ → A} {entry : List ℕ → Read A} (f : Fixed w bad value entry) where
   pub record First (l : List ℕ) (k : A → List ℕ → Read B) (b : B) (r : List ℕ) : Type 0 where
     pub whole : w ≤ length l
@@ -103,7 +103,7 @@ laid-read l d r e = go (parts l) refl
     go (refused q) g = no-reading _ q d r (then-refused (parts l) ended q g) e
     go (got a rest) g = laid-parts l a rest g (ended-inverse a d rest r (sym (then-got (parts l) ended a rest g) ∙ e))
 
--- the counts are those that the call answers
+-- the counts are those that the call returns
 pub laid : (l : List ℕ) (x : Reading) (h : Header) → x ≡ readingOf (read l) → x ≡ answers.Read h → Laid l (h .segments) (h .nodes) (h .exemptions)
 unfolding readingOf
 laid l x h e g = go (read l) refl

@@ -1,4 +1,4 @@
--- The parts of the file one behind the other: which one refuses it, and what is read where none does. Assumes nothing.
+-- The parts of the file in sequence: which one refuses it, and what is read where none does. Assumes nothing.
 use mathlib.Core.Path.{_≡_, refl, sym, ap, _∙_}
 use mathlib.Core.Logic.{inl, inr}
 use mathlib.Core.Bool.{Bool, true, not}
@@ -36,7 +36,7 @@ orientation-room l n h t = λ i k. let w : 4 + 29 * n ≤ length l - 1 = simp le
 pub orientation-as : (l : List ℕ) (n : ℕ) (b : Bool) → some-of above (places 29 n (drop 9 l)) ≡ b → some-of badOrientation (places 29 n (drop 4 (drop 1 l))) ≡ b
 orientation-as l n b e = ap (λ (r : List ℕ). some-of badOrientation (places 29 n r)) (drop-drop 4 1 l) ∙ sym (some-from above 4 29 n (drop 5 l)) ∙ ap (λ (r : List ℕ). some-of above (places 29 n r)) (drop-drop 4 5 l) ∙ e
 
--- ---- where the parts stand
+-- ---- where the parts are
 abbrev pub nodesPlace : ℕ → ℕ
 nodesPlace s = 5 + 29 * s
 
@@ -87,7 +87,7 @@ header-is l s n e =
       congestion = numberAt 8 0 (drop-drop 32 at l i);
     }
 
--- ---- what a part's refusal makes of the file
+-- ---- what a part's refusal means for the file
 refused-reading : (l : List ℕ) (r : Refusal) → parts l ≡ refused r → answers.Refused r ≡ readingOf (read l)
 unfolding read readingOf
 refused-reading l r e = sym (ap readingOf (then-refused (parts l) ended r e))
@@ -122,7 +122,7 @@ has-version l h k =
     let some : 0 < length l = omega arith in
     record { some = some; reads = fixed-version .reads l some (ap not (eq-eqb (numberAt 1 0 l) 1 (sym (byte-is 0 l some) ∙ k))) }
 
--- ---- what the counts say that were found
+-- ---- what is known from the counts that were found
 module _ (l : List ℕ) where
   pub segments-of : HasVersion l → (x : Counted) (s : ℕ) → x ≡ countOf (counted 120 segment (drop 1 l)) → x ≡ Entries s → HasSegments l s
   segments-of v x s e g = part-of (v .some) (listed-of fixed-segment 120 (drop 1 l) s (sym g ∙ e))
@@ -168,7 +168,7 @@ module _ (l : List ℕ) (v : HasVersion l) where
         unfolding read
         whole-file h = then-got (parts l) ended _ _ (all-parts (omega arith)) ∙ ended-there (drawingOf l s n e) (drop (settingsPlace s n e + 40) l) (simp length-drop (omega arith))
 
-        -- the header that stands for the drawing, where its parts are those of the file
+        -- the header of the drawing, where its parts are those of the file
         pub right-header : (h : Header) → length l ≡ settingsPlace s n e + 40 → h ≡ headerAt l s n e → answers.Read h ≡ readingOf (read l)
         unfolding readingOf
         right-header h k g = sym (ap readingOf (whole-file k) ∙ ap answers.Read (header-is l s n e ∙ sym g))

@@ -1,4 +1,4 @@
--- What a byte string says as a drawing file: the drawing, or the refusal of the first fault in byte order. "Big-endian: version byte 1; a 32-bit count of segments, each net (32 bits), orientation byte, then fixed, start, end as 64-bit float bits; a 32-bit count of nodes, each id (32 bits), x, y, width, height; a 32-bit count of exemptions, each net and node; threshold, cutoff; three 64-bit allowances (clearance, separation, congestion)."
+-- What a byte string says as a drawing file: the drawing, or the refusal of the first fault in byte order. SCOPE 10.1: "Big-endian: version byte 1; a 32-bit count of segments, each net (32 bits), orientation byte, then fixed, start, end as 64-bit float bits; a 32-bit count of nodes, each id (32 bits), x, y, width, height; a 32-bit count of exemptions, each net and node; threshold, cutoff; three 64-bit allowances (clearance, separation, congestion)."
 use mathlib.Core.Bool.{cond}
 use mathlib.Core.List.{List, [], _∷_}
 use Prim.Native.Nat.{ℕ, zero, suc, _+_, _*_}
@@ -9,7 +9,7 @@ use Rattle.drawing.specs.declared.refusal.Refusal.{Refusal}
 use Rattle.drawing.specs.declared.refusal.Refusal.the-variants.{MalformedFile, TooManyEntries}
 use Rattle.drawing.specs.Entries.{Segment, Node, Exemption}
 
--- what reading a part comes to: what the part says and the bytes behind it, or the refusal. "Within the file the first fault in byte order counts": a part is read from where the one before it ended, and only if that one had no fault.
+-- the outcome of reading a part: what the part says and the bytes after it, or the refusal. SCOPE 7.8: "Within the file the first fault in byte order counts": a part is read from the end of the one before it, and only if that one had no fault.
 pub data Read (A : Type 0) : Type 0 where
   got : A → List ℕ → Read A
   refused : Refusal → Read A
@@ -18,24 +18,24 @@ unfoldable pub then : {A B : Type 0} → Read A → (A → List ℕ → Read B) 
 then (got a l) next = next a l
 then (refused r) next = refused r
 
--- the number that bytes stand for behind a number already read, the most significant byte first
+-- the number n continued by bytes, the most significant byte first
 unfoldable pub bigEndian : ℕ → List ℕ → ℕ
 bigEndian n [] = n
 bigEndian n (b ∷ l) = bigEndian (256 * n + b) l
 
--- a number of k bytes; "bytes missing" is refusal 1
+-- a number of k bytes; SCOPE 7.1: "bytes missing" is refusal 1
 unfoldable pub number : ℕ → List ℕ → Read ℕ
 number k l = cond (leb k (length l)) (got (bigEndian 0 (take k l)) (drop k l)) (refused MalformedFile)
 
--- "64-bit float bits"; the bits of a NaN are read as a NaN
+-- SCOPE 10.1: "64-bit float bits"; the bits of a NaN are read as a NaN
 unfoldable pub float : List ℕ → Read Float
 float l = then (number 8 l) (λ n rest. got (ofBits binary64 n) rest)
 
--- "The file has a wrong version": the one version is 1
+-- SCOPE 7.1: "The file has a wrong version": the one version is 1
 unfoldable pub version : List ℕ → Read ℕ
 version l = then (number 1 l) (λ n rest. cond (eqb n 1) (got n rest) (refused MalformedFile))
 
--- "an orientation byte above 1"
+-- SCOPE 7.1: "an orientation byte above 1"
 unfoldable pub orientation : List ℕ → Read ℕ
 orientation l = then (number 1 l) (λ n rest. cond (ltb 1 n) (refused MalformedFile) (got n rest))
 
@@ -63,7 +63,7 @@ exemption l =
     then (number 4 l1) (λ m l2.
     got (record { net = n; node = m }) l2))
 
--- so many entries, one behind the other
+-- n entries in sequence
 unfoldable pub entries : {A : Type 0} → (List ℕ → Read A) → ℕ → List ℕ → Read (List A)
 entries entry zero l = got [] l
 entries entry (suc n) l =
@@ -71,11 +71,11 @@ entries entry (suc n) l =
     then (entries entry n l1) (λ rest l2.
     got (a ∷ rest) l2))
 
--- a list with its count in front, "a count above the program's limit being 3"
+-- a list after its count. SCOPE 10.2: "a count above the program's limit being 3"
 unfoldable pub counted : {A : Type 0} → ℕ → (List ℕ → Read A) → List ℕ → Read (List A)
 counted limit entry l = then (number 4 l) (λ n rest. cond (ltb limit n) (refused TooManyEntries) (entries entry n rest))
 
--- "threshold, cutoff; three 64-bit allowances (clearance, separation, congestion)"
+-- SCOPE 10.1: "threshold, cutoff; three 64-bit allowances (clearance, separation, congestion)"
 pub record Settings : Type 0 where
   pub threshold : Float
   pub cutoff : Float
@@ -98,7 +98,7 @@ pub record Drawing : Type 0 where
   pub exemptions : List Exemption
   pub settings : Settings
 
--- the parts in their order; "in the program more than 120 segments, 120 nodes or 240 exemptions"
+-- the parts in their order. SCOPE 7.3: "in the program more than 120 segments, 120 nodes or 240 exemptions"
 unfoldable pub parts : List ℕ → Read Drawing
 parts l =
     then (version l) (λ v l1.
@@ -108,7 +108,7 @@ parts l =
     then (settings l4) (λ s l5.
     got (record { segments = ss; nodes = ns; exemptions = es; settings = s }) l5)))))
 
--- "bytes left over" is refusal 1
+-- SCOPE 7.1: "bytes left over" is refusal 1
 unfoldable pub ended : {A : Type 0} → A → List ℕ → Read A
 ended a [] = got a []
 ended a (b ∷ l) = refused MalformedFile

@@ -1,4 +1,4 @@
-// A column of a list: one value of each entry, the entries one behind the other.
+// A column of a list: one value of each entry, the entries in sequence.
 ghost use mathlib.Core.Path.{_≡_};
 ghost use mathlib.Core.List.{_++_, map};
 ghost use Prim.Native.Nat.{_≤_};

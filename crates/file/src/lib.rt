@@ -1,4 +1,4 @@
-// The drawing file: reading its bytes into columns.
+// The drawing file: reading its bytes into columns. SCOPE 10.
 mod bytes;
 mod fill;
 pub mod read;

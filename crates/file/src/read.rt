@@ -8,7 +8,7 @@ use crate::fill::fill_numbers;
 use crate::reading::Reading;
 use crate::scan::scan;
 
-// The faults are found before anything is written, so that a refused file leaves every column as it was.
+// The faults are found before anything is written, so that a refused file leaves every column as it was (SCOPE 8.1).
 pub fn read_drawing(
     bytes: &[u8],
     net: &mut [u32; 120],

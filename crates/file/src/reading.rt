@@ -1,4 +1,4 @@
-// What reading a drawing file answers.
+// What reading a drawing file returns.
 use drawing::Refusal;
 
 // The counts of the three lists, and the settings.

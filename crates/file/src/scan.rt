@@ -1,4 +1,4 @@
-// The faults of a file, in byte order: where it has none, its counts and settings.
+// The faults of a file, in byte order (SCOPE 7.8, 10.2): where it has none, its counts and settings.
 ghost use mathlib.Core.Path.{_≡_};
 ghost use Prim.Native.Nat.{_+_, _≤_};
 ghost use lib.Dec.{ltb};
@@ -15,13 +15,13 @@ use crate::reading::Reading;
 use drawing::Refusal;
 use floats::float_of_bits;
 
-// What is found of one list: how many entries it has, all of them there, or why the file is refused.
+// What is found about one list: its number of entries, none of them missing, or why the file is refused.
 enum Counted {
     Entries(usize),
     Refused(Refusal),
 }
 
-// The list whose count stands at `at`, its entries taken for plain numbers of so many bytes. Bytes missing are a malformed file, but a count above the limit comes first.
+// The list whose count is at `at`, its entries read as plain numbers of `width` bytes. Missing bytes are a malformed file, but a count above the limit comes first.
 fn count_at(bytes: &[u8], at: usize, limit: usize, width: usize) -> Counted
     requires { ⌜ (at ≤ length (now bytes)) × (limit ≤ 240) × (width ≤ 36) ⌝ }
     ensures { λ r. ⌜ r ≡ countOf (counted limit (number width) (drop at (now (bytes .entry)))) ⌝ }
@@ -40,7 +40,7 @@ fn count_at(bytes: &[u8], at: usize, limit: usize, width: usize) -> Counted
     Counted::Entries(n)
 }
 
-// Some byte above 1 among those of n places.
+// Whether some byte is above 1, of n bytes that are `width` apart.
 fn above_one(bytes: &[u8], n: usize, at: usize, width: usize) -> bool
     requires { ⌜ Room 1 width n at (now bytes) ⌝ }
     ensures { λ r. ⌜ r ≡ some-of (λ l. ltb 1 (bigEndian 0 (take 1 l))) (places width n (drop at (now (bytes .entry)))) ⌝ }
@@ -55,7 +55,7 @@ fn above_one(bytes: &[u8], n: usize, at: usize, width: usize) -> bool
     false
 }
 
-// The segments, which stand behind the version byte. The orientation byte of the first one is byte 9.
+// The segments, which follow the version byte. The orientation byte of the first one is byte 9.
 fn count_segments(bytes: &[u8]) -> Counted
     requires { ⌜ 1 ≤ length (now bytes) ⌝ }
     ensures { λ r. ⌜ r ≡ countOf (counted 120 segment (drop 1 (now (bytes .entry)))) ⌝ }
@@ -70,7 +70,7 @@ fn count_segments(bytes: &[u8]) -> Counted
     found
 }
 
-// The counts, and the settings that stand at `at`.
+// The counts, and the settings at `at`.
 fn header_at(bytes: &[u8], at: usize, segments: usize, nodes: usize, exemptions: usize) -> Header
     requires { ⌜ at + 40 ≤ length (now bytes) ⌝ }
     ensures { λ r. ⌜ r ≡ record { segments = segments; nodes = nodes; exemptions = exemptions; threshold = ofBits binary64 (bigEndian 0 (take 8 (drop at (now (bytes .entry))))); cutoff = ofBits binary64 (bigEndian 0 (take 8 (drop (at + 8) (now (bytes .entry))))); clearance = bigEndian 0 (take 8 (drop (at + 16) (now (bytes .entry)))); separation = bigEndian 0 (take 8 (drop (at + 24) (now (bytes .entry)))); congestion = bigEndian 0 (take 8 (drop (at + 32) (now (bytes .entry)))) } ⌝ }
@@ -87,7 +87,7 @@ fn header_at(bytes: &[u8], at: usize, segments: usize, nodes: usize, exemptions:
     }
 }
 
-// The parts one behind the other. A length that is not the file's own is bytes missing or bytes left over.
+// The parts in sequence. Where the length is not that of the parts, bytes are missing or left over.
 pub(crate) fn scan(bytes: &[u8]) -> Reading
     ensures { λ r. ⌜ r ≡ readingOf (read (now (bytes .entry))) ⌝ }
 {

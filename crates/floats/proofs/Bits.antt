@@ -1,4 +1,4 @@
--- The bits of a number are those of its sign and of its magnitude, so these two make the number, and the rank makes it but for the sign of a zero.
+-- The bits of a number are those of its sign and of its magnitude, so these two determine the number, and the rank determines it except for the sign of a zero.
 -- Assumes nothing.
 use mathlib.Core.Path.{_≡_, refl, sym, ap, _∙_, subst}
 use mathlib.Core.Logic.{_⊎_, inl, inr}
@@ -31,7 +31,7 @@ toBits-num f nan p = absurd (p .1)
 toBits-num f (inf s) p = ap (λ (z : ℕ). cond s (top f) 0 + z) (sym (over-bits f))
 toBits-num f (fin s m e) p = let n = m * up e * 2 ^ low f / down e in add-assoc (cond s (top f) 0) ((size n - prec f) * hid f) (n / 2 ^ (size n - prec f))
 
--- ---- a number is known by its bits, and by its sign and its magnitude
+-- ---- a number is determined by its bits, and by its sign and its magnitude
 pub bits-one : (f : Format) (x y : Float) → Num f x → Num f y → toBits f x ≡ toBits f y → x ≡ y
 bits-one f x y p q h = sym (ofBits-toBits f x (p .0)) ∙ ap (ofBits f) h ∙ ofBits-toBits f y (q .0)
 
@@ -42,7 +42,7 @@ pub zero-one : (f : Format) (x : Float) → Num f x → mag f x ≡ 0 → x ≡ 
 unfolding sgn mag
 zero-one f x p h = number-one f x (fin (sgn x) 0 (pos 0)) p (fin-num f (fin (sgn x) 0 (pos 0)) (zero-num f (sgn x))) refl (h ∙ sym (ap (λ (z : ℕ). z / 1) (zero-mul (2 ^ low f))))
 
--- ---- numbers of one rank are one number, or two zeros
+-- ---- numbers of one rank are equal, or two zeros
 abbrev pub Zero : Float → Type 0
 Zero x = x ≡ fin (sgn x) 0 (pos 0)
 

@@ -16,7 +16,7 @@ use Rattle.laws.proofs.Tests.{is-true, is-false, cond-true, cond-false, le-or-l
 use Rattle.floats.proofs.Rank.{mag, sgn, at, distance, rank, rank-is, Num, Fin, ltb-scaled, mag-lt, mag-le, cross-l, cross-r, fin-num, at-zero, zero-num, zero-rank, lt→, →lt, le→, →le, →eq}
 use Rattle.floats.proofs.Rounding.{round-shape, round-num, rnd, rnd-mono, rnd-zero, rnd-pos}
 
--- ---- a sum sees only the values of its two fractions
+-- ---- a sum depends only on the values of its two fractions
 sub-mul : (a b k : ℕ) → (a - b) * k ≡ a * k - b * k
 sub-mul a b k = mul-comm (a - b) k ∙ mul-sub k a b ∙ ap (λ (z : ℕ). z - k * b) (mul-comm k a) ∙ ap (λ (z : ℕ). a * k - z) (mul-comm k b)
 
@@ -59,12 +59,12 @@ sum-value f B l s t p q h k = go s t
     go false false = pick (ltb p q) true false (q - p) (p - q) (distance (B + p) (B + q)) (λ t. omega (arith, ltb→lt p q t)) (λ t. omega (arith, nltb→le p q t))
     go true true = pick (ltb p q) false (ltb q p) (q - p) (p - q) (distance (B - p) (B - q)) (λ t. omega (arith, ltb→lt p q t)) (λ t. omega (arith, nltb→le p q t))
 
--- p / l and a / c are one number, and so are q / l and b / c
+-- p / l equals a / c, and q / l equals b / c
 pub sum-round : (f : Format) (B : ℕ) (s t : Bool) (a b c p q l : ℕ) → 0 < c → 0 < l → a * l ≡ p * c → b * l ≡ q * c → p ≤ B → q ≤ B
     → sum f s a (not t) b c ≡ round f (sign-of s t p q) (distance (at B s p) (at B t q)) l
 sum-round f B s t a b c p q l C L u v h k = sum-same f s a (not t) b c p q l C L u v ∙ sum-value f B l s t p q h k
 
--- the sign is minus where the first is less, and plus where it is not, but for -0 less +0
+-- the sign is minus where the first is less, and plus otherwise, except for -0 - +0
 pub minus-sign : (B : ℕ) (s t : Bool) (p q : ℕ) → p ≤ B → q ≤ B → at B s p < at B t q → sign-of s t p q ≡ true
 unfolding sign-of
 minus-sign B false true p q h k l = absurd (omega arith)
@@ -176,7 +176,7 @@ sub-pos f x y p q h =
     let b : 0 < rnd f (rank f y - rank f x) = rnd-pos f (rank f y - rank f x) (omega arith) in
     →lt f z (sub f y x) (fin-num f z (zero-num f false)) (sub-num f y x q p) (omega (arith, zero-rank f false, sub-rank f y x q p, shift-up f (rank f y) (rank f x) (le-of-lt a)))
 
--- ---- x - x == 0.0 just where x is finite
+-- ---- x - x == 0.0 exactly where x is finite
 pub finite-test : (f : Format) (x : Float) → T (fits f x) → eq (sub f x x) (fin false 0 (pos 0)) ≡ finite x
 unfolding sub eq
 finite-test f nan h = refl

@@ -12,7 +12,7 @@ use Rattle.floats.specs.Values.{lesserOf, greaterOf}
 use Rattle.floats.proofs.Rank.{mag, rank, Num, lt-rank}
 use Rattle.floats.proofs.Gaps.{Good, good-one, good-lt}
 
--- an operation on such numbers that is `on` of the magnitudes, with the laws that it has as an operation on floats
+-- an operation on such numbers that is `on` of the magnitudes, and its laws as an operation on floats
 pub record Extreme (op : Float → Float → Float) (on : ℕ → ℕ → ℕ) : Type 0 where
   pub good : (x y : Float) → Good x → Good y → Good (op x y)
   pub size : (x y : Float) → Good x → Good y → mag binary64 (op x y) ≡ on (mag binary64 x) (mag binary64 y)

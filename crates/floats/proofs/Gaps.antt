@@ -27,7 +27,7 @@ zero-good = record { num = fin-num binary64 plusZero (zero-num binary64 false); 
 pub zero-mag : mag binary64 plusZero ≡ 0
 zero-mag = mag-zero binary64 false (pos 0)
 
--- two such numbers of one magnitude are one number, and their order is that of the magnitudes
+-- two such numbers of one magnitude are equal, and their order is that of the magnitudes
 pub good-one : (x y : Float) → Good x → Good y → mag binary64 x ≡ mag binary64 y → x ≡ y
 good-one x y p q h = number-one binary64 x y (p .num) (q .num) (p .plus ∙ sym (q .plus)) h
 
@@ -56,7 +56,7 @@ abs-mag nan = refl
 abs-mag (inf s) = refl
 abs-mag (fin s m e) = refl
 
--- ---- a rounded number with its sign dropped
+-- ---- a rounded number without its sign
 pub round-good : (a c : ℕ) → Good (round binary64 false a c)
 round-good a c = record { num = round-num binary64 false a c; plus = round-shape binary64 false a c .0 }
 
@@ -80,7 +80,7 @@ module _ (x y : Float) (p : Fin binary64 x) (q : Fin binary64 y) where
   pub sub-good : T (lt y x) → Good (sub binary64 x y)
   sub-good h = record { num = sub-num binary64 x y p q; plus = sub-plus binary64 x y p q (lt→ binary64 y x (fin-num binary64 y q) (fin-num binary64 x p) h) }
 
--- it is one float either way round
+-- the gap is the same in either order
 pub gap-swap : (x y : Float) → Fin binary64 x → Fin binary64 y → gapOf x y ≡ gapOf y x
 gap-swap x y p q = gap-is x y p q ∙ ap (λ (n : ℕ). round binary64 false n (2 ^ 1074)) (turned (rank binary64 x) (rank binary64 y)) ∙ sym (gap-is y x q p)
   where

@@ -31,14 +31,14 @@ module _ (b : ℕ) where
   unfolding patternAt
   pattern-high h = cond-false (ltb b (2 ^ 63)) (2 ^ 64 - 1 - b) (b - 2 ^ 63) (above-half h)
 
--- ---- a pattern comes back from its key
+-- ---- the pattern of a pattern's key is the pattern itself
 pub pattern-of-key : (b : ℕ) → b < 2 ^ 64 → patternAt (key b) ≡ b
 pattern-of-key b h = elim (le-or-lt (2 ^ 63) b) [
   | inl k ↦ ap patternAt (key-high b k) ∙ pattern-low (2 ^ 64 - 1 - b) (omega arith) ∙ omega arith
   | inr k ↦ ap patternAt (key-low b k) ∙ pattern-high (b + 2 ^ 63) (omega arith) ∙ omega arith
 ]
 
--- ---- so patterns of one key are one pattern; and a key has 64 bits too
+-- ---- so patterns with one key are equal; and a key has 64 bits too
 pub key-one : (a b : ℕ) → a < 2 ^ 64 → b < 2 ^ 64 → key a ≡ key b → a ≡ b
 key-one a b p q h = sym (pattern-of-key a p) ∙ ap patternAt h ∙ pattern-of-key b q
 

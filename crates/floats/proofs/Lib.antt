@@ -10,6 +10,6 @@ pub mod Keys
 pub mod NumberKeys
 pub mod TotalOrder
 pub mod Units
--- what the proof of `on_grid` leans on
+-- what the proof of `on_grid` uses
 mod Scaling
 mod GridTest

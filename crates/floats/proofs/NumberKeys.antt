@@ -1,4 +1,4 @@
--- The keys of numbers are in the order of the values; the two zeros alone are equal with different keys. Assumes nothing.
+-- The keys of numbers are in the order of the values; only the two zeros are equal with different keys. Assumes nothing.
 use mathlib.Core.Path.{_≡_, refl, sym, ap, _∙_, subst}
 use mathlib.Core.Logic.{inl, inr}
 use mathlib.Core.Bool.{Bool, true, false, not, cond}
@@ -92,7 +92,7 @@ key-lt x y p q h =
     go B true false m n b c a d t u v k = omega arith
     go B false true m n b c a d t u v k = absurd (omega arith)
 
--- ---- every float comes back from its key, so floats of one key are one float
+-- ---- the float of a float's key is the float itself, so floats with one key are equal
 pub float-back : (x : Float) → T (fits binary64 x) → floatAt (keyOf x) ≡ x
 unfolding keyOf floatAt
 float-back x p = ap (ofBits binary64) (pattern-of-key (toBits binary64 x) (toBits-lt binary64 x p)) ∙ ofBits-toBits binary64 x p
@@ -104,7 +104,7 @@ key-of-small x p = key-small (toBits binary64 x) (toBits-lt binary64 x p)
 pub key-of-one : (x y : Float) → T (fits binary64 x) → T (fits binary64 y) → keyOf x ≡ keyOf y → x ≡ y
 key-of-one x y p q h = sym (float-back x p) ∙ ap floatAt h ∙ float-back y q
 
--- ---- the order of the keys is that of the values, wherever values that are equal have one key
+-- ---- the order of the keys is that of the values, wherever equal values have one key
 module _ (x y : Float) (p : Num binary64 x) (q : Num binary64 y) where
   same-order : (rank binary64 x ≡ rank binary64 y → keyOf x ≡ keyOf y) → lt x y ≡ ltb (keyOf x) (keyOf y)
   same-order h = same-test (lt x y) (ltb (keyOf x) (keyOf y)) (λ t. lt→ltb (keyOf x) (keyOf y) (key-lt x y p q t)) (λ t. →lt binary64 x y p q (up (ltb→lt (keyOf x) (keyOf y) t)))
@@ -115,7 +115,7 @@ module _ (x y : Float) (p : Num binary64 x) (q : Num binary64 y) where
         | inl l ↦ elim (eq-or-lt-of-le l) [ inl e ↦ absurd (omega (arith, h (sym e))) | inr g ↦ absurd (omega (arith, key-lt y x q p (→lt binary64 y x q p g))) ]
       ]
 
-  -- so for values that are not equal, and for values that are no -0
+  -- this holds for values that are not equal, and for values that are not -0
   pub unequal-key : T (not (eq x y)) → lt x y ≡ ltb (keyOf x) (keyOf y)
   unequal-key n = same-order (λ e. absurd (T-not (eq x y) n (→eq binary64 x y p q e)))
 

@@ -1,4 +1,4 @@
--- The rank of a float that fits its format: its value as a multiple of the format's smallest positive value, moved up by `overflow f` so that it is a natural number.
+-- The rank of a float that fits its format: its value as a multiple of the format's smallest positive value, plus `overflow f`, so that it is a natural number.
 -- -infinity is 0, both zeros are `overflow f`, +infinity is 2 * overflow f. The comparisons of IEEE 754 are those of the ranks. Assumes nothing.
 use mathlib.Core.Path.{_≡_, refl, sym, ap, ap₂, _∙_, subst}
 use mathlib.Core.Logic.{_⊎_, inl, inr}
@@ -26,7 +26,7 @@ sgn nan = false
 sgn (inf s) = s
 sgn (fin s m e) = s
 
--- n above B, or below it where the sign is set
+-- B plus n, or B minus n where the sign is set
 abbrev pub at : ℕ → Bool → ℕ → ℕ
 at B true n = B - n
 at B false n = B + n
@@ -99,7 +99,7 @@ mag-lt f s (suc m) e h =
     lt-of-mul-lt-mul-right (down e)
     (lt-of-lt-of-le (lt-of-le-of-lt (le-of-eq (mag-exact f s (suc m) e h)) (mul-lt-mul-of-pos-right (fits-top f s m e h) (pow-pos (low f)))) (le-of-eq r))
 
--- ---- a / c and M / d are one number, and so are b / c and N / d: they compare alike
+-- ---- a / d equals M / c, and b / d equals N / c: they compare alike
 scaled-lt : (a b M N c d : ℕ) → 0 < c → a * c ≡ M * d → b * c ≡ N * d → a < b → M < N
 scaled-lt a b M N c d C p q h = lt-of-mul-lt-mul-right d (lt-of-le-of-lt (le-of-eq (sym p)) (lt-of-lt-of-le (mul-lt-mul-of-pos-right h C) (le-of-eq q)))
 
@@ -113,7 +113,7 @@ eqb-scaled : (a b M N c d : ℕ) → 0 < c → 0 < d → a * c ≡ M * d → b *
 eqb-scaled a b M N c d C D p q =
     same-test (eqb a b) (eqb M N) (λ t. eq→eqb (scaled-eq a b M N c d D p q (eqb→eq a b t))) (λ t. eq→eqb (scaled-eq M N a b d c C (sym p) (sym q) (eqb→eq M N t)))
 
--- and so with signs
+-- the same with signs
 module _ (a b M N c d : ℕ) (C : 0 < c) (D : 0 < d) (p : a * c ≡ M * d) (q : b * c ≡ N * d) where
   zero-same : 0 * c ≡ 0 * d
   zero-same = zero-mul c ∙ sym (zero-mul d)
@@ -127,7 +127,7 @@ module _ (a b M N c d : ℕ) (C : 0 < c) (D : 0 < d) (p : a * c ≡ M * d) (q : 
   level-scaled : (s t : Bool) → level s a t b ≡ level s M t N
   level-scaled s t i = eqb-scaled a b M N c d C D p q i && (Bool·beq s t || eqb-scaled a 0 M 0 c d C D p zero-same i)
 
--- ---- numbers with signs compare as what they are above or below some B
+-- ---- signed numbers compare as B plus or minus their magnitudes
 is-lt : (a b : ℕ) → a < b → true ≡ ltb a b
 is-lt a b h = sym (is-true (ltb a b) (lt→ltb a b h))
 
@@ -149,7 +149,7 @@ below-at B true true M N m n = ltb-same N M (B - M) (B - N) (λ h. omega arith) 
 level-at : (B : ℕ) (s t : Bool) (M N : ℕ) → M ≤ B → N ≤ B → level s M t N ≡ eqb (at B s M) (at B t N)
 level-at B s t M N m n = go s t
   where
-    -- the tests that `level` makes, and the one of the two numbers
+    -- the tests of `level` together are the test of the two numbers
     by : (x : Bool) (a b : ℕ) → (M ≡ N → T x → a ≡ b) → (a ≡ b → (M ≡ N) × T x) → (eqb M N && x) ≡ eqb a b
     by x a b h k =
         same-test (eqb M N && x) (eqb a b) (λ t. eq→eqb (h (eqb→eq M N (and-l (eqb M N) x t)) (and-r (eqb M N) x t)))
@@ -165,7 +165,7 @@ pub compare-at : (B : ℕ) (s t : Bool) (a b M N c d : ℕ) → 0 < c → 0 < d 
     → (below s a t b ≡ ltb (at B s M) (at B t N)) × (level s a t b ≡ eqb (at B s M) (at B t N))
 compare-at B s t a b M N c d C D p q m n = (below-scaled a b M N c d C D p q s t ∙ below-at B s t M N m n, level-scaled a b M N c d C D p q s t ∙ level-at B s t M N m n)
 
--- ---- an infinity: B above or below B, and z is what lies between the two
+-- ---- an infinity is B plus or minus B, and z is strictly between the two
 between : (B M : ℕ) (s : Bool) → M < B → (0 < at B s M) × (at B s M < B + B)
 between B M true h = (omega arith, omega arith)
 between B M false h = (omega arith, omega arith)

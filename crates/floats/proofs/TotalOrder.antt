@@ -123,7 +123,7 @@ in-order a b h = is-true (leb (key a) (key b)) (le→leb (key a) (key b) h)
 out-of-order : (a b : ℕ) → key b < key a → leb (key a) (key b) ≡ false
 out-of-order a b h = is-false (leb (key a) (key b)) (λ t. omega (arith, leb→le (key a) (key b) t))
 
--- a NaN and a number, and the other way round
+-- a NaN and a number, and a number and a NaN
 nan-first : (a b : ℕ) → Key a → Key b → infinity < a % 2 ^ 63 → b % 2 ^ 63 ≤ infinity → leb (key a) (key b) ≡ signSet a
 nan-first a b (inl s) (inl t) h k = in-order a b (omega (arith, s .1, t .1)) ∙ sym (s .0)
 nan-first a b (inl s) (inr t) h k = in-order a b (omega (arith, s .1, t .1)) ∙ sym (s .0)

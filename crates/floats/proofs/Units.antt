@@ -47,7 +47,7 @@ steps-bound (fin s m e) h =
     (le-trans (mul-le-mul-right 64 (leb→le (m * up e) (1048576 * down e) (and-r (eqb (m * up e * 64 % down e) 0) (leb (m * up e) (1048576 * down e)) h))) (le-of-eq (mul-right-comm 1048576 (down e) 64))))
     (down-pos e)
 
--- ---- its unit is so many steps above or below 2 ^ 26
+-- ---- its unit is `steps` above or below 2 ^ 26
 unit-is : (s : Bool) (m : ℕ) (e : ℤ) → unit (fin s m e) ≡ at 67108864 s (steps (fin s m e))
 unfolding unit
 unit-is true m e = refl
@@ -124,7 +124,7 @@ sub-value : (x y : Float) → T (onGrid x) → T (onGrid y) → sub binary64 x y
 unfolding sgn
 sub-value = both (λ x y. sub binary64 x y ≡ round binary64 (sign-of (sgn x) (sgn y) (steps x) (steps y)) (distance (unit x) (unit y)) 64) fin-sub
 
--- a negative value that is no -0 is at least a step below zero
+-- a negative value other than -0 is at least a step below zero
 below-zero : (x : Float) → T (onGrid x) → canonicalZero x ≡ x → T (sgn x) → 0 < steps x
 unfolding canonicalZero sgn
 below-zero nan g h t = absurd t
@@ -144,7 +144,7 @@ unit-at nan g = absurd (grid-value nan g)
 unit-at (inf s) g = absurd (grid-value (inf s) g)
 unit-at (fin s m e) g = unit-is s m e
 
--- a coordinate less one that is no greater, and less one that is greater
+-- x - y where y is no greater, and where it is greater
 pub sub-units : (x y : Float) → T (onGrid x) → T (onGrid y) → canonicalZero x ≡ x → unit y ≤ unit x → sub binary64 x y ≡ ofUnits (unit x - unit y)
 unfolding ofUnits
 sub-units x y g k z h =
@@ -243,7 +243,7 @@ grid-num nan p g = absurd (grid-value nan g)
 grid-num (inf s) p g = absurd (grid-value (inf s) g)
 grid-num (fin s m e) p g = (p, tt)
 
--- floats of one unit are equal, and one float where neither is -0
+-- floats of one unit are equal as numbers, and the same float where neither is -0
 pub unit-one : (x y : Float) → T (fits binary64 x) → T (fits binary64 y) → T (onGrid x) → T (onGrid y) → unit x ≡ unit y → canonicalZero x ≡ canonicalZero y
 unit-one x y p q g k h = canonical-one binary64 x y (grid-num x p g) (grid-num y q k) (eq→ binary64 x y (grid-num x p g) (grid-num y q k) (subst T (sym (eq-units x y g k)) (eq→eqb h)))
 

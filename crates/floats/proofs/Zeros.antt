@@ -1,4 +1,4 @@
--- `canonicalZero` and `absOf`: what they keep, and what comparisons with 0.0 say of them. Assumes nothing.
+-- `canonicalZero` and `absOf`: what they keep, and what comparisons with 0.0 say about them. Assumes nothing.
 use mathlib.Core.Path.{_≡_, refl, sym, ap, _∙_}
 use mathlib.Core.Logic.{_⊎_, inl, inr}
 use mathlib.Core.Bool.{Bool, true, false, _||_, Bool·beq}
@@ -43,7 +43,7 @@ below-zero : (m : ℕ) (e : ℤ) → lt (fin true (suc m) e) plusZero ≡ true
 unfolding lt
 below-zero m e = is-true (ltb 0 (suc m * up e * 1 + 0 * 1 * down e)) (lt→ltb 0 (suc m * up e * 1 + 0 * 1 * down e) (omega (arith, above-zero m e)))
 
--- ---- `canonicalZero` is what the test gives
+-- ---- `canonicalZero` is what the test selects
 pub canonical-zero : (x : Float) → eq x plusZero ≡ true → plusZero ≡ canonicalZero x
 unfolding canonicalZero eq
 canonical-zero nan h = clash false h refl
@@ -98,7 +98,7 @@ canonical-fin f (inf s) p = p
 canonical-fin f (fin s zero e) p = zero-num f false
 canonical-fin f (fin s (suc m) e) p = p
 
--- numbers of one rank become one float
+-- numbers of one rank become the same float
 pub canonical-one : (f : Format) (x y : Float) → Num f x → Num f y → rank f x ≡ rank f y → canonicalZero x ≡ canonicalZero y
 unfolding canonicalZero
 canonical-one f x y p q h = go (rank-one f x y p q h)

@@ -1,10 +1,10 @@
--- The grid of the congestion measure, and its values as whole numbers of 1/64.
+-- The grid of the congestion measure, and its values as whole numbers of 1/64. SCOPE 9.1.
 use mathlib.Core.Bool.{Bool, true, false, _&&_}
 use Prim.Native.Nat.{ℕ, _+_, _-_, _*_, _/_, _%_}
 use lib.Dec.{leb, eqb}
 use lib.Ieee.{Float, nan, inf, fin, binary64, up, down, round}
 
--- "on the grid": a whole multiple of 1/64 with absolute value at most 1,048,576
+-- SCOPE 9.1: "on the grid": a whole multiple of 1/64 with absolute value at most 1,048,576
 unfoldable pub onGrid : Float → Bool
 onGrid nan = false
 onGrid (inf s) = false
@@ -16,7 +16,7 @@ steps nan = 0
 steps (inf s) = 0
 steps (fin s m e) = m * up e * 64 / down e
 
--- 2 ^ 26, as many 64ths as 1,048,576 has
+-- 2 ^ 26, which is 1,048,576 in 64ths
 abbrev pub zeroUnit : ℕ
 zeroUnit = 67108864
 

@@ -1,4 +1,4 @@
--- totalOrder of IEEE 754-2019, section 5.10, on the 64-bit patterns of binary64, and a number for each pattern that is its place in this order.
+-- totalOrder of IEEE 754-2019 (SCOPE 1.3), section 5.10, on the 64-bit patterns of binary64, and the key of a pattern: a number, its position in this order.
 use mathlib.Core.Bool.{Bool, true, false, not, _&&_, cond}
 use Prim.Native.Nat.{ℕ, _+_, _-_, _%_}
 use lib.Dec.{leb, ltb, eqb}
@@ -35,18 +35,18 @@ nansInOrder a b = cond (signSet a) (cond (signSet b) (positiveNansInOrder b a) t
 unfoldable pub totalOrder : ℕ → ℕ → Bool
 totalOrder a b = cond (nanBits binary64 a) (cond (nanBits binary64 b) (nansInOrder a b) (signSet a)) (cond (nanBits binary64 b) (not (signSet b)) (numbersInOrder a b))
 
--- the place of a pattern, a number: the order of these numbers is totalOrder (`key-order` in proofs/TotalOrder.antt)
+-- the position of a pattern, a number: the order of these numbers is totalOrder (`key-order` in proofs/TotalOrder.antt)
 unfoldable pub key : ℕ → ℕ
 key b = cond (ltb b 0x8000_0000_0000_0000) (b + 0x8000_0000_0000_0000) (0xffff_ffff_ffff_ffff - b)
 
--- the pattern at a place
+-- the pattern at a position
 unfoldable pub patternAt : ℕ → ℕ
 patternAt k = cond (ltb k 0x8000_0000_0000_0000) (0xffff_ffff_ffff_ffff - k) (k - 0x8000_0000_0000_0000)
 
--- the place of a float; `nan` has that of the one pattern that `toBits` writes for it
+-- the position of a float; `nan` has that of the one pattern that `toBits` writes for it
 unfoldable pub keyOf : Float → ℕ
 keyOf x = key (toBits binary64 x)
 
--- the float at a place; every NaN pattern is `nan`
+-- the float at a position; every NaN pattern is `nan`
 unfoldable pub floatAt : ℕ → Float
 floatAt k = ofBits binary64 (patternAt k)

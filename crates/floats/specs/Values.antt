@@ -8,14 +8,14 @@ use lib.Ieee.{Float, nan, inf, fin, binary64, sub, lt}
 abbrev pub plusZero : Float
 plusZero = fin false 0 (pos 0)
 
--- "Zeros become +0": every other float stays
+-- SCOPE 3.7, 9.2: "Zeros become +0": every other float is unchanged
 unfoldable pub canonicalZero : Float → Float
 canonicalZero nan = nan
 canonicalZero (inf s) = inf s
 canonicalZero (fin s zero e) = plusZero
 canonicalZero (fin s (suc m) e) = fin s (suc m) e
 
--- the lesser of two by comparison: the second where it is below the first, else the first
+-- SCOPE 15.8: the lesser of two by comparison: the second where it is below the first, else the first
 unfoldable pub lesserOf : Float → Float → Float
 lesserOf a b = cond (lt b a) b a
 
@@ -29,6 +29,6 @@ absOf nan = nan
 absOf (inf s) = inf false
 absOf (fin s m e) = fin false m e
 
--- the gap of two coordinates, |x - y| with one rounded subtraction
+-- SCOPE 3.8: the gap of two coordinates, |x - y| with one rounded subtraction
 unfoldable pub gapOf : Float → Float → Float
 gapOf x y = absOf (sub binary64 x y)

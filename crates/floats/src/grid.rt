@@ -1,4 +1,4 @@
-// The grid of the congestion measure: whole multiples of 1/64.
+// The grid of the congestion measure (SCOPE 9.1): whole multiples of 1/64.
 ghost use mathlib.Core.Path.{_≡_};
 ghost use Rattle.floats.specs.Grid as Grid;
 

@@ -1,4 +1,4 @@
-// The bit pattern of a float, and the float of a bit pattern, for every float and every pattern. No bits are read of a NaN: one pattern stands for it.
+// The bit pattern of a float, and the float of a bit pattern, for every float and every pattern. The bits of a NaN are not read: all NaNs have one pattern.
 ghost use mathlib.Core.Path.{_≡_};
 ghost use lib.Ieee.{binary64, ofBits, toBits};
 

@@ -1,4 +1,4 @@
-// IEEE 754's totalOrder on bit patterns of binary64, and its key: a number whose order is totalOrder.
+// IEEE 754's totalOrder on bit patterns of binary64, and its key: a number whose order is totalOrder. SCOPE 1.3, 15.8.
 ghost use mathlib.Core.Path.{_≡_};
 ghost use Rattle.floats.specs.TotalOrder as TotalOrder;
 ghost use Rattle.floats.specs.Inner.TotalOrder as InnerTotalOrder;
@@ -11,7 +11,7 @@ pub enum Ordering {
     Greater,
 }
 
-// The key of a bit pattern: its place in totalOrder.
+// The key of a bit pattern: its position in totalOrder.
 pub fn total_order_key(bits: u64) -> u64
     ensures { λ r. ⌜ r ≡ TotalOrder.key bits ⌝ }
 {

@@ -1,9 +1,9 @@
-// Zeros, finiteness, the lesser and the greater of two floats, and the sign dropped.
+// Zeros, finiteness, the lesser and the greater of two floats, and the absolute value, by comparisons and negation (SCOPE 15.8).
 ghost use mathlib.Core.Path.{_≡_};
 ghost use lib.Ieee.Scale as Scale;
 ghost use Rattle.floats.specs.Values as Values;
 
-// Both zeros become +0, every other float stays.
+// Both zeros become +0, every other float is unchanged.
 pub fn canonical_zero(x: f64) -> f64
     ensures { λ r. ⌜ r ≡ Values.canonicalZero x ⌝ }
 {
@@ -31,7 +31,7 @@ pub fn greater(a: f64, b: f64) -> f64
     if a < b { b } else { a }
 }
 
-// The float with its sign dropped; a NaN stays.
+// The float without its sign; a NaN stays a NaN.
 pub fn absolute(x: f64) -> f64
     ensures { λ r. ⌜ r ≡ Values.absOf x ⌝ }
 {

@@ -1,4 +1,4 @@
--- A search among words in order, and the range of one key. Assumes nothing.
+-- A search among sorted words, and the range of one key. Assumes nothing.
 use mathlib.Core.Path.{_≡_, refl, sym, ap, _∙_, subst}
 use mathlib.Core.Logic.{inl, inr}
 use mathlib.Core.List.{List}
@@ -13,12 +13,12 @@ use Rattle.floats.specs.TotalOrder.{key, patternAt, keyOf, floatAt}
 use Rattle.floats.proofs.NumberKeys.{float-back, key-of-small}
 use Rattle.key_ranges.specs.Inner.Reach.{Ascending, Passed, Bound, Reached}
 
--- ---- a search from any place: down to where all words before are less than v, then up to the first that is not
+-- ---- a search from any index: down to where all words before are less than v, then up to the first that is not
 module _ (l : List ℕ) (v : ℕ) where
   pub passed-none : (at : ℕ) → at ≤ 0 → Passed l v at
   passed-none at h = record { inside = omega arith; below = λ i p. absurd (omega arith) }
 
-  -- the words before the last one are no greater
+  -- the words before are no greater than the last of them
   pub passed-down : (at : ℕ) → Ascending l → at ≤ length l → 0 < at → getD l (at - 1) 0 < v → Passed l v at
   passed-down at o k h p = record { inside = k; below = λ i q. let z = o i (at - 1) (omega arith) (omega arith) in omega arith }
 
@@ -29,7 +29,7 @@ module _ (l : List ℕ) (v : ℕ) where
       below = λ i p. elim (le-or-lt at i) [ inl q ↦ let e : i ≡ at = omega arith in rw e k | inr q ↦ s .below i q ];
     }
 
-    -- the words behind are no less
+    -- the words after it are no less
     pub bound-here : Ascending l → v ≤ getD l at 0 → Bound l v at
     bound-here o k = record { inside = s .inside; below = s .below; above = λ i p q. let z = o at i p q in omega arith }
 
@@ -37,7 +37,7 @@ module _ (l : List ℕ) (v : ℕ) where
     bound-end h = record { inside = s .inside; below = s .below; above = λ i p q. absurd (omega arith) }
 
 -- ---- one key's range
--- no key is the last of all words, which stands for a NaN other than the one that has a key
+-- no key is the greatest word, whose pattern is a NaN other than the one that `toBits` writes
 last-word : floatAt (2 ^ 64 - 1) ≡ nan
 unfolding floatAt ofBits patternAt
 last-word = refl
@@ -52,7 +52,7 @@ key-next x p = elim (same-or-not (keyOf x) (2 ^ 64 - 1)) [
   | inr n ↦ omega (arith, n, key-of-small x p)
 ]
 
--- the word behind the lower key
+-- the word after the lower key
 pub next-fits : (b : ℕ) (x y : Float) → b ≡ keyOf (sub binary64 x y) → b + 1 < 2 ^ 64
 next-fits b x y e = omega (arith, key-next (sub binary64 x y) (sub-fits binary64 x y))
 

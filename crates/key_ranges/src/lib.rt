@@ -1,4 +1,4 @@
-// Which keys of coordinates, in order, are within a cutoff of one of them.
+// Which of sorted keys of coordinates are within a cutoff of one of them. SCOPE 3.10, 5.12.
 pub mod range;
 
 pub use range::Range;

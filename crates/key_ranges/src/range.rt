@@ -1,17 +1,17 @@
-// The keys within a cutoff of one of them. Keys that are in order have them side by side.
+// The keys within a cutoff of one of them. In sorted keys these are adjacent.
 ghost use Prim.Native.Nat.{_≤_, _<_};
 ghost use lib.ListN.{length};
 ghost use Rattle.key_ranges.specs.Inner.Reach.{Ascending, Passed, Bound, Within, Reached};
 use floats::float_of_key;
 use floats::key_of;
 
-// The places from `from` on, and before `to`.
+// The indices from `from` on, and before `to`.
 pub struct Range {
     pub from: usize,
     pub to: usize,
 }
 
-// Down from `near` to a place whose keys before it are all less than v. Where the bounds rise it takes no step; with it the answer is right wherever a search begins, so that nothing need be known of how sums of floats rise.
+// Goes down from `near` to an index before which all keys are less than v. Where the bounds rise from one search to the next it takes no step; with it the answer is right wherever a search begins, so that no law on sums of floats is needed.
 fn step_down(keys: &[u64], v: u64, near: usize) -> usize
     requires { ⌜ near ≤ length (now keys) ⌝ }
     ensures { λ r. ⌜ (Ascending (now (keys .entry)) → Passed (now (keys .entry)) v r) ⌝ }
@@ -26,7 +26,7 @@ fn step_down(keys: &[u64], v: u64, near: usize) -> usize
     at
 }
 
-// The first place whose key is at least v; the number of keys where there is none. It is looked for from `near` on, and takes as many steps as it is away from there.
+// The first index whose key is at least v; the number of keys where there is none. The search begins at `near`, and takes as many steps as the answer is away from there.
 fn first_at_least(keys: &[u64], v: u64, near: usize) -> usize
     requires { ⌜ near ≤ length (now keys) ⌝ }
     ensures { λ r. ⌜ (Ascending (now (keys .entry)) → Bound (now (keys .entry)) v r) ⌝ }
@@ -41,9 +41,9 @@ fn first_at_least(keys: &[u64], v: u64, near: usize) -> usize
     at
 }
 
-// `Excluded(query.fixed - cutoff), Excluded(query.fixed + cutoff)`: the keys strictly between those two, for the wire at place j; each end is looked for from the same end of `near` on.
-// A coordinate that is no -0 and a cutoff above 0 have no -0 for difference or sum, so that it does not matter that the keys tell the two zeros apart. No key is the last of all words, so that the next one is a word too.
-// The caller has keys in order, j among them, and `near` too: it fills the ranges of all wires, each from the last one's. Where j or `near` is not among the keys, `near` comes back.
+// `Excluded(query.fixed - cutoff), Excluded(query.fixed + cutoff)`: the keys strictly between those two, for the wire at index j; the search for each end begins at the same end of `near`.
+// With a coordinate that is not -0 and a cutoff above 0, neither difference nor sum is -0, so it does not matter that the two zeros have different keys. No key is the greatest word, so `below + 1` is a word too.
+// The caller passes sorted keys, with j and `near` within them: it computes the ranges of all wires, each from the one before. Where j or `near` is past the keys, `near` is returned.
 pub fn range_of(keys: &[u64], j: usize, cutoff: f64, near: Range) -> Range
     ensures { λ r. ⌜ (Ascending (now (keys .entry)) × (j < length (now (keys .entry))) × Within (length (now (keys .entry))) near → Reached (now (keys .entry)) j cutoff r) ⌝ }
 {

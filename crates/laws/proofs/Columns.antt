@@ -1,4 +1,4 @@
--- A column of values is written into a slice from an offset on: the invariant of the loop that does it. Assumes nothing.
+-- A loop that writes a column of values into a slice from an offset on: its invariant. Assumes nothing.
 use mathlib.Core.Path.{_≡_, refl, sym, ap, _∙_}
 use mathlib.Core.List.{List, map}
 use Prim.Native.Nat.{ℕ, _+_, _≤_, _<_}
@@ -7,7 +7,7 @@ use native.Mathlib.Omega.{arith}
 use lib.ListN.{length, getD, set, length-set, length-map, List·getD-map}
 use lib.Seq.{paste, paste-zero, paste-suc}
 
--- i values of the column `col` stand in s, from b on; the rest of s is that of s₀
+-- the first i values of the column `col` are in s, from index b on; the rest of s is that of s₀
 pub record Written {A : Type 0} (s₀ : List A) (b : ℕ) (col s : List A) (i : ℕ) : Type 0 where
   pub small : i ≤ length col
   pub fits : b + length col ≤ length s₀

@@ -1,4 +1,4 @@
--- How many different numbers a list holds, which sees only which numbers these are; lists that hold none twice; and the different ones of a list in order. Assumes nothing.
+-- How many different numbers a list holds, which depends only on which numbers these are; lists without repeats; and the different numbers of a sorted list. Assumes nothing.
 use mathlib.Core.Path.{_≡_, refl, sym, ap, _∙_, subst}
 use mathlib.Core.Logic.{inl, inr}
 use mathlib.Core.List.{List, [], _∷_}
@@ -71,7 +71,7 @@ taken-out x (y ∷ l) = go (eqb x y) refl (taken-out x l)
         let h : bit (not (among y (keep (otherThan x) l))) ≡ bit (not (among y l)) = ap (λ (a : Bool). bit (not a)) (still x y l e) in
         omega arith
 
--- ---- only which numbers there are counts
+-- ---- only which numbers there are matters
 pub different-within : (l r : List ℕ) → ((x : ℕ) → Mem x l → Mem x r) → different l ≤ different r
 unfolding different
 different-within [] r h = zero-le
@@ -120,7 +120,7 @@ different-none (x ∷ l) = ne-eqb (different (x ∷ l)) 0 (λ e. let h = differe
     one y (inl e) = inl e
     one y (inr m) = absurd m
 
--- ---- no number twice: in any order, and by places
+-- ---- no number twice: in any order, and by indices
 pub different-keeps : {l r : List ℕ} → Perm l r → Different l → Different r
 different-keeps none d = d
 different-keeps (first {x = x} p) d = (λ m. d .0 (perm-mem x (perm-sym p) m), different-keeps p (d .1))
@@ -146,7 +146,7 @@ pub rising-different : (l : List ℕ) → Pairwise (λ x y. x < y) l → Differe
 rising-different [] r = tt
 rising-different (x ∷ l) r = (λ m. let h = r .0 x m in omega arith, rising-different l (r .1))
 
--- ---- those of a list, each once where equal ones stand side by side
+-- ---- the numbers of a list, each once where equal ones are neighbours
 pub distinct-mem : (z : ℕ) (l : List ℕ) → Mem z (distinct l) → Mem z l
 unfolding distinct
 distinct-mem z [] m = m
@@ -180,7 +180,7 @@ distinct-few (x ∷ l) = go (differs x l) (distinct-few l)
     go true h = omega arith
     go false h = omega arith
 
--- of numbers in order they rise, and are as many as there are different ones
+-- of sorted numbers they rise, and there are as many as there are different ones
 pub distinct-rising : (l : List ℕ) → Sorted leb l → Pairwise (λ x y. x < y) (distinct l)
 unfolding distinct
 distinct-rising [] s = tt

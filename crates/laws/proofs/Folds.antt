@@ -1,4 +1,4 @@
--- Folds by an operation that is associative and commutative and has a unit: sums, counts, greatest and least ones alike. Assumes nothing.
+-- Folds by an operation that is associative and commutative and has a unit: sums, counts, greatest and least values. Assumes nothing.
 use mathlib.Core.Path.{_≡_, refl, sym, ap, ap₂, _∙_}
 use mathlib.Core.List.{List, [], _∷_, _++_, map}
 use mathlib.Core.Logic.{inl, inr}
@@ -27,7 +27,7 @@ module _ {M : Type 0} {_⊕_ : M → M → M} {u : M} (L : Monoid _⊕_ u) where
   pub idr : (a : M) → a ⊕ u ≡ a
   idr a = L .comm a u ∙ L .idl a
 
-  -- the middle two change places
+  -- the middle two are exchanged
   pub exchange : (a b c d : M) → (a ⊕ b) ⊕ (c ⊕ d) ≡ (a ⊕ c) ⊕ (b ⊕ d)
   exchange a b c d = L .assoc a b (c ⊕ d) ∙ ap (λ (z : M). a ⊕ z) (sym (L .assoc b c d) ∙ ap (λ (z : M). z ⊕ d) (L .comm b c) ∙ L .assoc c b d) ∙ sym (L .assoc a c (b ⊕ d))
 
@@ -64,7 +64,7 @@ module _ {M : Type 0} {_⊕_ : M → M → M} {u : M} (L : Monoid _⊕_ u) where
   fold-map f g [] = refl
   fold-map f g (x ∷ l) = ap (λ (z : M). f (g x) ⊕ z) (fold-map f g l)
 
-  -- ---- over one entry beside a list, and over two lists: entry by entry of the one, or of the other
+  -- ---- over one entry with each of a list, and over two lists: entry by entry of the first, or of the second
   fold-beside : {A B : Type 0} (f : A × B → M) (x : A) (m : List B) → fold _⊕_ u f (beside x m) ≡ fold _⊕_ u (λ y. f (x, y)) m
   unfolding fold
   fold-beside f x [] = refl

@@ -1,4 +1,4 @@
--- The least of a list of values that a number ranks: which values are in the list decides it, and not their order. Assumes nothing.
+-- The least of a list of values that are ranked by a number: it depends on which values are in the list, not on their order. Assumes nothing.
 use mathlib.Core.Path.{_≡_, refl, sym, ap, _∙_, subst}
 use mathlib.Core.Logic.{inl, inr}
 use mathlib.Core.List.{List, [], _∷_, _++_, append-assoc}
@@ -21,7 +21,7 @@ pub record Ranked {A : Type 0} (P : A → Type 0) (lt : A → A → Bool) (rank 
   pub below : (x y : A) → P x → P y → lt x y ≡ ltb (rank x) (rank y)
   pub one : (x y : A) → P x → P y → rank x ≡ rank y → x ≡ y
 
--- what the least is: one of the list, and no other ranks below it
+-- what the least is: an entry of the list that no other ranks below
 abbrev pub IsLeast : {A : Type 0} → (A → ℕ) → List A → Option A → Type 0
 IsLeast {A} rank l none = (x : A) → Mem x l → ⊥
 IsLeast {A} rank l (some m) = Mem m l × ((x : A) → Mem x l → rank m ≤ rank x)
@@ -77,7 +77,7 @@ module _ {A : Type 0} {P : A → Type 0} {lt : A → A → Bool} {rank : A → �
       alone y (inl e) = le-of-eq (ap rank (sym e))
       alone y (inr m) = absurd m
 
-  -- ---- it is known by which values the list reaches
+  -- ---- lists that reach each other's values have the same least
   pub least-same : (l r : List A) → All P l → All P r → ((x : A) → Mem x l → Reaches rank r x) → ((x : A) → Mem x r → Reaches rank l x) → least lt l ≡ least lt r
   least-same l r h k f g = go (least lt l) (least lt r) (is-least l h) (is-least r k)
     where
@@ -106,7 +106,7 @@ module _ {A : Type 0} {P : A → Type 0} {lt : A → A → Bool} {rank : A → �
   pub least-append : (l r : List A) → All P l → All P r → lesser lt (least lt l) (least lt r) ≡ least lt (l ++ r)
   least-append l r h k = least-unique (l ++ r) (all-append P l r h k) (lesser lt (least lt l) (least lt r)) (join l r h k (least lt l) (least lt r) (is-least l h) (is-least r k))
 
-  -- ---- so the lesser of two values commutes and associates, as data
+  -- ---- so the lesser of two values is commutative and associative, as data
   listed : (a : Option A) → List A
   listed none = []
   listed (some x) = x ∷ []

@@ -93,7 +93,7 @@ unfolding some-of
 some-map p f [] = refl
 some-map p f (x ∷ l) = rw (some-map p f l)
 
--- ---- a scan for an entry that passes: what is left to look at after i entries
+-- ---- a scan for an entry that passes: the entries after the first i
 module _ {A : Type 0} (p : A → Bool) (l : List A) (i : ℕ) where
   pub scan-hit : (d : A) → i < length l → p (getD l i d) ≡ true → some-of p (drop i l) ≡ true
   unfolding some-of
@@ -185,7 +185,7 @@ module _ {A : Type 0} where
     | inr b ↦ let r = mem-pairs z l b in (inr (r .0), inr (r .1))
   ]
 
-  -- two different entries are a pair, one way round or the other
+  -- two different entries are a pair, in one order or the other
   pub pairs-mem : (x y : A) (l : List A) → Mem x l → Mem y l → (x ≡ y → ⊥) → Mem {A = A × A} (x, y) (pairs l) ⊎ Mem {A = A × A} (y, x) (pairs l)
   unfolding pairs
   pairs-mem x y (z ∷ l) (inl e) (inl g) n = absurd (n (e ∙ sym g))

@@ -1,4 +1,4 @@
--- A loop whose steps are charged, within an allowance: at each place the entries that are left, from where the loop stands and within what is left of the allowance, come to what all of them come to. One law for every loop over a list of steps. Assumes nothing.
+-- A loop whose steps are charged, within an allowance: at each index the remaining entries, from the loop's state and within the remaining visits, give what all entries give. One law for every loop over a list of steps. Assumes nothing.
 use mathlib.Core.Path.{_≡_, sym, ap, _∙_}
 use mathlib.Core.List.{List, [], _∷_, map}
 use Prim.Native.Nat.{ℕ, suc, _+_, _≤_, _<_}
@@ -10,7 +10,7 @@ use Rattle.laws.specs.Charged.{Charged, runs}
 use Rattle.laws.specs.Inner.Allowance.{Outcome, spent, left, within, onward}
 use Rattle.laws.proofs.Runs.{within-none, within-next, onward-spent, onward-left}
 
--- the entries `rest`, from the state s with m left of the allowance, come to `all`
+-- the entries `rest`, from the state s with m remaining visits, give `all`
 pub record ComesTo {S X : Type 0} (step : S → X → Charged S) (all : Outcome S) (rest : List X) (s : S) (m : ℕ) : Type 0 where
   pub come : within m (runs step s rest) ≡ all
 
@@ -26,11 +26,11 @@ module _ {S X : Type 0} {step : S → X → Charged S} {all : Outcome S} {rest :
     pub loop-stops : within m (step s x) ≡ spent → all ≡ spent
     loop-stops e = split ∙ ap (λ (z : Outcome S). onward z (λ t k. within k (runs step t later))) e ∙ onward-spent (λ t k. within k (runs step t later))
 
-  -- ---- none is left
+  -- ---- no entry is left
   pub loop-ends : rest ≡ [] → all ≡ left s m
   loop-ends e = sym (o .come) ∙ ap (λ (l : List X). within m (runs step s l)) e ∙ within-none step m s
 
--- ---- the entries by their places, where each of the first n words of a table stands for one of them
+-- ---- the entries by index, where each of the first n words of a table encodes one of them
 module _ {W X : Type 0} (d : W) (f : W → X) (n : ℕ) (words : List W) (inside : n ≤ length words) (l : List X) (entries : map f (take n words) ≡ l) where
   pub table-length : length l ≡ n
   table-length = ap length (sym entries) ∙ length-map (take n words) f ∙ length-take-le n words inside

@@ -49,7 +49,7 @@ module _ {A : Type 0} where
   perm-all P swap h = (h .1 .0, (h .0, h .1 .1))
   perm-all P (via p q) h = perm-all P q (perm-all P p h)
 
-  -- what holds of each two entries either way round holds in every order of the list
+  -- what holds of each two entries in either order holds in every order of the list
   pub perm-pairwise : {R : A → A → Type 0} → ((x y : A) → R x y → R y x) → {l r : List A} → Perm l r → Pairwise R l → Pairwise R r
   perm-pairwise t none w = w
   perm-pairwise t (first p) w = (λ y m. w .0 y (perm-mem y (perm-sym p) m), perm-pairwise t p (w .1))
@@ -74,7 +74,7 @@ module _ {A : Type 0} where
   pub perm-both : {a b c d : List A} → Perm a b → Perm c d → Perm (a ++ c) (b ++ d)
   perm-both {b = b} {c = c} p q = via (perm-left c p) (perm-right b q)
 
-  -- an entry goes to the front
+  -- an entry moves to the front
   pub perm-front : (l : List A) (x : A) (r : List A) → Perm (l ++ x ∷ r) (x ∷ l ++ r)
   perm-front [] x r = perm-refl (x ∷ r)
   perm-front (y ∷ l) x r = via (first (perm-front l x r)) swap
@@ -87,11 +87,11 @@ module _ {A : Type 0} where
       perm-nil (x ∷ r) = first (perm-nil r)
   perm-turn (x ∷ l) r = via (first (perm-turn l r)) (perm-sym (perm-front r x l))
 
-  -- the first two of three change places
+  -- the first two of three parts are exchanged
   pub perm-change : (l m r : List A) → Perm (l ++ (m ++ r)) (m ++ (l ++ r))
   perm-change l m r = via (perm-eq (sym (append-assoc l m r))) (via (perm-left r (perm-turn l m)) (perm-eq (append-assoc m l r)))
 
-  -- ---- two entries of a list change places
+  -- ---- two entries of a list are exchanged
   pub perm-replace : (l : List A) (i : ℕ) (v d : A) → i < length l → Perm (getD l i d ∷ set l i v) (v ∷ l)
   perm-replace [] i v d h = absurd (not-suc-le-zero h)
   perm-replace (x ∷ l) zero v d h = swap
@@ -161,12 +161,12 @@ module _ {A B : Type 0} where
   pub perm-cross : {l r : List A} {m n : List B} → Perm l r → Perm m n → Perm (cross l m) (cross r n)
   perm-cross {r = r} {m = m} p q = via (cross-left m p) (cross-right r q)
 
--- the pairs of one list that pass a test, under h, where neither sees which entry comes first
+-- the pairs of one list that pass a test, under h, where neither depends on which entry comes first
 module _ {A C : Type 0} (p : A × A → Bool) (h : A × A → C) (p-turn : (x y : A) → p (x, y) ≡ p (y, x)) (h-turn : (x y : A) → h (x, y) ≡ h (y, x)) where
   abbrev out : List (A × A) → List C
   out l = chosen p h l
 
-  -- the pairs of two entries in front of a list
+  -- the pairs of a list with two entries before it
   two : (x y : A) (l : List A) → out (pairs (x ∷ y ∷ l)) ≡ put (p (x, y)) (h (x, y)) (out (beside x l) ++ (out (beside y l) ++ out (pairs l)))
   unfolding pairs chosen
   two x y l = ap (put (p (x, y)) (h (x, y))) (chosen-append p h (beside x l) (beside y l ++ pairs l) ∙ ap (λ (t : List C). out (beside x l) ++ t) (chosen-append p h (beside y l) (pairs l)))
@@ -188,7 +188,7 @@ module _ {A C : Type 0} (p : A × A → Bool) (h : A × A → C) (p-turn : (x y 
 
 -- where `same` tests whether two entries are equal, lists in which every entry occurs equally often are related
 module _ {A : Type 0} (same : A → A → Bool) (own : (x : A) → same x x ≡ true) (one : (x y : A) → same x y ≡ true → x ≡ y) where
-  -- an entry that occurs can be taken to the front
+  -- an entry that occurs can be moved to the front
   taken : (x : A) (l : List A) → 0 < count (same x) l → (r : List A) × Perm l (x ∷ r)
   unfolding fold
   taken x [] h = absurd (omega arith)

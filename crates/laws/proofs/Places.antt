@@ -1,4 +1,4 @@
--- What holds of each entry of a list holds at each place, and the other way round. Assumes nothing.
+-- What holds of each entry of a list holds at each index, and conversely. Assumes nothing.
 use mathlib.Core.Path.{_≡_, refl, sym, subst}
 use mathlib.Core.Logic.{inl, inr}
 use mathlib.Core.List.{List, [], _∷_}
@@ -10,13 +10,13 @@ use lib.Seq.{getD-take, length-take-le}
 use Rattle.laws.specs.Lists.{Mem, All}
 
 module _ {A : Type 0} where
-  -- what stands at a place is one of the list
+  -- what is at an index is an entry of the list
   pub at-mem : (l : List A) (i : ℕ) (d : A) → i < length l → Mem (getD l i d) l
   at-mem [] i d h = absurd (not-suc-le-zero h)
   at-mem (x ∷ l) zero d h = inl refl
   at-mem (x ∷ l) (suc i) d h = inr (at-mem l i d (le-of-suc-le-suc h))
 
-  -- and one of the list stands at some place
+  -- and each entry is at some index
   pub mem-at : (x : A) (l : List A) (d : A) → Mem x l → (i : ℕ) × (i < length l) × (x ≡ getD l i d)
   mem-at x (y ∷ l) d (inl e) = (0, omega arith, e)
   mem-at x (y ∷ l) d (inr m) = let g = mem-at x l d m in (suc (g .0), omega (arith, g .1), g .2)

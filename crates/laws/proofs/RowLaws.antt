@@ -1,4 +1,4 @@
--- The dictionary order of rows is a total order in which only equal rows stand either way round. Assumes nothing.
+-- The dictionary order of rows is total, and rows that may come in either order are equal. Assumes nothing.
 use mathlib.Core.Path.{_≡_, refl, sym, _∙_}
 use mathlib.Core.Logic.{_⊎_, inl, inr}
 use mathlib.Core.Bool.{true, false}
@@ -23,7 +23,7 @@ pub row-next : (x y : ℕ) (a b : List ℕ) → x ≡ y → rowLe (x ∷ a) (y �
 unfolding rowLe
 row-next x y a b e = rw (le-ltb x y (omega arith), eq-eqb x y e)
 
--- which of the three it is, from the answer
+-- which of the three cases it is, from the answer
 row-true : (x y : ℕ) (a b : List ℕ) → rowLe (x ∷ a) (y ∷ b) ≡ true → (x < y) ⊎ ((x ≡ y) × (rowLe a b ≡ true))
 row-true x y a b h = elim (le-or-lt y x) [
   | inr k ↦ inl k

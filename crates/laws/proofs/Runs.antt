@@ -11,7 +11,7 @@ use Rattle.laws.specs.Charged.{Charged, free, visit, after, runs, settle
 use Rattle.laws.specs.Inner.Allowance.{Outcome, spent, left, within, onward, reply}
 use Rattle.laws.proofs.Tests.{le-or-lt, cond-true, cond-false}
 
--- ---- one run after another: with nothing before it or behind it, and three of them grouped either way
+-- ---- one run after another: with nothing before it or after it, and three of them grouped either way
 nothing-after : {A B : Type 0} (a : A) (f : A → Charged B) → after (free a) f ≡ f a
 nothing-after a f = let e : 0 + f a .cost ≡ f a .cost = omega arith in λ i. record { value = f a .value; cost = e i }
 
@@ -37,7 +37,7 @@ module _ {A : Type 0} where
   unfolding within
   within-short m c h = cond-false (leb (c .cost) m) _ _ (lt-leb (c .cost) m h)
 
-  -- what an outcome tells of its run
+  -- what an outcome says about its run
   pub within-left : (m : ℕ) (c : Charged A) (a : A) (k : ℕ) → within m c ≡ left a k → (c .cost ≤ m) × (c .value ≡ a) × (m - c .cost ≡ k)
   within-left m c a k e = elim (le-or-lt (c .cost) m) [
     | inl h ↦ let p = left-parts (sym (within-enough m c h) ∙ e) in (h, p .0, p .1)
@@ -50,7 +50,7 @@ module _ {A : Type 0} where
   pub within-free : (m : ℕ) (a : A) → within m (free a) ≡ left a m
   within-free m a = within-enough m (free a) (omega arith) ∙ ap (left a) (omega arith)
 
-  -- ---- one visit: with nothing left the run stops before it
+  -- ---- one visit: with none remaining the run stops before it
   pub visit-spent : (c : Charged A) → within 0 (visit c) ≡ spent
   visit-spent c = within-short 0 (visit c) (omega arith)
 
@@ -61,7 +61,7 @@ module _ {A : Type 0} where
   ]
 
 module _ {A B : Type 0} where
-  -- ---- going on with what is left
+  -- ---- the next run within the remaining visits
   pub onward-spent : (k : A → ℕ → Outcome B) → onward spent k ≡ spent
   unfolding onward
   onward-spent k = refl
@@ -70,7 +70,7 @@ module _ {A B : Type 0} where
   unfolding onward
   onward-left a m k = refl
 
-  -- running one after the other within m is running the first within m and the second within what is left
+  -- running one after the other within m is running the first within m and the second within the remaining visits
   pub within-after : (m : ℕ) (c : Charged A) (k : A → Charged B) → within m (after c k) ≡ onward (within m c) (λ a r. within r (k a))
   within-after m c k = elim (le-or-lt (c .cost) m) [
     | inl h ↦ second h (le-or-lt (k (c .value) .cost) (m - c .cost)) ∙ sym (rw (within-enough m c h) (onward-left (c .value) (m - c .cost) (λ a r. within r (k a))))
@@ -123,7 +123,7 @@ module _ {A R : Type 0} (report : A → ℕ → R) (refusal : R) where
   unfolding settle
   settle-short m c h = cond-false (leb (c .cost) m) _ _ (lt-leb (c .cost) m h)
 
-  -- a run within the allowance answers so
+  -- and a run within the allowance gives the same answer
   pub settle-within : (m : ℕ) (c : Charged A) → reply report refusal m (within m c) ≡ settle report refusal m c
   unfolding reply
   settle-within m c = elim (le-or-lt (c .cost) m) [

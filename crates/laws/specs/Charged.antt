@@ -1,4 +1,4 @@
--- Charged runs: a value with what it costs in visits, and what a call answers of it within its allowance.
+-- Charged runs: a value with its cost in visits (SCOPE 4), and what a call answers within its allowance.
 use mathlib.Core.Bool.{Bool, cond}
 use mathlib.Core.List.{List, [], _∷_}
 use Prim.Native.Nat.{ℕ, suc, _+_}
@@ -20,7 +20,7 @@ visit c = record { value = c .value; cost = suc (c .cost) }
 abbrev pub after : {A B : Type 0} → Charged A → (A → Charged B) → Charged B
 after c k = record { value = k (c .value) .value; cost = c .cost + k (c .value) .cost }
 
--- a run for each entry of a list, each from the state that the one before it left
+-- a run for each entry of a list, each from the state that the run before it left
 unfoldable pub runs : {S X : Type 0} → (S → X → Charged S) → S → List X → Charged S
 runs step s [] = free s
 runs step s (x ∷ l) = after (step s x) (λ s′. runs step s′ l)
@@ -29,6 +29,6 @@ runs step s (x ∷ l) = after (step s x) (λ s′. runs step s′ l)
 abbrev pub reaches : {A : Type 0} → ℕ → Charged A → Bool
 reaches m c = leb (c .cost) m
 
--- what a call answers: the report of value and cost where its allowance reaches the cost, and the refusal where it does not
+-- what a call answers (SCOPE 7.7, 8.3): the report of value and cost where its allowance reaches the cost, and the refusal where it does not
 unfoldable pub settle : {A R : Type 0} → (A → ℕ → R) → R → ℕ → Charged A → R
 settle report refusal m c = cond (reaches m c) (report (c .value) (c .cost)) refusal

@@ -1,4 +1,4 @@
--- The different numbers of a list in order, each once.
+-- The different numbers of a sorted list, each once.
 use mathlib.Core.List.{List, [], _∷_}
 use mathlib.Core.Bool.{Bool, true, not}
 use Prim.Native.Nat.{ℕ}
@@ -10,7 +10,7 @@ abbrev pub differs : ℕ → List ℕ → Bool
 differs x [] = true
 differs x (y ∷ l) = not (eqb x y)
 
--- of numbers that are equal and stand side by side only the last stays: of numbers in order, the different ones
+-- of equal neighbours only the last stays: of sorted numbers, the different ones
 unfoldable pub distinct : List ℕ → List ℕ
 distinct [] = []
 distinct (x ∷ l) = put (differs x l) x (distinct l)

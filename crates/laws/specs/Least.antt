@@ -1,4 +1,4 @@
--- The least of a list, absent where the list is empty. `lt a b` is true where a is strictly below b.
+-- The least of a list, absent where the list is empty (SCOPE 3.5, 3.9, 3.15). `lt a b` is true where a is strictly below b.
 use mathlib.Core.Bool.{Bool, cond}
 use mathlib.Core.List.{List, [], _∷_}
 use mathlib.Core.Option.{Option, none, some}

@@ -1,11 +1,11 @@
--- Membership, tests, counts and folds over a list, and the lists of all pairs.
+-- Membership, tests, counts and folds over a list, and the lists of all pairs that the figures of SCOPE 3 are defined over.
 use mathlib.Core.Path.{_≡_}
 use mathlib.Core.Logic.{_⊎_}
 use mathlib.Core.List.{List, [], _∷_, _++_}
 use mathlib.Core.Bool.{Bool, true, false, _||_}
 use Prim.Native.Nat.{ℕ, _+_}
 
--- x is one of the list
+-- x is an entry of the list
 abbrev pub Mem : {A : Type 0} → A → List A → Type 0
 Mem x [] = ⊥
 Mem x (y ∷ l) = (x ≡ y) ⊎ Mem x l
@@ -33,7 +33,7 @@ chosen p h (x ∷ l) = put (p x) (h x) (chosen p h l)
 abbrev pub keep : {A : Type 0} → (A → Bool) → List A → List A
 keep p l = chosen p (λ x. x) l
 
--- f over the entries, put together by an operation with the unit u: sums, greatest ones, least ones
+-- f over the entries, combined by an operation with the unit u: sums, greatest and least values
 unfoldable pub fold : {A M : Type 0} → (M → M → M) → M → (A → M) → List A → M
 fold _⊕_ u f [] = u
 fold _⊕_ u f (x ∷ l) = _⊕_ (f x) (fold _⊕_ u f l)
@@ -55,12 +55,12 @@ abbrev pub beside : {A B : Type 0} → A → List B → List (A × B)
 beside {A} {B} x [] = []
 beside {A} {B} x (y ∷ l) = (x, y) ∷ beside x l
 
--- all pairs of an entry of the one list with an entry of the other
+-- all pairs of an entry of one list with an entry of the other
 unfoldable pub cross : {A B : Type 0} → List A → List B → List (A × B)
 cross [] m = []
 cross (x ∷ l) m = beside x m ++ cross l m
 
--- all pairs of two entries of one list at different places, each unordered pair once, the earlier entry first
+-- all pairs of two entries of one list at different indices, each unordered pair once, the earlier entry first
 unfoldable pub pairs : {A : Type 0} → List A → List (A × A)
 pairs [] = []
 pairs (x ∷ l) = beside x l ++ pairs l

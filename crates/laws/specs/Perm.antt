@@ -1,5 +1,5 @@
--- Two lists that hold the same entries, each equally often: "two orders hold the same whole entries, bit by bit, each equally often".
--- `proofs/Perms.antt` shows that this is so: related lists count alike under every test, and where equality can be tested lists that count alike are related.
+-- Two lists that hold the same entries, each equally often. SCOPE 6.6: "two orders hold the same whole entries, bit by bit, each equally often".
+-- `proofs/Perms.antt` shows that the definition says this: related lists count alike under every test, and where equality can be tested lists that count alike are related.
 use mathlib.Core.List.{List, [], _∷_}
 
 pub data Perm {A : Type 0} : List A → List A → Type 0 where

@@ -1,4 +1,4 @@
--- A loop that copies a list into a slice, entry by entry, each as another type holds it: its invariant. Assumes nothing.
+-- A loop that copies a list into a slice, entry by entry, each converted to another type: its invariant. Assumes nothing.
 use mathlib.Core.Path.{_≡_, refl, ap, _∙_}
 use mathlib.Core.List.{List, [], _∷_, map, map-append}
 use Prim.Native.Nat.{ℕ, _+_, _<_}
@@ -7,7 +7,7 @@ use native.Mathlib.Omega.{arith}
 use lib.ListN.{length, getD, set, take, length-set}
 use lib.Seq.{take-suc, take-suc-set}
 
--- the first i entries of s, seen by g, are those of xs, seen by f; s is as long as s₀
+-- g of the first i entries of s is f of those of xs; s is as long as s₀
 pub record Copied {A B C : Type 0} (g : B → C) (f : A → C) (xs : List A) (s₀ s : List B) (i : ℕ) : Type 0 where
   pub len : length s ≡ length s₀
   pub is : map g (take i s) ≡ map f (take i xs)

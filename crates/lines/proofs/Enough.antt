@@ -41,7 +41,7 @@ map-take f zero l = refl
 map-take f (suc n) [] = refl
 map-take {B = B} f (suc n) (x ∷ l) = ap (λ (r : List B). f x ∷ r) (map-take f n l)
 
--- what has been copied once the loop ends
+-- what is copied when the loop ends
 module _ {A B C : Type 0} (g : B → C) (f : A → C) where
   pub copied-enough : {xs : List A} {s₀ s : List B} {i : ℕ} (n : ℕ) → Copied g f xs s₀ s i → i ≤ n → n ≤ i → n ≡ enough (length xs) → length s₀ ≡ 4097 → map g (take (length xs) s) ≡ take 4097 (map f xs)
   copied-enough {xs} {s₀} {s} {i} n p small large e l =

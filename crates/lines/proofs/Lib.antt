@@ -1,4 +1,4 @@
--- What the proofs of the functions lean on; `records` cites the first two.
+-- What the proofs of the functions use; `records` cites the first two.
 pub mod Copying
 pub mod Enough
 mod LineColumns

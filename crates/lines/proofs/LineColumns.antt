@@ -1,4 +1,4 @@
--- The columns of a list of lines: field by field, and laid out of enough lines they are those of all. Assumes nothing.
+-- The columns of a list of lines: field by field, and columns made of enough lines are those of all. Assumes nothing.
 use mathlib.Core.Path.{_≡_, ap, _∙_}
 use mathlib.Core.List.{List, map, map-map}
 use Prim.Native.Nat.{ℕ}
@@ -13,6 +13,6 @@ pub columns-of-lines : (l : List Line) → columnsOf (map entryOf l) ≡ segment
 unfolding columnsOf entryOf
 columns-of-lines l = simp map-map
 
--- columns that were laid out of enough lines are those of all
+-- columns that were made of enough lines are those of all
 pub laid-out : (c : SegmentColumns) (n m : ℕ) (lines : List Line) → c ≡ columnsOf (map entryOf (take m lines)) → m ≡ enough n → length lines ≡ 4097 → c ≡ columnsOf (map entryOf (take n lines))
 laid-out c n m lines e k l = e ∙ ap (λ (i : ℕ). columnsOf (map entryOf (take i lines))) k ∙ ap (λ (r : List Line). columnsOf (map entryOf r)) (enough-taken n lines l)

@@ -1,4 +1,4 @@
--- The loop of `unpack`: the first i lines stand in the columns. Assumes nothing.
+-- The loop of `unpack`: the first i lines are in the columns. Assumes nothing.
 use mathlib.Core.Path.{_≡_, refl, sym, _∙_}
 use mathlib.Core.List.{List, map, map-id}
 use Prim.Native.Nat.{ℕ, _+_, _≤_, _<_}

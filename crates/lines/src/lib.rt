@@ -1,4 +1,4 @@
-// A list of records on its way to the columns: a line is an entry as the columns have it, and the lines of a list are laid out in columns. The crates above make the lines of their records and measure them.
+// From a list of records to columns (SCOPE 2.6, 15.9): a line is an entry in the form that the columns have, and the lines of a list are copied into columns. The crates above make lines of their records and measure them.
 pub mod line;
 
 pub use line::Line;

@@ -1,4 +1,4 @@
-// A list of records on its way to the columns. A call refuses more than 4,096 entries whatever they are, so 4,097 of a list are enough for any of them.
+// From a list of records to columns. A call refuses more than 4,096 entries whatever they are (SCOPE 7.3), so the first 4,097 of a list are enough.
 ghost use mathlib.Core.Path.{_≡_};
 ghost use mathlib.Core.List.{map};
 ghost use Prim.Native.Nat.{_≤_};
@@ -7,7 +7,7 @@ ghost use Rattle.drawing.specs.Entries.{segmentColumns, columnsOf};
 ghost use Rattle.lines.specs.Orientation.{orientationByte};
 ghost use Rattle.lines.specs.Inner.Lines.{entryOf, enough};
 
-// A segment as the columns have it.
+// A segment in the form that the columns have.
 pub struct Line {
     pub net: u32,
     pub orientation: u8,
@@ -30,7 +30,7 @@ pub fn orientation_byte(horizontal: bool) -> u8
     if horizontal { 1 } else { 0 }
 }
 
-// Lays the lines out in columns, the first n of them or all, and says how many these are. The premises hold by the types: the prover does not know the length of an array behind a reference, its owner does.
+// Copies the lines into columns, the first n of them or all, and returns how many these are. The premises hold by the types: here the prover does not know the length of an array that is passed by reference; the array's owner does.
 pub fn unpack(
     lines: [Line; 4097],
     n: usize,

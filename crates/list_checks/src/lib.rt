@@ -1,4 +1,4 @@
-// The checks of a call's input that the measures share, refusals 2 to 5, in document 01's order. Nothing lent is written, and all entries are seen before any work starts.
+// The checks of a call's input that the measures share, refusals 2 to 5, in the order of SCOPE 7. Nothing lent is written, and all entries are checked before any work starts.
 ghost use mathlib.Core.Path.{_≡_};
 ghost use Rattle.laws.specs.Lists.{some-of};
 ghost use Rattle.drawing.specs.Refusals.{firstOf};
@@ -11,7 +11,7 @@ use drawing::Refusal;
 use drawing::node_unfit;
 use drawing::segment_unfit;
 
-// 2: the columns of one list differ in length.
+// SCOPE 7.2: the columns of one list differ in length.
 pub fn segments_differ(
     net: &[u32],
     orientation: &[u8],
@@ -56,14 +56,14 @@ fn exemptions_differ(net: &[u32], node: &[u32]) -> bool
     net.len() != node.len()
 }
 
-// 3: a list holds more than 4,096 entries.
+// SCOPE 7.3: a list holds more than 4,096 entries.
 fn too_many(n: usize) -> bool
     ensures { λ r. ⌜ r ≡ Conditions.tooMany n ⌝ }
 {
     4096 < n
 }
 
-// 4: the scratch is shorter than 32 times (segments + nodes) plus 64 words. The product might wrap; as many entries as the scratch is long enough for cannot.
+// SCOPE 7.4: the scratch is shorter than 32 times (segments + nodes) plus 64 words. This product might wrap; the number of entries that the scratch is long enough for cannot.
 pub fn short_scratch(words: usize, segments: usize, nodes: usize) -> bool
     ensures { λ r. ⌜ r ≡ Conditions.shortScratch words segments nodes ⌝ }
 {
@@ -77,7 +77,7 @@ pub fn short_scratch(words: usize, segments: usize, nodes: usize) -> bool
     entries - segments < nodes
 }
 
-// 5: unfit entries.
+// SCOPE 7.5: unfit entries.
 fn segments_unfit(
     net: &[u32],
     orientation: &[u8],
@@ -112,7 +112,7 @@ fn nodes_unfit(id: &[u32], x: &[f64], y: &[f64], width: &[f64], height: &[f64]) 
     false
 }
 
-// The checks 2, 3, 4 and 5 of segments and a scratch of so many words.
+// The checks 2, 3, 4 and 5 of segments and the number of words of the scratch.
 pub fn check_segments(
     net: &[u32],
     orientation: &[u8],
@@ -176,7 +176,7 @@ pub fn check_lists(
     Check::Passed
 }
 
-// The check 5 of segments and nodes. Columns of one list that differ in length are refused first, with 2, so that it may be called with any.
+// The check 5 of segments and nodes. Columns of one list that differ in length are refused first, with 2, so that it may be called with any columns.
 pub fn check_entries(
     net: &[u32],
     orientation: &[u8],

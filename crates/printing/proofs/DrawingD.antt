@@ -1,4 +1,4 @@
--- Drawing D: its file says D, and its sheet is document 01's three lines. By computing the definitions. Assumes nothing.
+-- Drawing D: its file says D, and its sheet is the three lines of SCOPE 11.5. By computing the definitions. Assumes nothing.
 use mathlib.Core.Path.{_≡_, refl, ap, _∙_}
 use mathlib.Core.List.{List, [], _∷_, _++_}
 use Prim.Native.Nat.{ℕ}
@@ -67,7 +67,7 @@ pub congestion-of-d : congestionLine (densityAnswer (columnsOf (drawing .segment
 unfolding columnsOf congestionLine congestionWord fields gap float decimal leading hexadecimal glyph ofBits toBits
 congestion-of-d = ap congestionLine (OfCongestion.marked .D-sheet)
 
--- document 01's "Output", byte by byte
+-- SCOPE 11.5, the sheet of D: "Output", byte by byte
 pub sheet-of-d : sheet bytes ≡ clearanceText ++ (separationText ++ congestionText)
 unfolding sheet printed lines measured scratchWords
 sheet-of-d = ap printed file-of-d ∙ three clearance-of-d separation-of-d congestion-of-d

@@ -1,4 +1,4 @@
--- From a file's reading to its sheet: what the columns hold where the file is read, and which text each answer of the reader leads to. Assumes nothing.
+-- From a file's reading to its sheet: what the columns hold where the file is read, and which text follows from each answer of the reader. Assumes nothing.
 use mathlib.Core.Path.{_≡_, refl, sym, ap, subst, _∙_}
 use mathlib.Core.List.{List, _++_, map}
 use Prim.Native.Nat.{ℕ, _+_, _≤_}
@@ -24,7 +24,7 @@ use Rattle.printing.specs.Sheet.{fileWord, refusal, clearanceLine, separ
 use Rattle.text.specs.Inner.TextPut.{Put}
 use Rattle.text.proofs.TextPuts.{put-same}
 
--- the answers of the reader are told apart
+-- the two answers of the reader differ
 abbrev IsRead : Reading → Type 0
 IsRead (answers.Read h) = Unit {0}
 IsRead (answers.Refused r) = ⊥
@@ -43,11 +43,11 @@ unfolding readingOf printed
 refused-sheet (got d rest) why e = absurd (subst IsRead (sym e) tt)
 refused-sheet (refused w) why e = ap (refusal fileWord) (ap (refusalFrom why) e)
 
--- the front of a column is its list's
+-- the front of a filled column is f of its list
 column-front : {A B : Type 0} (f : A → B) (l : List A) (old : List B) → take (length l) (map f l ++ drop (length l) old) ≡ map f l
 column-front f l old = ap (λ (k : ℕ). take k (map f l ++ drop (length l) old)) (sym (length-map l f)) ∙ take-append-seam (map f l) (drop (length l) old)
 
--- what stands behind an answer that a file is read
+-- what an answer that a file is read says about the file
 pub record Said (r : Read Drawing) (h : Header) : Type 0 where
   pub drawing : Drawing
   pub rest : List ℕ
@@ -59,19 +59,19 @@ unfolding readingOf
 said (got d rest) h e = record { drawing = d; rest = rest; is = refl; header = ap (headerFrom h) e }
 said (refused w) h e = absurd (subst IsRead e tt)
 
--- equal columns, equal lists of columns
+-- equal columns make equal lists
 five : {A B C D E R : Type 0} (f : A → B → C → D → E → R) {a p : A} {b q : B} {c r : C} {d s : D} {e t : E} → a ≡ p → b ≡ q → c ≡ r → d ≡ s → e ≡ t → f a b c d e ≡ f p q r s t
 five f {a} {p} {b} {q} {c} {r} {d} {s} {e} {t} x y z u v = ap (λ k. f k b c d e) x ∙ ap (λ k. f p k c d e) y ∙ ap (λ k. f p q k d e) z ∙ ap (λ k. f p q r k e) u ∙ ap (f p q r s) v
 
 four : {A B C D R : Type 0} (f : A → B → C → D → R) {a p : A} {b q : B} {c r : C} {d s : D} → a ≡ p → b ≡ q → c ≡ r → d ≡ s → f a b c d ≡ f p q r s
 four f {a} {p} {b} {q} {c} {r} {d} {s} x y z u = ap (λ k. f k b c d) x ∙ ap (λ k. f p k c d) y ∙ ap (λ k. f p q k d) z ∙ ap (f p q r) u
 
--- what is lent of a column has so many entries
+-- the lent part of a column has n entries
 pub prefix-count : {A : Type 0} (n : ℕ) (l : List A) → n ≤ length l → n ≡ length (take n l)
 prefix-count n l h = sym (length-take-le n l h)
 
 module _ {r : Read Drawing} {h : Header} (q : Said r h) where
-  -- what is lent of a column that the reader filled: so many entries as the header says
+  -- the lent part of a column that the reader filled: as many entries as the header says
   lent-column : {A B : Type 0} (list : Drawing → List A) (f : A → B) (n : ℕ) → n ≡ length (list (q .drawing)) → (column old : List B) → column ≡ columnAfter list f r old → take n column ≡ map f (list (q .drawing))
   unfolding columnAfter
   lent-column list f n same column old e =
@@ -134,12 +134,12 @@ module _ {r : Read Drawing} {h : Header} (q : Said r h) where
       ap (λ z. exemptionColumns z (take (h .exemptions) m)) (lent-column l (λ z. z .net) _ exemption-count n n′ a)
       ∙ ap (exemptionColumns (map (λ z. z .net) (q .drawing .exemptions))) (lent-column l (λ z. z .node) _ exemption-count m m′ b)
 
-  -- the lines of what is lent are the file's sheet
+  -- the lines of the lent columns are the file's sheet
   pub lines-lent : {s : SegmentColumns} {n : NodeColumns} {e : ExemptionColumns} → s ≡ columnsOf (q .drawing .segments) → n ≡ nodeColumnsOf (q .drawing .nodes) → e ≡ exemptionColumnsOf (q .drawing .exemptions) → measured s n e (settingsOf h) ≡ printed r
   unfolding printed lines settingsOf headerOf
   lines-lent a b c = four measured a b c (ap settingsOf (q .header)) ∙ sym (ap printed (q .is))
 
--- three texts, each said otherwise
+-- three texts, each replaced by an equal one
 pub three : {a b c d e f : List ℕ} → a ≡ d → b ≡ e → c ≡ f → a ++ (b ++ c) ≡ d ++ (e ++ f)
 three {a} {b} {c} {d} {e} {f} p q r = ap (λ l. l ++ (b ++ c)) p ∙ ap (λ l. d ++ (l ++ c)) q ∙ ap (λ l. d ++ (e ++ l)) r
 

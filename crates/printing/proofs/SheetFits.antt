@@ -1,4 +1,4 @@
--- A sheet that has been put into a buffer is no longer than the buffer: what a caller needs to lend the text on.
+-- A sheet that was put into a buffer is no longer than the buffer: what a caller needs to pass the text on as a slice.
 use mathlib.Core.Path.{_≡_, ap, _∙_}
 use mathlib.Core.List.{List, _++_}
 use native.Mathlib.Omega.{arith}

@@ -5,7 +5,7 @@ use Rattle.drawing.specs.declared.gap.Gap.{Gap}
 use Rattle.drawing.specs.declared.gap.Gap.the-variants.{Absent, Present}
 use Rattle.text.specs.Text.{float}
 
--- "an absent gap is `none`"
+-- SCOPE 11.3: "an absent gap is `none`"
 unfoldable pub none : List ℕ
 none = 110 ∷ 111 ∷ 110 ∷ 101 ∷ []
 
@@ -13,7 +13,7 @@ unfoldable pub gap : Gap → List ℕ
 gap Absent = none
 gap (Present x) = float x
 
--- "one space parts two fields, a line feed closes each line": the fields behind the first one of a line
+-- SCOPE 11.3: "one space parts two fields, a line feed closes each line": the fields after the first one of a line
 unfoldable pub fields : List (List ℕ) → List ℕ
 fields [] = 10 ∷ []
 fields (f ∷ l) = 32 ∷ f ++ fields l

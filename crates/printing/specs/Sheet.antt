@@ -1,4 +1,4 @@
--- The text of a sheet: "three lines", or "a refused file only `file refused` and the number".
+-- The text of a sheet. SCOPE 11.1, 11.4: "three lines", or "a refused file only `file refused` and the number".
 use mathlib.Core.List.{List, [], _∷_, _++_}
 use Prim.Native.Nat.{ℕ}
 use Rattle.drawing.specs.declared.refusal.Refusal.{Refusal}
@@ -33,32 +33,32 @@ fileWord = 102 ∷ 105 ∷ 108 ∷ 101 ∷ []
 unfoldable pub refusedWord : List ℕ
 refusedWord = 114 ∷ 101 ∷ 102 ∷ 117 ∷ 115 ∷ 101 ∷ 100 ∷ []
 
--- "A refused measure prints its name, `refused` and the number"
+-- SCOPE 11.4: "A refused measure prints its name, `refused` and the number"
 unfoldable pub refusal : List ℕ → Refusal → List ℕ
 refusal name r = name ++ fields (refusedWord ∷ decimal (numberOf r) ∷ [])
 
--- "least, violations, visits"
+-- SCOPE 11.2: "least, violations, visits"
 unfoldable pub clearanceLine : ClearanceAnswer → List ℕ
 clearanceLine (ofClearance.Report r) = clearanceWord ++ fields (gap (r .«minimum_clearance») ∷ decimal (r .violations) ∷ decimal (r .visits) ∷ [])
 clearanceLine (ofClearance.Refused r) = refusal clearanceWord r
 
--- "least, least nonzero, visits"
+-- SCOPE 11.2: "least, least nonzero, visits"
 unfoldable pub separationLine : SeparationAnswer → List ℕ
 separationLine (ofSeparation.Report r) = separationWord ++ fields (gap (r .minimum) ∷ gap (r .«minimum_positive») ∷ decimal (r .visits) ∷ [])
 separationLine (ofSeparation.Refused r) = refusal separationWord r
 
--- "total, congested, pair overlap, peak, least nonzero close gap, visits"
+-- SCOPE 11.2: "total, congested, pair overlap, peak, least nonzero close gap, visits"
 unfoldable pub congestionLine : CongestionAnswer → List ℕ
 congestionLine (ofCongestion.Report r) =
     let c = r .congestion in
     congestionWord ++ fields (float (c .«total_length») ∷ float (c .«congested_length») ∷ float (c .«pair_overlap_length») ∷ decimal (c .«peak_close_neighbors») ∷ gap (r .«minimum_positive») ∷ decimal (r .visits) ∷ [])
 congestionLine (ofCongestion.Refused r) = refusal congestionWord r
 
--- the words of scratch that the program lends to each call: "32 times (segments + nodes) plus 64 words" for 120 segments and 120 nodes
+-- the words of scratch that the program lends to each call. SCOPE 2.7: "32 times (segments + nodes) plus 64 words" for 120 segments and 120 nodes
 unfoldable pub scratchWords : ℕ
 scratchWords = 7744
 
--- the three lines of columns and settings: clearance, separation, congestion, each by its own allowance
+-- SCOPE 11.1: the three lines of columns and settings: clearance, separation, congestion, each with its own allowance
 unfoldable pub measured : SegmentColumns → NodeColumns → ExemptionColumns → Settings → List ℕ
 measured s n e set =
     clearanceLine (clearanceAnswer s n e (set .threshold) (set .clearance) scratchWords)
@@ -72,6 +72,6 @@ unfoldable pub printed : Read Drawing → List ℕ
 printed (got d rest) = lines d
 printed (refused r) = refusal fileWord r
 
--- "reads it from standard input and writes three lines"
+-- SCOPE 11.1: "reads it from standard input and writes three lines"
 unfoldable pub sheet : List ℕ → List ℕ
 sheet bytes = printed (read bytes)

@@ -1,4 +1,4 @@
-// The lines of a sheet, put into a lent buffer from an index on. Each function answers the index behind its text.
+// The lines of a sheet, put into a lent buffer from an index on (SCOPE 11.2 to 11.4). Each function returns the index after its text.
 ghost use mathlib.Core.List.{[], _∷_, _++_};
 ghost use Rattle.drawing.specs.Refusals.{numberOf};
 ghost use Rattle.text.specs.Text as Text;
@@ -25,7 +25,7 @@ fn put_gap(gap: Gap, text: &mut [u8], at: usize) -> usize
     }
 }
 
-// Fields, each with the space in front of it.
+// Fields, each with the space before it.
 fn gap_field(gap: Gap, text: &mut [u8], at: usize) -> usize
     ensures { λ r. ⌜ Put 17 (now (text .entry)) at (32 ∷ Fields.gap gap) (now (text .exit)) r ⌝ }
 {
@@ -56,7 +56,7 @@ fn gap_and_visits(gap: Gap, visits: usize, text: &mut [u8], at: usize) -> usize
     put_byte(b'\n', text, end)
 }
 
-// What stands behind the name in the line of a refused measure or file.
+// What follows the name in the line of a refused measure or file.
 fn refused_fields(why: Refusal, text: &mut [u8], at: usize) -> usize
     ensures { λ r. ⌜ Put 30 (now (text .entry)) at (Fields.fields (Sheet.refusedWord ∷ Text.decimal (numberOf why) ∷ [])) (now (text .exit)) r ⌝ }
 {

@@ -1,4 +1,4 @@
-// The sheet of a drawing file: from the file's bytes to the bytes of the text.
+// The sheet of a drawing file: from the file's bytes to the bytes of the text. SCOPE 11.1.
 ghost use mathlib.Core.Path.{_≡_};
 ghost use mathlib.Core.List.{_++_};
 ghost use lib.ListN.{length, drop};
@@ -15,7 +15,7 @@ use file::Reading;
 use file::read_drawing;
 use separation_call::measure_parallel_separation_bounded;
 
-// The three lines of a drawing that has been read.
+// The three lines of a drawing that was read.
 fn put_lines(
     net: &[u32],
     orientation: &[u8],

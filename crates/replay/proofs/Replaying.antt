@@ -1,4 +1,4 @@
--- What the replay's functions need: a part that is whole lies within its buffer, and the front of a buffer is the sheet that was put there.
+-- What the proofs of the replay's functions use: a whole part is within its buffer, and the front of a buffer is the sheet that was put there.
 use mathlib.Core.Path.{_≡_, sym, ap, subst, _∙_}
 use mathlib.Core.Bool.{Bool, true}
 use mathlib.Core.List.{List, _++_}

@@ -1,6 +1,6 @@
-// Replays a stored sample from standard input: drawing files, each with the sheet that the Rust gives for it. Writes how many of these sheets are the library's too, and how many are not.
+// Replays a stored sample from standard input: drawing files, each with the sheet that the Rust gives for it. Writes how many of these sheets equal the library's, and how many do not.
 //
-// A record is the length of a drawing file, the file, the length of its sheet and the sheet; a length has 32 bits, big-endian. Where a part is not whole or does not fit its buffer nothing behind it can be told apart, so that the record counts as differing and the run ends.
+// A record is the length of a drawing file, the file, the length of its sheet and the sheet; a length has 32 bits, big-endian. Where a part is incomplete or does not fit its buffer, nothing after it can be read as records, so the record counts as differing and the run ends.
 ghost use mathlib.Core.Path.{_≡_};
 ghost use mathlib.Core.Bool.{true};
 ghost use Rattle.printing.specs.Sheet as Sheet;
@@ -8,14 +8,14 @@ ghost use Rattle.replay.specs.Inner.Parts.{Within};
 use libc::STDIN_FILENO;
 use libc::STDOUT_FILENO;
 
-// What is read where a part may begin: a part of so many bytes, at the front of its buffer; one that is not whole or does not fit; or the end of the input.
+// What is read where a part may begin: a part of this number of bytes, at the front of its buffer; one that is incomplete or does not fit; or the end of the input.
 enum Part {
     Whole(usize),
     Broken,
     End,
 }
 
-// What a record comes to.
+// The outcome of a record.
 enum Outcome {
     Agrees,
     Differs,
@@ -33,7 +33,7 @@ fn length_of(a: u8, b: u8, c: u8, d: u8) -> usize {
     256 * (256 * (256 * (a as usize) + (b as usize)) + (c as usize)) + (d as usize)
 }
 
-// A part of that length.
+// Reads a part of that length.
 fn read_whole(length: usize, buffer: &mut [u8]) -> Part
     ensures { λ r. ⌜ Within r (now (buffer .exit)) ⌝ }
 {
@@ -71,7 +71,7 @@ fn agrees(bytes: &[u8], expected: &[u8]) -> bool
     check::same(&text[..length], expected)
 }
 
-// The rest of a record whose file has been read.
+// The rest of a record whose file was read.
 fn replay_file(bytes: &[u8]) -> Outcome {
     let mut expected = [0u8; 256];
     let part = read_part(&mut expected);

@@ -1,4 +1,4 @@
--- Columns of words in one slice: a column's words by place, and what a store leaves as it was. Assumes nothing.
+-- Columns of words in one slice: a column's words by index, and what a store leaves as it was. Assumes nothing.
 use mathlib.Core.Path.{_≡_, refl, sym, ap, _∙_}
 use mathlib.Core.Logic.{_⊎_, inl, inr}
 use mathlib.Core.List.{List, [], _∷_, map}
@@ -35,13 +35,13 @@ module _ (n k : ℕ) (s : List ℕ) where
   pub column-at : (i : ℕ) → i < n → getD (column n k s) i 0 ≡ getD s (k * n + i) 0
   column-at i h = getD-take n (drop (k * n) s) i 0 h ∙ getD-drop (k * n) s i 0
 
-  -- a store before the column or behind it
+  -- a store before the column or after it
   pub column-set : (i v : ℕ) → (i < k * n) ⊎ (k * n + n ≤ i) → column n k (set s i v) ≡ column n k s
   column-set i v (inl h) = ap (take n) (drop-set-lt (k * n) s i v h)
   column-set i v (inr h) =
       let e : i ≡ k * n + (i - k * n) = omega arith in
       ap (λ (j : ℕ). column n k (set s j v)) e ∙ ap (take n) (drop-set-add (k * n) s (i - k * n) v) ∙ take-set-le n (drop (k * n) s) (i - k * n) v (omega arith)
 
--- a word of a column that stands for the rows
+-- a word of a column that holds f of the rows
 pub row-word : (l : List Row) (k j : ℕ) (s : List ℕ) (f : Row → ℕ) → column (length l) k s ≡ map f l → j < length l → getD s (k * length l + j) 0 ≡ f (rowFrom l j)
 row-word l k j s f e h = sym (column-at (length l) k s j h) ∙ ap (λ (c : List ℕ). getD c j 0) e ∙ getD-map f l j noRow 0 h

@@ -1,4 +1,4 @@
--- The numbers of the events put in order by their keys are the events in order. Assumes nothing.
+-- The event numbers sorted by their keys are the sorted events. Assumes nothing.
 use mathlib.Core.Path.{_≡_, refl, sym, ap, _∙_, subst}
 use mathlib.Core.List.{List, [], _∷_, _++_, map}
 use Prim.Native.Nat.{ℕ, suc, _+_, _*_, _≤_, _<_}
@@ -40,7 +40,7 @@ module _ (s o : List ℕ) (l : List Row) where
       λ i. (sym (row-word l 3 j s (λ r. r .start) b q) ∙ ap (λ (p : ℕ). getD s p 0) at ∙ sym (getD-drop (2 * n) s (n + j) 0)) i ∷ 1 ∷ j ∷ [])
       ∙ ap (sortBy eventsInOrder) (events-both 0 l)
 
--- the first words of r are the numbers of the events in order, by the keys of ends and starts in s; behind them r is as s
+-- the first words of r are the numbers of the sorted events, by the keys of ends and starts in s; after them r equals s
 pub record EventsOrdered (n : ℕ) (s r : List ℕ) : Type 0 where
   pub rest : drop (2 * n) r ≡ drop (2 * n) s
   pub small : All (λ e. e < 2 * n) (take (2 * n) r)
@@ -50,7 +50,7 @@ pub record EventsOrdered (n : ℕ) (s r : List ℕ) : Type 0 where
 pub later-column : (n : ℕ) (s r : List ℕ) → EventsOrdered n s r → (k : ℕ) → 2 ≤ k → column n k r ≡ column n k s
 later-column n s r o k h = ap (take n) (drop-past (2 * n) (k * n) r s (o .rest) (mul-le-mul-right n h))
 
--- r is s with all numbers in front, and o is r with the numbers in order
+-- r is s with all numbers at the front, and o is r with the numbers sorted
 events-are : (s r o : List ℕ) (n : ℕ) → 4 * n ≤ length s → r ≡ upTo (2 * n) ++ drop (2 * n) s → o ≡ sorted r (2 * n) (2 * n) 1 → EventsOrdered n s o
 events-are s r o n room e g =
     let h = all-ordered s r o (2 * n) (2 * n) 1 (omega arith) (omega arith) e g in

@@ -1,4 +1,4 @@
--- Rows that are ordered in the words behind the first 16 for each segment: how many they are, and how the whole slice stands afterwards. Assumes nothing.
+-- Rows that are sorted in the words after the first 16 for each segment: how many there are, and what the whole slice is afterwards. Assumes nothing.
 use mathlib.Core.Path.{_≡_, sym, ap, _∙_, subst}
 use mathlib.Core.List.{List}
 use Prim.Native.Nat.{ℕ, _-_, _*_, _≤_}
@@ -15,7 +15,7 @@ use Rattle.rows.specs.Inner.Tables.{Orderable, RowsOrdered}
 use Rattle.rows.proofs.Oriented.{oriented-few}
 use Rattle.rows.proofs.RowTables.{rows-placed}
 
--- e is what the words behind became
+-- e is the new content of these words
 module _ (s e : List ℕ) (o n : ℕ) (c : SegmentColumns) (agree : SegmentsAgree c) (room : 21 * length (c .net) ≤ length s)
     (orders : (n ≡ rowCount o c (length (midOf (16 * length (c .net)) (length s - 16 * length (c .net)) s))) × (e ≡ rowsPlaced o c (midOf (16 * length (c .net)) (length s - 16 * length (c .net)) s))) where
   abbrev from : ℕ

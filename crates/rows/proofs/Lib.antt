@@ -3,7 +3,7 @@ pub mod Oriented
 pub mod ToSweep
 pub mod ColumnParts
 pub mod LentRows
--- what the functions' proofs lean on, and what callers use of their equations
+-- what the functions' proofs use, and what callers use of their equations
 pub mod Pastes
 pub mod RowTables
 pub mod SpreadTables

@@ -1,4 +1,4 @@
--- The rows of one orientation: they are in order, each is that of a segment, and the order of the list decides nothing. Assumes nothing.
+-- The rows of one orientation: they are sorted, each is that of a segment, and the order of the list decides nothing. Assumes nothing.
 use mathlib.Core.Path.{_≡_, sym, _∙_}
 use mathlib.Core.List.{List}
 use Prim.Native.Nat.{ℕ, _≤_}
@@ -31,7 +31,7 @@ words-one a b e = λ i. record { net = getD (e i) 3 0; line = getD (e i) 0 0; st
 rows-one-order : {l r : List Row} → Perm l r → sortBy rowsInOrder l ≡ sortBy rowsInOrder r
 rows-one-order {l} p = sort-same rowsInOrder (by-rows words) (λ r. Unit {0}) (λ a b x y h k. words-one a b (row-antisym (words a) (words b) h k)) p (mem-all (λ r. Unit {0}) l (λ r m. tt))
 
--- document 01's list order decides nothing
+-- the list order of SCOPE 9.4 decides nothing here
 pub list-order-idle : (o : ℕ) (l : List Segment) → oriented o l ≡ sortBy rowsInOrder (chosen (λ (s : Segment). eqb (s .orientation) o) rowOf l)
 unfolding oriented
 list-order-idle o l = rows-one-order (perm-chosen (λ (s : Segment). eqb (s .orientation) o) rowOf (segments-in-order-perm l))

@@ -1,4 +1,4 @@
--- Two runs of words that are written into a slice side by side are one run. Assumes nothing.
+-- Two adjacent runs of words that are written into a slice are one run. Assumes nothing.
 use mathlib.Core.Path.{_≡_, sym, ap, _∙_}
 use mathlib.Core.List.{List, _++_, append-assoc}
 use Prim.Native.Nat.{ℕ, _+_, _≤_}
@@ -16,7 +16,7 @@ both s a b at n m whole w p q =
     (λ j. append-assoc (take at s) (take n a) (take m b) j ++ drop (i j) s) ∙ ap (λ (z : List ℕ). (take at s ++ z) ++ drop (at + whole) s) one
 
 module _ (s r q a b : List ℕ) (at n m whole : ℕ) (w : whole ≡ n + m) (room : at + whole ≤ length s) (p : length a ≡ n) (k : length b ≡ m) where
-  -- the second run behind the first
+  -- the second run is written after the first
   pub paste-behind : r ≡ paste s at a n → q ≡ paste r (at + n) b m → q ≡ paste s at (a ++ b) whole
   paste-behind e f =
       let front : take (at + n) r ≡ take at s ++ take n a = ap (take (at + n)) e ∙ take-paste s at a n (omega arith) (omega arith) in
@@ -24,7 +24,7 @@ module _ (s r q a b : List ℕ) (at n m whole : ℕ) (w : whole ≡ n + m) (room
       let rest : drop (at + n + m) r ≡ drop (at + n + m) s = drop-past (at + n) (at + n + m) r s past (omega arith) in
       f ∙ (λ i. (front i ++ take m b) ++ rest i) ∙ both s a b at n m whole w p k
 
-  -- the second run in front of the first
+  -- the second run is written before the first
   pub paste-before : (back : ℕ) → back ≡ at + n → r ≡ paste s back b m → q ≡ paste r at a n → q ≡ paste s at (a ++ b) whole
   paste-before back g e f =
       let d : r ≡ paste s (at + n) b m = e ∙ ap (λ (j : ℕ). paste s j b m) g in

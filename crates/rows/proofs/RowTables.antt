@@ -1,4 +1,4 @@
--- The rows of one orientation are gathered in a table and put in order. Assumes nothing.
+-- The rows of one orientation are gathered in a table and sorted. Assumes nothing.
 use mathlib.Core.Path.{_≡_, refl, sym, ap, _∙_}
 use mathlib.Core.Bool.{Bool, true, false, not, _&&_, and-false}
 use mathlib.Core.List.{List, [], _∷_, _++_, append-assoc, append-nil, map}
@@ -194,8 +194,8 @@ gather-all t o c s r n i a g h =
       is = g .is ∙ ap (λ (l : List Segment). paste s t (allWords (rowsOf o l)) (4 * n)) all;
     }
 
--- ---- in order
--- o is s with the places of the rows k in order, and l is k in order
+-- ---- sorted
+-- o is s with the indices of the rows k sorted, and l is k sorted
 module _ (k l : List Row) (t : ℕ) (s o : List ℕ) (is : l ≡ sortBy rowsInOrder k) (u : RowsAt t k s) (h : Ordered s (length k) t 4 o) (apart : length k ≤ t) (room : t ≤ length s) where
   stand-for : map (rowFrom k) (take (length k) o) ≡ l
   stand-for =
@@ -225,7 +225,7 @@ module _ (k l : List Row) (t : ℕ) (s o : List ℕ) (is : l ≡ sortBy rowsInOr
       }
 
 module _ (o : ℕ) (c : SegmentColumns) (s : List ℕ) (orders : Orderable c (length s)) where
-  -- r has the rows, q is r with all places in front, and p is q with the places in order
+  -- r has the rows, q is r with all indices at the front, and p is q with the indices sorted
   pub rows-done : (r q p : List ℕ) (n : ℕ) → Gathered (length (c .net)) o c s r n → q ≡ upTo n ++ drop n r → p ≡ sorted q n (length (c .net)) 4 → (n ≡ rowCount o c (length s)) × (p ≡ rowsPlaced o c s)
   rows-done r q p n g e f =
       let t = length (c .net) in

@@ -1,4 +1,4 @@
--- The rows in order are spread over columns. Assumes nothing.
+-- The sorted rows are copied into columns. Assumes nothing.
 use mathlib.Core.Path.{_≡_, refl, sym, ap, _∙_}
 use mathlib.Core.Logic.{inl, inr}
 use mathlib.Core.Bool.{true, false, _&&_}
@@ -25,7 +25,7 @@ use Rattle.rows.proofs.ColumnParts.{getD-map}
 use Rattle.rows.proofs.Pastes.{paste-before}
 
 -- ---- what is tested before any work
--- the places and their rows are lent, as the part of the slice from word `from` on
+-- the indices and their rows are lent, as the part of the slice from word `from` on
 module _ (n from table : ℕ) (s : List ℕ) where
   lent : sortable (midOf from (length s - from) s) n table 4 ≡ sortable (drop from s) n table 4
   lent = ap (λ (l : List ℕ). sortable l n table 4) (tail-lent from s)
@@ -67,7 +67,7 @@ module _ (n from table : ℕ) (s : List ℕ) where
   abbrev columns : List ℕ
   columns = let k = drop from s in rowColumn n table 2 k ++ (rowColumn n table 1 k ++ (rowColumn n table 0 k ++ rowColumn n table 3 k))
 
-  -- nothing is done where the slice is not so
+  -- nothing is done where the slice does not fit
   pub not-spread : (Spreadable n from table s → ⊥) → s ≡ rowsSpread n from table s
   unfolding rowsSpread spreadable
   not-spread h = elim (decide (spreadable n from table s)) [
@@ -82,7 +82,7 @@ module _ (n from table : ℕ) (s : List ℕ) where
   spread-is f = cond-true (spreadable n from table s) (paste s (2 * n) columns (4 * n)) s
       (and-both (leb (6 * n) from) (leb from (length s) && sortable (drop from s) n table 4) (le-leb (6 * n) from (f .room)) (and-both (leb from (length s)) (sortable (drop from s) n table 4) (le-leb from (length s) (omega (arith, f .inside))) (fitting f)))
 
--- a slice with the ordered rows from word `from` on can be spread
+-- a slice with the sorted rows from word `from` on fits
 ordered-spreadable : (l : List Row) (n from table : ℕ) (s : List ℕ) → n ≡ length l → RowsOrdered l table (drop from s) → 6 * n ≤ from → n ≤ table → from + table + 4 * n ≤ length s → Spreadable n from table s
 ordered-spreadable l n from table s e o room apart long = record {
   room = room;
@@ -147,7 +147,7 @@ module _ (n from table word to : ℕ) (s : List ℕ) (f : Spreadable n from tabl
   spread-end r j v h = written-all value s to (take n (drop from s)) r j (v .written) (omega (arith, many)) ∙ ap (paste s to (rowColumn n table word (drop from s))) many
 
 -- ---- the four columns
--- r is s with m words in front of the places: these and their rows are as they were
+-- r is s with m words written before the indices: these and their rows are as they were
 module _ (n from table to m : ℕ) (s r w : List ℕ) (f : Spreadable n from table s) (front : to + m ≤ from) (long : length w ≡ m) (e : r ≡ paste s to w m) where
   spread-past : drop from r ≡ drop from s
   spread-past = let a = f .inside in drop-past (to + m) from r s (ap (drop (to + m)) e ∙ drop-paste s to w m (omega arith) (omega arith)) front
@@ -201,14 +201,14 @@ four-columns n from table s a b c r f ea eb ec er =
     ∙ sym (spread-is n from table s f)
 
 -- ---- what callers use
--- the rows in order, column by column
+-- the sorted rows, column by column
 pub record Spread (l : List Row) (s : List ℕ) : Type 0 where
   pub ends : column (length l) 2 s ≡ map (λ r. r .end) l
   pub starts : column (length l) 3 s ≡ map (λ r. r .start) l
   pub keys : column (length l) 4 s ≡ map (λ r. r .line) l
   pub nets : column (length l) 5 s ≡ map (λ r. r .net) l
 
--- the k-th of columns of n words that stand one behind the other
+-- the k-th of consecutive columns of n words
 column-first : (n : ℕ) (a b : List ℕ) → length a ≡ n → column n 0 (a ++ b) ≡ a
 column-first n a b e = ap (λ (j : ℕ). take n (drop j (a ++ b))) (zero-mul n) ∙ take-at a b n e
 
@@ -217,7 +217,7 @@ column-next n k a b e =
     let h : suc k * n ≡ n + k * n = omega (arith, suc-mul k n) in
     ap (λ (j : ℕ). take n (drop j (a ++ b))) h ∙ ap (take n) (sym (drop-drop (k * n) n (a ++ b)) ∙ ap (drop (k * n)) (drop-at a b n e))
 
--- a column holds this word of each row
+-- a column holds one word of each row
 column-words : (n table word : ℕ) (k : List ℕ) (l : List Row) → length l ≡ n → word < 4 → n ≤ length k → RowsOrdered l table k → rowColumn n table word k ≡ map (λ x. getD (words x) word 0) l
 column-words n table word k l e w long o =
     let places = take n k in

@@ -1,4 +1,4 @@
--- How many segments are swept: counted from the orientation bytes, it is the number of rows in orientations with two of them at least. Assumes nothing.
+-- How many segments are swept: counted from the orientation bytes, it is the number of rows in orientations with at least two of them. Assumes nothing.
 use mathlib.Core.Path.{_≡_, refl, sym, ap, ap₂, _∙_}
 use mathlib.Core.List.{List, [], _∷_}
 use mathlib.Core.Bool.{Bool, true, false, cond}
@@ -77,7 +77,7 @@ at-most-all n = go (ltb n 2)
     go true = zero-le
     go false = le-refl n
 
--- what the two counts come to
+-- the sum of the two counts
 module _ (l : List ℕ) (m n a b : ℕ) (across : m ≡ ofOrientation 1 l) (down : n ≡ ofOrientation 0 l) (one : a ≡ atLeastTwo m) (other : b ≡ atLeastTwo n) where
   pub sum-few : a + b ≤ length l
   sum-few = omega (arith, both-few l, at-most-all m, at-most-all n)
@@ -100,7 +100,7 @@ bytes o (n ∷ ns) (x ∷ os) (f ∷ fs) (s ∷ ss) (e ∷ es) p q r t = ap (λ 
 rows-counted : (o : ℕ) (c : SegmentColumns) → SegmentsAgree c → ofOrientation o (c .orientation) ≡ length (oriented o (segments c))
 rows-counted o c a = bytes o (c .net) (c .orientation) (c .fixed) (c .start) (c .end) (a .orientation) (a .fixed) (a .start) (a .end) ∙ sym (oriented-length o (segments c))
 
--- the segments that are swept are the rows of the orientations that have two of them at least
+-- the segments that are swept are the rows of the orientations that have at least two of them
 pub rows-to-sweep : (c : SegmentColumns) → SegmentsAgree c → segmentsToSweep (c .orientation) ≡ atLeastTwo (length (oriented 1 (segments c))) + atLeastTwo (length (oriented 0 (segments c)))
 unfolding segmentsToSweep
 rows-to-sweep c a = ap₂ (λ (m n : ℕ). atLeastTwo m + atLeastTwo n) (rows-counted 1 c a) (rows-counted 0 c a)

@@ -1,4 +1,4 @@
--- The segments of one orientation as rows in order, and their events in order: separation's walk is defined over them, and the code of both sweeps goes over them. Congestion's walk is defined over wires in 64ths. What an orientation with less than two segments counts for stands here too.
+-- The segments of one orientation as sorted rows, and their sorted events (SCOPE 5.8, 5.9): separation's walk is defined over them, and the code of both sweeps runs over them. Congestion's walk is defined over wires in 64ths. How many segments an orientation with fewer than two counts for is here too.
 use mathlib.Core.Bool.{Bool, cond}
 use mathlib.Core.List.{List, [], _∷_}
 use Prim.Native.Nat.{ℕ, suc}
@@ -12,7 +12,7 @@ use Rattle.floats.specs.Values.{canonicalZero}
 use Rattle.drawing.specs.Entries.{Segment}
 use Rattle.drawing.specs.Orders.{segmentsInOrder}
 
--- a segment's coordinates as these measures take them: "Zeros become +0."
+-- a segment's coordinates as these measures take them. SCOPE 3.7, 9.2: "Zeros become +0."
 unfoldable pub fixedOf : Segment → Float
 fixedOf s = canonicalZero (s .fixed)
 
@@ -22,7 +22,7 @@ startOf s = canonicalZero (s .start)
 unfoldable pub endOf : Segment → Float
 endOf s = canonicalZero (s .end)
 
--- a segment's net, and its coordinates by their places in totalOrder, `line` being that of the fixed one; `floatAt` gives the coordinate at a place back
+-- a segment's net, and its coordinates by their positions in totalOrder, `line` being that of the fixed one; `floatAt` gives the coordinate at a position
 pub record Row : Type 0 where
   pub net : ℕ
   pub line : ℕ
@@ -32,29 +32,29 @@ pub record Row : Type 0 where
 unfoldable pub rowOf : Segment → Row
 rowOf s = record { net = s .net; line = keyOf (fixedOf s); start = keyOf (startOf s); end = keyOf (endOf s) }
 
--- rows come by fixed, start, end, net, as the Rust's separation sorts. Its congestion keeps the list's order, on which the figures of that sweep do not depend.
+-- SCOPE 5.9: rows are sorted by fixed, start, end, net, as the Rust's separation sorts them. Its congestion keeps the list's order (SCOPE 5.12), on which the figures of that sweep do not depend.
 unfoldable pub words : Row → List ℕ
 words r = r .line ∷ r .start ∷ r .end ∷ r .net ∷ []
 
 abbrev pub rowsInOrder : Row → Row → Bool
 rowsInOrder a b = rowLe (words a) (words b)
 
--- the segments of one orientation: "Each measure walks as if its segments came in the order net, orientation byte, fixed, start, end .. The Rust's own orders then follow, and what they leave tied keeps this order"
+-- the segments of one orientation. SCOPE 9.4: "Each measure walks as if its segments came in the order net, orientation byte, fixed, start, end .. The Rust's own orders then follow, and what they leave tied keeps this order"
 unfoldable pub oriented : ℕ → List Segment → List Row
 oriented o l = sortBy rowsInOrder (chosen (λ s. eqb (s .orientation) o) rowOf (segmentsInOrder l))
 
 -- ---- how many are swept
 
--- n, or 0 where it is less than two
+-- SCOPE 4.5, 5.8: n, or 0 where it is less than two
 abbrev pub atLeastTwo : ℕ → ℕ
 atLeastTwo n = cond (ltb n 2) 0 n
 
 -- ---- the events
--- each segment ends and starts; its index is the place of its row in order
+-- SCOPE 5.9: each segment has two events, its end and its start; its index is that of its row in sorted order
 pub data Event : Type 0 where
   ends starts : ℕ → Row → Event
 
--- events come by coordinate, ends before starts, then by index
+-- SCOPE 5.9: events come by coordinate, ends before starts, then by index
 unfoldable pub moment : Event → List ℕ
 moment (ends i r) = r .end ∷ 0 ∷ i ∷ []
 moment (starts i r) = r .start ∷ 1 ∷ i ∷ []
@@ -67,6 +67,6 @@ unfoldable pub eventsFrom : ℕ → List Row → List Event
 eventsFrom i [] = []
 eventsFrom i (r ∷ l) = ends i r ∷ starts i r ∷ eventsFrom (suc i) l
 
--- the events in order
+-- the events, sorted
 unfoldable pub events : List Row → List Event
 events l = sortBy eventsInOrder (eventsFrom 0 l)

@@ -1,4 +1,4 @@
-// How many segments a sweep goes over, from their orientation bytes alone: known before any table is made.
+// How many segments a sweep takes, from their orientation bytes alone: known before any table is made. SCOPE 4.5, 5.8.
 ghost use mathlib.Core.Path.{_≡_};
 ghost use Rattle.rows.specs.Rows.{atLeastTwo};
 ghost use Rattle.rows.specs.Inner.Rows.{ofOrientation, segmentsToSweep};

@@ -1,4 +1,4 @@
-// The segments of one orientation as rows in order, and their events in order: what the sweeps of separation and of congestion go over; and how many segments are swept.
+// The segments of one orientation as sorted rows, and their sorted events: what the sweeps of separation and of congestion take (SCOPE 5.9, 5.12); and how many segments are swept.
 pub mod counts;
 pub mod events;
 pub mod rows;

@@ -1,4 +1,4 @@
-// The segments of one orientation as rows of four words, put in order and spread over columns.
+// The segments of one orientation as rows of four words, sorted and copied into columns.
 ghost use mathlib.Core.Path.{_≡_};
 ghost use Prim.Native.Nat.{_+_, _*_, _≤_, _<_};
 ghost use lib.ListN.{length, drop};
@@ -30,7 +30,7 @@ fn put_row(s: &mut [u64], at: usize, net: u32, fixed: f64, start: f64, end: f64)
     s[at + 3] = net as u64;
 }
 
-// The row of a segment goes behind the n rows of the table that begins at word t, where its orientation is the wanted one. The answer is how many rows there are then.
+// Appends the row of a segment to the n rows of the table that begins at word t, where its orientation is the wanted one. Returns how many rows there are then.
 fn add_row(
     p: &mut [u64],
     t: usize,
@@ -53,7 +53,7 @@ fn add_row(
     n + 1
 }
 
-// The rows of the segments with the wanted orientation byte, in a table that begins at the word net.len(). The answer is how many there are.
+// The rows of the segments with the wanted orientation byte, in a table that begins at the word net.len(). Returns how many there are.
 fn gather_rows(
     p: &mut [u64],
     wanted: u8,
@@ -86,7 +86,7 @@ fn gather_rows(
     n
 }
 
-// The places of these rows in order, in the first words of p, and behind net.len() words the rows themselves. The answer is how many there are. Where the columns differ in length or p is too short, the answer is 0 and p stays as it is.
+// The indices of these rows in sorted order, in the first words of p, and from word net.len() on the rows themselves. Returns how many there are. Where the columns differ in length or p is too short, it returns 0 and p is left as it is.
 pub fn order_rows(
     p: &mut [u64],
     wanted: u8,
@@ -111,7 +111,7 @@ pub fn order_rows(
     n
 }
 
-// One word of each row, in the order of the rows, from word `to` on. The places of the rows stand from word `from` on, their table `table` words further on.
+// One word of each row, in the order of the rows, from word `to` on. The indices of the rows are stored from word `from` on, their table `table` words further on.
 fn spread_column(s: &mut [u64], n: usize, from: usize, table: usize, word: usize, to: usize)
     requires { ⌜ Spreadable n from table (now s) × (word < 4) × (to + n ≤ from) ⌝ }
     ensures { λ _. ⌜ now (s .exit) ≡ paste (now (s .entry)) to (rowColumn n table word (drop from (now (s .entry)))) n ⌝ }
@@ -125,7 +125,7 @@ fn spread_column(s: &mut [u64], n: usize, from: usize, table: usize, word: usize
     }
 }
 
-// The ordered rows column by column: the nets, the lines, the starts and the ends. The last column is written first, so that behind each one nothing changes any more. A slice that has no room for the columns, or not the whole row of every place, stays as it is.
+// The sorted rows column by column, from word 2 n on: the ends, the starts, the lines and the nets. The last column is written first, so that nothing after a written column changes any more. A slice that has no room for the columns, or not a whole row for every index, is left as it is.
 pub fn spread_rows(s: &mut [u64], n: usize, from: usize, table: usize)
     ensures { λ _. ⌜ now (s .exit) ≡ rowsSpread n from table (now (s .entry)) ⌝ }
 {

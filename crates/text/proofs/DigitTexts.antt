@@ -1,4 +1,4 @@
--- The digits of a number as text: the last digit goes behind the digits of the number without it. Assumes nothing.
+-- The digits of a number as text: the last digit follows the digits of the number without it. Assumes nothing.
 use mathlib.Core.Path.{_≡_, refl, sym, ap, _∙_, subst}
 use mathlib.Core.List.{List, [], _∷_, _++_}
 use Prim.Native.Nat.{ℕ, zero, suc, _+_, _-_, _*_, _/_, _%_, _^_, _≤_, _<_}
@@ -30,7 +30,7 @@ unfolding leading
 leading-none zero s at e = put-none 0 s at
 leading-none (suc n) s at e = absurd (omega arith)
 
--- as many steps as the number says are enough, and more change nothing
+-- n steps are enough for a number n, and more change nothing
 leading-steps : (j k n : ℕ) → n ≤ j → n ≤ k → leading j n ≡ leading k n
 unfolding leading
 leading-steps zero zero n g h = refl

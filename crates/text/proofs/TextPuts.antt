@@ -1,4 +1,4 @@
--- Texts put into a buffer: one byte, one text behind another, a text put at the front. Assumes nothing.
+-- Texts put into a buffer: one byte, one text after another, a text put at the front. Assumes nothing.
 use mathlib.Core.Path.{_≡_, refl, sym, ap, _∙_, subst}
 use mathlib.Core.List.{List, [], _∷_, _++_}
 use Prim.Native.Nat.{ℕ, suc, _+_, _≤_, _<_}
@@ -9,7 +9,7 @@ use lib.ListN.{length, getD, set, take, drop, length-append, length-set}
 use lib.Seq.{sets, sets-eq, set-out, take-suc, take-all}
 use Rattle.text.specs.Inner.TextPut.{lastIndex, behind, stored, Put}
 
--- ---- the index behind a text
+-- ---- the index after a text
 behind-none : (at : ℕ) → behind at 0 ≡ at
 unfolding behind
 behind-none at = omega arith
@@ -23,7 +23,7 @@ unfolding behind
 behind-near at k h = omega arith
 
 -- ---- what is stored
--- one text behind another is both
+-- one text after another is both
 stored-append : (s : List ℕ) (at : ℕ) (a b : List ℕ) → stored (stored s at a) (behind at (length a)) b ≡ stored s at (a ++ b)
 unfolding stored
 stored-append s at [] b = ap (λ (k : ℕ). stored s k b) (behind-none at)
@@ -31,7 +31,7 @@ stored-append s at (x ∷ a) b =
     let l : length (x ∷ a) ≡ 1 + length a = omega arith in
     ap (λ (k : ℕ). stored (stored (set s at x) (behind at 1) a) k b) (ap (behind at) l ∙ sym (behind-both at 1 (length a))) ∙ stored-append (set s at x) (behind at 1) a b
 
--- where all indices are ones that a usize holds, the kit's run of stores
+-- where a usize can hold every index, it is the kit's run of stores
 stored-near : (s : List ℕ) (at : ℕ) (t : List ℕ) → at + length t ≤ lastIndex → stored s at t ≡ sets s at t
 unfolding stored
 stored-near s at [] h = refl
@@ -53,7 +53,7 @@ pub put-one : (s : List ℕ) (at b : ℕ) {n : ℕ} → n ≡ behind at 1 → Pu
 unfolding stored
 put-one s at b e = record { is-stored = refl; ended = e; short = omega arith }
 
--- a byte behind the buffer's end
+-- a byte past the buffer's end
 pub put-out : (s : List ℕ) (at b : ℕ) {n : ℕ} → length s ≤ at → n ≡ behind at 1 → Put 1 s at (b ∷ []) s n
 unfolding stored
 put-out s at b h e = record { is-stored = sym (set-out s at b h); ended = e; short = omega arith }
@@ -62,7 +62,7 @@ put-out s at b h e = record { is-stored = sym (set-out s at b h); ended = e; sho
 pub put-length : {k : ℕ} {s : List ℕ} {at : ℕ} {t e : List ℕ} {n : ℕ} → Put k s at t e n → length e ≡ length s
 put-length {s} {at} {t} p = ap length (p .is-stored) ∙ length-stored s at t
 
--- one text behind another
+-- one text after another
 pub put-both : {j k : ℕ} {s : List ℕ} {at : ℕ} {a e : List ℕ} {m : ℕ} {b f : List ℕ} {n : ℕ} → Put j s at a e m → Put k e m b f n → Put (j + k) s at (a ++ b) f n
 put-both {s} {at} {a} {e} {m} {b} p q =
     let l : length (a ++ b) ≡ length a + length b = length-append a b in
@@ -72,11 +72,11 @@ put-both {s} {at} {a} {e} {m} {b} p q =
       short = omega arith;
     }
 
--- the same text, said otherwise
+-- an equal text
 pub put-same : {k : ℕ} {s : List ℕ} {at : ℕ} {t u e : List ℕ} {n : ℕ} → t ≡ u → Put k s at t e n → Put k s at u e n
 put-same {k} {s} {at} {e = e} {n = n} h p = subst (λ (z : List ℕ). Put k s at z e n) h p
 
--- a longer text may be expected
+-- a larger bound on the length
 pub put-within : {j k : ℕ} {s : List ℕ} {at : ℕ} {t e : List ℕ} {n : ℕ} → j ≤ k → Put j s at t e n → Put k s at t e n
 put-within h p = record { is-stored = p .is-stored; ended = p .ended; short = omega arith }
 

@@ -1,4 +1,4 @@
--- Numbers as the bytes of text.
+-- Numbers as the bytes of text. SCOPE 11.3.
 use mathlib.Core.Bool.{cond}
 use mathlib.Core.List.{List, [], _∷_, _++_}
 use Prim.Native.Nat.{ℕ, zero, suc, _+_, _/_, _%_}
@@ -14,17 +14,17 @@ unfoldable pub hexadecimal : ℕ → ℕ → List ℕ
 hexadecimal zero n = []
 hexadecimal (suc k) n = hexadecimal k (n / 16) ++ (glyph (n % 16) ∷ [])
 
--- the digits of a number without zeros in front, so none for 0; the first number only bounds the steps
+-- the digits of a number without leading zeros, so none for 0; the first number only bounds the steps
 unfoldable pub leading : ℕ → ℕ → List ℕ
 leading zero n = []
 leading (suc k) zero = []
 leading (suc k) (suc n) = leading k (suc n / 10) ++ (glyph (suc n % 10) ∷ [])
 
--- "counts decimal"; a number has no more digits than itself, and 0 has one
+-- SCOPE 11.3: "counts decimal"; n steps are enough, since a number n above 0 has at most n digits, and 0 has one
 unfoldable pub decimal : ℕ → List ℕ
 decimal zero = glyph 0 ∷ []
 decimal (suc n) = leading (suc n) (suc n)
 
--- "Floats are 16 lower-case hexadecimal digits of their bits"
+-- SCOPE 11.3: "Floats are 16 lower-case hexadecimal digits of their bits"
 unfoldable pub float : Float → List ℕ
 float x = hexadecimal 16 (toBits binary64 x)

@@ -1,5 +1,5 @@
-// Bytes, words and numbers, put into a lent buffer from an index on. Each function answers the index behind its text, or the greatest index where that is beyond it.
-// What does not fit is left out and still counted, so that texts follow each other without a look at the room, and a text put into an empty buffer is measured.
+// Bytes, words and numbers, put into a lent buffer from an index on. Each `put` function returns the index after its text, or the greatest index where that would be larger.
+// What does not fit is left out and still counted, so that texts follow each other without a test for room, and a text put into an empty buffer is measured.
 ghost use mathlib.Core.Path.{_≡_};
 ghost use mathlib.Core.List.{[], _∷_};
 ghost use lib.ListN.{length};
@@ -66,7 +66,7 @@ fn put_hexadecimal(k: usize, n: u64, text: &mut [u8], at: usize) -> usize
     put_byte(glyph(n % 16), text, last)
 }
 
-// The digits without zeros in front, none for 0.
+// The digits without leading zeros, none for 0.
 fn put_leading(n: u64, text: &mut [u8], at: usize) -> usize
     ensures { λ r. ⌜ Put (length (Text.leading n n)) (now (text .entry)) at (Text.leading n n) (now (text .exit)) r ⌝ }
 {

@@ -1,4 +1,4 @@
--- Fit boxes, and boxes that lie in others. Only inner contracts and proofs cite this: no call's answer is stated by it.
+-- Fit boxes, and boxes that lie in others. Only inner contracts and proofs cite this: no call's answer is stated with it.
 use lib.Dec.{T}
 use lib.Ieee.{Float, binary64, fits, le}
 use lib.Ieee.Scale.{finite}

@@ -4,7 +4,7 @@ use lib.Ieee.{nan}
 use lib.ListN.{getD}
 use Rattle.drawing.specs.Entries.{Segment, Node, SegmentColumns, NodeColumns}
 
--- the entry at place i, as code reads it: past a column's end stand 0 and nan
+-- the entry at index i, as code reads it: past a column's end it reads 0 and nan
 abbrev pub segmentAt : SegmentColumns → ℕ → Segment
 segmentAt c i = record { net = getD (c .net) i 0; orientation = getD (c .orientation) i 0; fixed = getD (c .fixed) i nan; start = getD (c .start) i nan; end = getD (c .end) i nan }
 

@@ -1,4 +1,4 @@
--- Columns of equal length: what holds of a list where refusal 2 does not apply. Functions behind check 2 ask it of their columns, or promise what they promise where it holds.
+-- Columns of equal length: what holds of a list where refusal 2 (SCOPE 7.2) does not apply. Functions that run after check 2 require it of their columns, or promise what they promise where it holds.
 use mathlib.Core.Path.{_≡_}
 use mathlib.Core.Bool.{Bool}
 use mathlib.Core.List.{List, _∷_}

@@ -2,6 +2,6 @@
 use Rattle.file.specs.declared.reading.Header.{Header}
 use Rattle.file.specs.Reading.{Settings}
 
--- the settings among what a file says besides its entries
+-- the settings of a header
 unfoldable pub settingsOf : Header → Settings
 settingsOf h = record { threshold = h .threshold; cutoff = h .cutoff; clearance = h .clearance; separation = h .separation; congestion = h .congestion }

@@ -1,4 +1,4 @@
--- Entries of one width that stand one behind the other: what the loops over a list of the file go by.
+-- Entries of one width in sequence: what the loops over a list of the file use.
 use mathlib.Core.List.{List, [], _∷_}
 use Prim.Native.Nat.{ℕ, zero, suc, _+_, _*_, _≤_, _<_}
 use lib.ListN.{length, drop}
@@ -6,7 +6,7 @@ use Rattle.file.specs.declared.scan.Counted.{Counted}
 use Rattle.file.specs.declared.scan.Counted.the-variants as answers
 use Rattle.file.specs.Reading.{Read, got, refused}
 
--- the bytes from each of n places on, the first place in front and each other so many bytes behind the one before it
+-- the bytes from each of n indices on, the first index 0 and each other `width` bytes after the one before it
 unfoldable pub places : ℕ → ℕ → List ℕ → List (List ℕ)
 places width zero l = []
 places width (suc n) l = l ∷ places width n (drop width l)
@@ -16,6 +16,6 @@ unfoldable pub countOf : {A : Type 0} → Read (List A) → Counted
 countOf (got entries rest) = answers.Entries (length entries)
 countOf (refused r) = answers.Refused r
 
--- k bytes are there at each of the n places, the first of which is at `at`
+-- there are k bytes at each of the n indices, the first of which is `at`
 abbrev pub Room : ℕ → ℕ → ℕ → ℕ → List ℕ → Type 0
 Room k width n at l = (i : ℕ) → i < n → at + width * i + k ≤ length l

@@ -9,7 +9,7 @@ use Rattle.laws.specs.Lists.{Mem, some-of, bit}
 abbrev pub among : ℕ → List ℕ → Bool
 among x l = some-of (λ y. eqb x y) l
 
--- how many different numbers there are: one counts where no later one equals it
+-- how many different numbers there are: a number counts where no later one equals it
 unfoldable pub different : List ℕ → ℕ
 different [] = 0
 different (x ∷ l) = bit (not (among x l)) + different l

@@ -1,4 +1,4 @@
--- A list of records on its way to the columns: what the inner functions speak of.
+-- From a list of records to columns: what the contracts of the inner functions cite.
 use mathlib.Core.Bool.{cond}
 use Prim.Native.Nat.{ℕ}
 use lib.Dec.{leb}
@@ -9,6 +9,6 @@ use Rattle.lines.specs.declared.line.Line.{Line}
 unfoldable pub entryOf : Line → Segment
 entryOf l = record { net = l .net; orientation = l .orientation; fixed = l .fixed; start = l .start; end = l .end }
 
--- so many of n entries are unpacked: "A list holds more than 4,096 entries" can be told from 4,097 of them
+-- how many of n entries are unpacked. SCOPE 7.3: "A list holds more than 4,096 entries" can be decided from 4,097 of them
 unfoldable pub enough : ℕ → ℕ
 enough n = cond (leb n 4097) n 4097

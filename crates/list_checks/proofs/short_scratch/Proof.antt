@@ -1,4 +1,4 @@
--- `list_checks::short_scratch` meets its contract: the entries that the scratch is long enough for are compared with those that there are. Assumes nothing.
+-- `list_checks::short_scratch` meets its contract: the number of entries that the scratch is long enough for is compared with the number of segments and nodes. Assumes nothing.
 use mathlib.Core.Path.{_≡_, sym}
 use mathlib.Core.Bool.{true}
 use Prim.Native.Nat.{ℕ, _+_, _-_, _*_, _/_, _≤_, _<_}

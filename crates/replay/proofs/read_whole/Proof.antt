@@ -1,4 +1,4 @@
--- `replay::read_whole` meets its contract: a part of that length lies within the buffer. Assumes nothing.
+-- `replay::read_whole` meets its contract: a part of that length is within the buffer. Assumes nothing.
 use Rattle.io.proofs.Counting.{front}
 use native.Mathlib.Omega.{arith}
 use borrow.Author.Needs.{needs}

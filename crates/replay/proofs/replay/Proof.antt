@@ -1,4 +1,4 @@
--- `replay::replay` is safe and ends. The measure is the number of turns that are left; each turn counts one record at most. Assumes nothing.
+-- `replay::replay` is safe and ends. The measure is the number of turns left; each turn counts at most one record. Assumes nothing.
 use native.Mathlib.Omega.{arith}
 use mathlib.Core.Logic.{⊎-elim}
 use Prim.Native.Nat.{_+_, _≤_}

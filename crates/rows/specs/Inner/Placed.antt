@@ -1,4 +1,4 @@
--- What the functions of this crate make of the words s that they are lent, whatever these are.
+-- What the functions of this crate do to the words s that they are lent, whatever these are.
 use mathlib.Core.Bool.{Bool, not, _&&_, cond}
 use mathlib.Core.List.{List, [], _∷_, _++_, map}
 use Prim.Native.Nat.{ℕ, _+_, _*_}
@@ -16,20 +16,20 @@ use Rattle.rows.specs.Rows.{Row, rowOf, words}
 abbrev pub rowsOf : ℕ → List Segment → List Row
 rowsOf o l = chosen (λ s. eqb (s .orientation) o) rowOf l
 
--- their words, one row behind the other
+-- their words, row after row
 unfoldable pub allWords : List Row → List ℕ
 allWords [] = []
 allWords (r ∷ l) = words r ++ allWords l
 
--- columns of equal length, and m words: for every segment one for a place and four for a row
+-- columns of equal length, and m words: for every segment one for an index and four for a row
 unfoldable pub orderable : SegmentColumns → ℕ → Bool
 orderable c m = not (segmentsDiffer c) && leb (5 * length (c .net)) m
 
--- how many rows are put in order in m words
+-- how many rows are sorted in m words
 unfoldable pub rowCount : ℕ → SegmentColumns → ℕ → ℕ
 rowCount o c m = cond (orderable c m) (length (rowsOf o (segments c))) 0
 
--- the table of the rows stands behind one word for each segment, their places in order stand in front, and all else is as it was
+-- the table of the rows begins after one word for each segment, their indices in sorted order are at the front, and all else is as it was
 unfoldable pub rowsPlaced : ℕ → SegmentColumns → List ℕ → List ℕ
 rowsPlaced o c s =
     let t = length (c .net) in
@@ -37,12 +37,12 @@ rowsPlaced o c s =
     let n = length l in
     cond (orderable c (length s)) (sorted (upTo n ++ drop n (paste s t (allWords l) (4 * n))) n t 4) s
 
--- ---- the rows in order, column by column
--- this word of each row: k begins with the n places in order, the table of the rows begins at its word `table`
+-- ---- the sorted rows, column by column
+-- one word of each row: k begins with the n indices in sorted order, the table of the rows begins at its word `table`
 abbrev pub rowColumn : ℕ → ℕ → ℕ → List ℕ → List ℕ
 rowColumn n table word k = map (λ i. getD k (table + 4 * i + word) 0) (take n k)
 
--- from word `from` on are n places, each with a whole row in the table; in front of them is room for six columns
+-- from word `from` on are n indices, each with a whole row in the table; before them is room for six columns
 unfoldable pub spreadable : ℕ → ℕ → ℕ → List ℕ → Bool
 spreadable n from table s = leb (6 * n) from && (leb from (length s) && sortable (drop from s) n table 4)
 
@@ -53,6 +53,6 @@ rowsSpread n from table s =
     cond (spreadable n from table s) (paste s (2 * n) (rowColumn n table 2 k ++ (rowColumn n table 1 k ++ (rowColumn n table 0 k ++ rowColumn n table 3 k))) (4 * n)) s
 
 -- ---- the events
--- the numbers of the 2 n events in order of their keys, which stand behind them; all else is as it was
+-- the numbers of the 2 n events sorted by their keys, which follow them; all else is as it was
 unfoldable pub eventsPlaced : ℕ → List ℕ → List ℕ
 eventsPlaced n s = cond (leb (4 * n) (length s)) (sorted (upTo (2 * n) ++ drop (2 * n) s) (2 * n) (2 * n) 1) s

@@ -9,6 +9,6 @@ use Rattle.rows.specs.Rows.{atLeastTwo}
 abbrev pub ofOrientation : ℕ → List ℕ → ℕ
 ofOrientation o l = count (λ b. eqb b o) l
 
--- "segments in orientations holding at least two", from the column of their orientation bytes
+-- SCOPE 4.5: "segments in orientations holding at least two", from the column of their orientation bytes
 unfoldable pub segmentsToSweep : List ℕ → ℕ
 segmentsToSweep l = atLeastTwo (ofOrientation 1 l) + atLeastTwo (ofOrientation 0 l)

@@ -1,5 +1,5 @@
--- What only inner contracts cite, here and where the sweeps are: what the tables in a slice of words hold. There are n rows in order: l.
--- Words 0 .. 2 n: the events in order, by number: event j < n is the end of row j, event n + j its start.
+-- What only inner contracts cite, here and in the crates of the sweeps: what the tables in a slice of words hold. There are n sorted rows: l.
+-- Words 0 .. 2 n: the sorted events, by number: event j < n is the end of row j, event n + j its start.
 -- From 2 n on, n words each: the keys of the ends, the keys of the starts, the keys of the lines, the nets.
 use mathlib.Core.Path.{_≡_}
 use mathlib.Core.Bool.{cond}
@@ -13,7 +13,7 @@ use Rattle.drawing.specs.Inner.Lengths.{SegmentsAgree}
 use Rattle.rows.specs.Rows.{Row, words, Event, ends, starts}
 use Rattle.rows.specs.Inner.Placed.{rowsOf, allWords}
 
--- the row at a place
+-- the row at an index
 abbrev pub noRow : Row
 noRow = record { net = 0; line = 0; start = 0; end = 0 }
 
@@ -33,7 +33,7 @@ pub record Orderable (c : SegmentColumns) (m : ℕ) : Type 0 where
   pub agree : SegmentsAgree c
   pub room : 5 * length (c .net) ≤ m
 
--- the first words of s are the places of the rows l in a table from word t on, four words each
+-- the first words of s are the indices of the rows l in a table from word t on, four words each
 pub record RowsOrdered (l : List Row) (t : ℕ) (s : List ℕ) : Type 0 where
   pub small : (j : ℕ) → j < length l → getD s j 0 < length l
   pub rows : (j : ℕ) → j < length l → take 4 (drop (t + 4 * getD s j 0) s) ≡ words (rowFrom l j)
@@ -45,7 +45,7 @@ pub record Spreadable (n from table : ℕ) (s : List ℕ) : Type 0 where
   pub inside : from + table ≤ length s
   pub rows : (j : ℕ) → j < n → from + table + 4 * getD s (from + j) 0 + 4 ≤ length s
 
--- behind the n rows of a table the segment's row, where the orientation is its own: m rows then
+-- the segment's row after the n rows of a table, where the orientation is its own: m rows then
 pub record RowAdded (t n o : ℕ) (x : Segment) (s r : List ℕ) (m : ℕ) : Type 0 where
   pub same : length r ≡ length s
   pub count : m ≡ n + length (rowsOf o (x ∷ []))

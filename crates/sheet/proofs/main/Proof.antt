@@ -1,4 +1,4 @@
--- `sheet::main` is safe and ends: the text that was put stands within its buffer. Assumes nothing.
+-- `sheet::main` is safe and ends: the text that was put is within its buffer. Assumes nothing.
 use Rattle.io.proofs.Counting.{front}
 use Rattle.printing.proofs.SheetFits.{sheet-fits}
 use borrow.Author.Needs.{needs}

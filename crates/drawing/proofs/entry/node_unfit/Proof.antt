@@ -1,4 +1,4 @@
--- `drawing::entry::node_unfit` meets its contract: the axis across decides, or the other one. Assumes nothing.
+-- `drawing::entry::node_unfit` meets its contract: the horizontal axis decides, or the vertical one. Assumes nothing.
 use mathlib.Core.Path.{sym, _∙_}
 use Rattle.drawing.specs.Conditions.{unfitBox}
 use borrow.Author.Needs.{needs}

@@ -1,4 +1,4 @@
--- `file::bytes::be32` meets its contract: the four bytes are those from the place on. Assumes nothing.
+-- `file::bytes::be32` meets its contract: the four bytes are those from the index on. Assumes nothing.
 use mathlib.Core.Path.{ap, _∙_}
 use Rattle.file.specs.Reading.{bigEndian}
 use Rattle.file.proofs.BigEndian.{four}

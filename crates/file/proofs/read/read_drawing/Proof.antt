@@ -1,4 +1,4 @@
--- `file::read::read_drawing` meets its contract: a file that is read lies as its counts say, and each column takes one value of each entry. Assumes nothing.
+-- `file::read::read_drawing` meets its contract: the parts of a file that is read are where its counts say, and each column takes one value of each entry. Assumes nothing.
 use mathlib.Core.Path.{refl, sym, _∙_}
 use mathlib.Core.List.{List, []}
 use Prim.Native.Nat.{ℕ, _+_, _*_}

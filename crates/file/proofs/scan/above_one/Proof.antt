@@ -1,4 +1,4 @@
--- `file::scan::above_one` meets its contract: after i turns the first i places have no byte above 1. Assumes nothing.
+-- `file::scan::above_one` meets its contract: after i turns the first i bytes are not above 1. Assumes nothing.
 use Rattle.file.proofs.ColumnsFilled.{Passed, passed-none, passed-hit, passed-next, passed-all}
 use borrow.Author.Needs.{needs}
 use native.Mathlib.Omega.{arith}

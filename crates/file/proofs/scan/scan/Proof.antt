@@ -1,4 +1,4 @@
--- `file::scan::scan` meets its contract: the parts of the file one behind the other, each read where the one before it ended. Assumes nothing.
+-- `file::scan::scan` meets its contract: the parts of the file in sequence, each read from the end of the one before it. Assumes nothing.
 use mathlib.Core.List.{List}
 use Prim.Native.Nat.{ℕ}
 use native.Mathlib.Omega.{arith}

@@ -1,4 +1,4 @@
--- `floats::grid::on_grid` meets its contract: the values' part is in `proofs/GridTest.antt`. Assumes nothing.
+-- `floats::grid::on_grid` meets its contract: the part about values is in `proofs/GridTest.antt`. Assumes nothing.
 use mathlib.Core.Path.{sym, subst, ap, _∙_}
 use lib.Dec.{T}
 use lib.IntN.{ℤ}

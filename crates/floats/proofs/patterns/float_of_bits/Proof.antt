@@ -1,4 +1,4 @@
--- `floats::patterns::float_of_bits` meets its contract: a pattern above infinity's, the sign left aside, is a NaN's. Assumes nothing.
+-- `floats::patterns::float_of_bits` meets its contract: a pattern that is above infinity's without its sign is a NaN's. Assumes nothing.
 use mathlib.Core.Path.{refl, sym, subst}
 use lib.Dec.{T, lt→ltb}
 use lib.Ieee.{ofBits, div}

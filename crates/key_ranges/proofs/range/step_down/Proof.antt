@@ -1,4 +1,4 @@
--- `key_ranges::range::step_down` meets its contract: only `at` falls, and it stays among the keys. Assumes nothing.
+-- `key_ranges::range::step_down` meets its contract: only `at` falls, and it stays within the keys. Assumes nothing.
 use Prim.Native.Nat.{_≤_}
 use native.Mathlib.Omega.{arith}
 use borrow.Author.Needs.{needs}

@@ -1,4 +1,4 @@
--- `printing::lines::clearance_line` meets its contract: the name, and the fields of each case behind it. Assumes nothing.
+-- `printing::lines::clearance_line` meets its contract: the name, and the fields of each case after it. Assumes nothing.
 use mathlib.Core.Path.{sym, ap}
 use native.Mathlib.Omega.{arith}
 use Rattle.printing.specs.Fields.{fields}

@@ -1,4 +1,4 @@
--- `printing::lines::file_refused` meets its contract: the name, and the fields behind it. Assumes nothing.
+-- `printing::lines::file_refused` meets its contract: the name, and the fields after it. Assumes nothing.
 use Rattle.printing.specs.Sheet.{refusal, fileWord}
 use Rattle.text.proofs.TextPuts.{put-both}
 use borrow.Author.Needs.{needs}

@@ -1,4 +1,4 @@
--- `printing::lines::gap_and_visits` meets its contract: the fields one behind the other. Assumes nothing.
+-- `printing::lines::gap_and_visits` meets its contract: the fields in sequence. Assumes nothing.
 use Rattle.printing.specs.Fields.{fields}
 use Rattle.text.proofs.TextPuts.{put-both}
 use borrow.Author.Needs.{needs}

@@ -1,4 +1,4 @@
--- `printing::lines::refused_fields` meets its contract: the fields one behind the other. Assumes nothing.
+-- `printing::lines::refused_fields` meets its contract: the fields in sequence. Assumes nothing.
 use mathlib.Core.Path.{ap}
 use mathlib.Core.List.{_∷_}
 use Rattle.text.specs.Text.{decimal}

@@ -1,4 +1,4 @@
--- `printing::lines::three_lines` meets its contract: the lines one behind the other. Assumes nothing.
+-- `printing::lines::three_lines` meets its contract: the lines in sequence. Assumes nothing.
 use borrow.Author.Needs.{needs}
 use Rattle.text.proofs.TextPuts.{put-both}
 use Rattle.printing.proofs.lines.three_lines.Statement.{statement}

@@ -15,7 +15,7 @@ use Rattle.printing.proofs.lines.file_refused.Reads as file-refused-rea
 use Rattle.printing.proofs.print.put_lines.Reads as put-lines-reads
 use Rattle.file.proofs.read.read_drawing.Reads as read-drawing-reads
 
--- what is known once the file has been read
+-- what is known once the file is read
 module _ (c : lts.After-known-told2 (read-drawing-reads.Asked, read-drawing-reads.Learnt, file-refused-reads.Asked, file-refused-reads.Learnt, put-lines-reads.Asked, put-lines-reads.Learnt) reads.Pre reads.Post) where
   abbrev header : Header
   header = c .before .reading2 .given .0 .0

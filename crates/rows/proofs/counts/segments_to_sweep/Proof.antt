@@ -1,4 +1,4 @@
--- `rows::counts::segments_to_sweep` meets its contract: a byte is counted for one orientation at the most, so that the sum fits. Assumes nothing.
+-- `rows::counts::segments_to_sweep` meets its contract: a byte is counted for at most one orientation, so that the sum fits. Assumes nothing.
 use native.Mathlib.Omega.{arith}
 use borrow.Author.Needs.{needs}
 use denote.Ref.{now}

@@ -1,4 +1,4 @@
--- `rows::events::order_events` meets its contract: all numbers are written in front and put in order by their keys. Assumes nothing.
+-- `rows::events::order_events` meets its contract: all numbers are written at the front and sorted by their keys. Assumes nothing.
 use Prim.Native.Nat.{_*_, _≤_}
 use native.Mathlib.Omega.{arith}
 use borrow.Author.Needs.{needs}

@@ -1,4 +1,4 @@
--- `rows::rows::order_rows` meets its contract: the rows are gathered, and their places are put in order by them. Assumes nothing.
+-- `rows::rows::order_rows` meets its contract: the rows are gathered, and their indices are sorted by them. Assumes nothing.
 use mathlib.Core.Path.{sym, _∙_}
 use native.Mathlib.Omega.{arith}
 use borrow.Author.Needs.{needs}

@@ -1,4 +1,4 @@
--- `rows::rows::put_row` meets its contract: four stores in a row are one paste. Assumes nothing.
+-- `rows::rows::put_row` meets its contract: four consecutive stores are one paste. Assumes nothing.
 use borrow.Author.Needs.{needs}
 use mathlib.Core.Path.{refl, ap, _∙_}
 use lib.ListN.{length-set}

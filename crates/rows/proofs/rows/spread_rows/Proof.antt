@@ -1,4 +1,4 @@
--- `rows::rows::spread_rows` meets its contract: a column that is written stays while those in front of it are. Assumes nothing.
+-- `rows::rows::spread_rows` meets its contract: a written column stays while those before it are written. Assumes nothing.
 use mathlib.Core.Path.{sym, _∙_}
 use native.Mathlib.Omega.{arith}
 use borrow.Author.Needs.{needs}

@@ -1,4 +1,4 @@
--- `text::put::put_byte` meets its contract: the byte is stored, or left out behind the buffer's end. Assumes nothing.
+-- `text::put::put_byte` meets its contract: the byte is stored, or left out past the buffer's end. Assumes nothing.
 use borrow.Author.Needs.{needs}
 use Rattle.text.proofs.TextPuts.{put-one, put-out}
 use Rattle.text.proofs.put.put_byte.Statement.{statement}

@@ -1,4 +1,4 @@
--- `text::put::put_decimal` meets its contract: 0 has one digit, and any other number is written without zeros in front. Assumes nothing.
+-- `text::put::put_decimal` meets its contract: 0 has one digit, and any other number is written without leading zeros. Assumes nothing.
 use native.Mathlib.Omega.{arith}
 use Rattle.text.proofs.TextPuts.{put-within, put-same}
 use Rattle.text.proofs.DigitTexts.{leading-wide, decimal-zero, decimal-leading}

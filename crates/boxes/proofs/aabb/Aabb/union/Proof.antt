@@ -1,4 +1,4 @@
--- `boxes::aabb::Aabb::union` meets its contract, side by side. Assumes nothing.
+-- `boxes::aabb::Aabb::union` meets its contract, edge by edge. Assumes nothing.
 use borrow.Author.Needs.{needs}
 use Rattle.boxes.specs.Boxes.{union}
 use Rattle.boxes.proofs.aabb.Aabb.union.Statement.{statement}
