@@ -21,7 +21,7 @@ use Rattle.congestion.specs.Profile.{allPairs}
 use Rattle.congestion.specs.Answer.{reportOf, settled, densityAnswer, withoutDensity, profileAnswer, congestionAnswer, zeros, resultOf}
 use Rattle.congestion.proofs.Visits.{visits-at-most}
 
--- a call with this cutoff and a scratch of so many words meets no refusal before 7
+-- a call with this cutoff and a scratch whose length is `words` meets no refusal before 7
 abbrev pub Passes : SegmentColumns → Float → ℕ → Type 0
 Passes s cutoff words = firstOf (congestionConditions s cutoff words) ≡ Checked.Passed
 
@@ -39,7 +39,7 @@ module _ (answer : SegmentColumns → Float → ℕ → ℕ → CongestionAnswer
     behind = λ s cutoff m words p. is s cutoff m words ∙ ap (λ (c : Check). checked Refused c (settled m (report cutoff (segments s)))) p;
   }
 
--- "A call whose allowance reaches it returns the all-pairs report, whose visits are that count; a call whose allowance does not returns the spent-allowance refusal", which is 7
+-- SCOPE 8.3: "A call whose allowance reaches it returns the all-pairs report, whose visits are that count; a call whose allowance does not returns the spent-allowance refusal", which is 7
 pub result-settles : (m : ℕ) (c : Charged (ParallelCongestion × Gap)) → resultOf (settled m c) ≡ settle (λ p n. (0, reportOf p n)) (7, zeros) m c
 unfolding settled settle resultOf numberOf
 result-settles m c = go (reaches m c)
@@ -58,7 +58,7 @@ pub profile-settles : Settles profileAnswer (λ cutoff l. withoutDensity (allPai
 unfolding profileAnswer
 profile-settles = settles profileAnswer (λ cutoff l. withoutDensity (allPairs cutoff l)) (λ s cutoff m words. refl)
 
--- `measure_parallel_congestion`: an allowance that always reaches
+-- SCOPE 6.2: `measure_parallel_congestion`, with an allowance that always reaches
 pub congestion-earlier : (s : SegmentColumns) (cutoff : Float) (words : ℕ) (r : Refusal) → firstOf (congestionConditions s cutoff words) ≡ Checked.Refused r → congestionAnswer s cutoff words ≡ Refused r
 unfolding congestionAnswer
 congestion-earlier s cutoff words r e = rw e

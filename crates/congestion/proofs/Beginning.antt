@@ -38,7 +38,7 @@ rising-numbered : (n : ℕ) (l : List Wire) → Rising (numbered n l)
 rising-numbered n [] = tt
 rising-numbered n (s ∷ l) = (λ y m. of-numbered y (suc n) l m .least, rising-numbered (suc n) l)
 
--- "A list holds more than 4,096 entries" and "start not below end" do not apply
+-- SCOPE 7.3, 7.5: "A list holds more than 4,096 entries" and "start not below end" do not apply
 pub record Sound (l : List Wire) : Type 0 where
   pub few : length l ≤ 4096
   pub ordered : (s : Wire) → Mem s l → s .start < s .end

@@ -17,7 +17,7 @@ use Rattle.congestion.proofs.CellLaws.{length-cells}
 use Rattle.congestion.proofs.Beginning.{Sound}
 use Rattle.congestion.proofs.Orientations.{overlap-sum}
 
--- "with absolute value at most 1,048,576": in units up to 2 ^ 27
+-- SCOPE 9.1: "with absolute value at most 1,048,576": in units up to 2 ^ 27
 abbrev pub Small : List Wire → Type 0
 Small l = (s : Wire) → Mem s l → s .end ≤ 134217728
 
@@ -32,7 +32,7 @@ pub total-small : (l : List Wire) → Sound l → Small l → total l < 2 ^ 53
 unfolding total
 total-small l v m = lt-of-le-of-lt (le-trans (sum-at-most extent 134217728 l (λ s k. let h = m s k in omega arith)) (mul-le-mul-right 134217728 (v .few))) (lit< {m = 4096 * 134217728} tt)
 
--- no more of a wire is congested than there is
+-- the congested part of a wire is no longer than the wire
 pub stretches-at-most : (c : ℕ) (l : List Wire) (s : Wire) → stretches c l s ≤ extent s
 unfolding stretches
 stretches-at-most c l s = le-trans (count-at-most (λ k. some-of (λ t. closeOther c s t && covers k t) l) (cells s)) (le-of-eq (length-cells (s .start) (extent s)))

@@ -1,4 +1,4 @@
--- Runs of cells: where they lie, and folds over a run within a longer one. Assumes nothing.
+-- Runs of cells: which cells they hold, and folds over a run within a longer one. Assumes nothing.
 use mathlib.Core.Path.{_≡_, refl, ap, ap₂, _∙_}
 use mathlib.Core.Logic.{inl, inr}
 use mathlib.Core.List.{List, _∷_, _++_}

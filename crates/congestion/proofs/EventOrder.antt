@@ -21,7 +21,7 @@ use Rattle.congestion.specs.Walk.{Item, Event, at, eventRow, events, inO
 use Rattle.congestion.proofs.Moments.{Fit, event, key, starts-differ, ends-differ, kinds-differ}
 
 -- ---- "(coordinate, 0 for an end and 1 for a start, index)" as one number
--- a word in front counts W for each, where what follows is below W
+-- the first word is multiplied by W, where what follows is below W
 word : (W a x b y : ℕ) (r s : List ℕ) → x < W → y < W → rowLe r s ≡ leb x y → rowLe (a ∷ r) (b ∷ s) ≡ leb (a * W + x) (b * W + y)
 word W a x b y r s hx hy e = elim (le-or-lt b a) [
   | inr h ↦ row-less a b r s h ∙ sym (le-leb (a * W + x) (b * W + y) (omega (arith, mul-le-mul-right W h)))

@@ -1,4 +1,4 @@
--- Document 01's marked cases of congestion, and a few drawings more, by computing the definitions. Assumes nothing.
+-- The marked cases of congestion (SCOPE 13), and a few drawings more, by computing the definitions. Assumes nothing.
 use mathlib.Core.Path.{_≡_, refl}
 use mathlib.Core.List.{List, [], _∷_}
 use mathlib.Core.Option.{none, some}
@@ -66,11 +66,11 @@ f20 = float 0x4034_0000_0000_0000
 abbrev report : Float → Float → Float → ℕ → Gap → ℕ → CongestionAnswer
 report t c o p g n = Report (record { congestion = record { «total_length» = t; «congested_length» = c; «pair_overlap_length» = o; «peak_close_neighbors» = p }; «minimum_positive» = g; visits = n })
 
--- "net 1 horizontal at 0 from 0 to 10; net 2 horizontal at 4 from 5 to 15"
+-- SCOPE 11.5: "net 1 horizontal at 0 from 0 to 10; net 2 horizontal at 4 from 5 to 15"
 abbrev D : SegmentColumns
 D = segmentColumns (1 ∷ 2 ∷ []) (1 ∷ 1 ∷ []) (f0 ∷ f4 ∷ []) (f0 ∷ f5 ∷ []) (f10 ∷ f15 ∷ [])
 
--- marked case (k): a segment at 1,048,576 up to 1/32
+-- SCOPE 13.k: a segment at 1,048,576 up to 1/32
 abbrev one-segment : Float → SegmentColumns
 one-segment start = segmentColumns (1 ∷ []) (1 ∷ []) (float 0x4130_0000_0000_0000 ∷ []) (start ∷ []) (float 0x3fa0_0000_0000_0000 ∷ [])
 
@@ -85,18 +85,18 @@ flat n f a b = record { net = n; horizontal = true; fixed = f; start = a; end = 
 abbrev fork : List Wire
 fork = flat 1 64 0 640 ∷ flat 2 0 64 320 ∷ flat 3 128 192 512 ∷ []
 
--- two nets on one line and a third beside them, where one ends as another starts: the gap 0 is passed over, and the lone vertical wire costs nothing
+-- two nets on one line and a third beside them, where one ends as another starts: the gap 0 is ignored, and the lone vertical wire costs nothing
 abbrev stack : List Wire
 stack = flat 1 0 0 256 ∷ flat 2 0 64 192 ∷ flat 3 64 128 384 ∷ flat 1 64 256 320 ∷ record { net = 9; horizontal = false; fixed = 0; start = 0; end = 64 } ∷ []
 
 -- columns, cutoff, allowance and words of scratch
 pub record Marked : Type 0 where
-  -- "congestion 4034000000000000 4024000000000000 4014000000000000 1 4010000000000000 4", and marked case (c): "D's congestion at 4 and 3"
+  -- SCOPE 11.5: "congestion 4034000000000000 4024000000000000 4014000000000000 1 4010000000000000 4", and SCOPE 13.c: "D's congestion at 4 and 3"
   pub D-at-4 : densityAnswer D f6 4 128 ≡ report f20 f10 f5 1 (Present f4) 4
   pub D-at-3 : densityAnswer D f6 3 128 ≡ Refused WorkLimitExceeded
-  -- D as the program `sheet` measures it
+  -- SCOPE 11.5: D as the program `sheet` measures it
   pub D-sheet : densityAnswer D f6 1000 7744 ≡ report f20 f10 f5 1 (Present f4) 4
-  -- as a result: "A refusal returns its number and a report of zeros and absent gaps"
+  -- SCOPE 6.3: as a result: "A refusal returns its number and a report of zeros and absent gaps"
   pub D-spent : resultOf (densityAnswer D f6 3 128) ≡ (7, zeros)
   pub D-profile : profileAnswer D f6 4 128 ≡ report f20 f10 f0 0 (Present f4) 4
   pub D-congestion : congestionAnswer D f6 128 ≡ report f20 f10 f5 1 (Present f4) 4
@@ -104,18 +104,18 @@ pub record Marked : Type 0 where
   pub D-sweep : walkAll f6 (segments D) ≡ allPairs f6 (segments D)
   -- half of D's wire is congested
   pub D-ratio : ratio f20 f10 ≡ float 0x3fe0_0000_0000_0000
-  -- marked case (j): "gap 4, cutoff 4, two overlapping segments: congested 0, 2 visits"
+  -- SCOPE 13.j: "gap 4, cutoff 4, two overlapping segments: congested 0, 2 visits"
   pub gap-equals-cutoff : densityAnswer D f4 2 128 ≡ report f20 f0 f0 0 Absent 2
-  -- marked case (k): "1/64 and 1,048,576 pass, 1/128 gives 6"
+  -- SCOPE 13.k: "1/64 and 1,048,576 pass, 1/128 gives 6"
   pub on-the-grid : densityAnswer (one-segment f64th) f64th 0 96 ≡ report f64th f0 f0 0 Absent 0
   pub off-the-grid : densityAnswer (one-segment (float 0x3f80_0000_0000_0000)) f64th 0 96 ≡ Refused OffGrid
-  -- marked case (l): "fixed -1 and -0, cutoff 1: not close"
+  -- SCOPE 13.l: "fixed -1 and -0, cutoff 1: not close"
   pub minus-zero : densityAnswer (segmentColumns (1 ∷ 2 ∷ []) (1 ∷ 1 ∷ []) (float 0xbff0_0000_0000_0000 ∷ float 0x8000_0000_0000_0000 ∷ []) (f0 ∷ f0 ∷ []) (f10 ∷ f10 ∷ [])) (float 0x3ff0_0000_0000_0000) 2 128 ≡ report f20 f0 f0 0 Absent 2
-  -- "Cutoff 0 or less gives total length, zeros and an absent gap", and no visit: at 0, -0 and -4
+  -- SCOPE 3.16, 4.5: "Cutoff 0 or less gives total length, zeros and an absent gap", and no visit: at 0, -0 and -4
   pub cutoff-zero : densityAnswer D f0 0 128 ≡ report f20 f0 f0 0 Absent 0
   pub cutoff-minus-zero : densityAnswer D (float 0x8000_0000_0000_0000) 0 128 ≡ report f20 f0 f0 0 Absent 0
   pub cutoff-below-zero : densityAnswer D (float 0xc010_0000_0000_0000) 0 128 ≡ report f20 f0 f0 0 Absent 0
-  -- "Congestion of an empty list has total +0"
+  -- SCOPE 9.3: "Congestion of an empty list has total +0"
   pub empty-list : densityAnswer (segmentColumns [] [] [] [] []) f6 0 64 ≡ report f0 f0 f0 0 Absent 0
   -- drawings in 64ths, by the definition and by the sweep
   pub fork-figures : found 96 fork ≡ gathered 1216 1024 576 2 (some 64) 7

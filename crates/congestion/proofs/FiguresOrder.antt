@@ -1,4 +1,4 @@
--- "List order decides nothing in a report": the figures over all pairs and the visits are the same for every order of the wires. Assumes nothing.
+-- SCOPE 9.4: "List order decides nothing in a report": the figures over all pairs and the visits are the same for every order of the wires. Assumes nothing.
 use mathlib.Core.Path.{_≡_, refl, sym, ap, ap₂, _∙_}
 use mathlib.Core.List.{List}
 use mathlib.Core.Option.{Option, none}

@@ -29,7 +29,7 @@ use Rattle.congestion.specs.Conditions.{congestionConditions}
 use Rattle.congestion.specs.Wires.{Wire, wireOf}
 use Rattle.congestion.proofs.Beginning.{Sound}
 
--- a float that stands for a coordinate: on the grid, not -0
+-- a float on the grid, not -0, whose 64ths `unit` counts as u
 pub record Stands (x : Float) (u : ℕ) : Type 0 where
   pub grid : T (onGrid x)
   pub plain : canonicalZero x ≡ x

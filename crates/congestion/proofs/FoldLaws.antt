@@ -70,12 +70,12 @@ beside-map : {A B : Type 0} (x : A) (l : List B) → beside x l ≡ map {A = B} 
 beside-map x [] = refl
 beside-map x (y ∷ l) = ap (_∷_ (x, y)) (beside-map x l)
 
--- an entry in front: its pairs with the others come first
+-- the first entry of a list: its pairs with the others come first
 pub fold-pairs : {M A : Type 0} {_⊕_ : M → M → M} {u : M} (L : Monoid _⊕_ u) (f : A × A → M) (x : A) (l : List A) → fold _⊕_ u f (pairs (x ∷ l)) ≡ _⊕_ (fold _⊕_ u (λ y. f (x, y)) l) (fold _⊕_ u f (pairs l))
 unfolding pairs
 fold-pairs {A = A} {_⊕_ = _⊕_} {u = u} L f x l = fold-append L f (beside x l) (pairs l) ∙ ap (λ z. _⊕_ z (fold _⊕_ u f (pairs l))) (ap (fold _⊕_ u f) (beside-map x l) ∙ fold-map L f (λ y. (x, y)) l)
 
--- a fold over pairs that does not see which entry comes first is the same for every order of the list
+-- a fold over pairs that does not depend on which entry comes first is the same for every order of the list
 pub pairs-perm : {M A : Type 0} {_⊕_ : M → M → M} {u : M} (L : Monoid _⊕_ u) (f : A × A → M) → ((x y : A) → f (x, y) ≡ f (y, x)) → {l m : List A} → Perm l m → fold _⊕_ u f (pairs l) ≡ fold _⊕_ u f (pairs m)
 pairs-perm L f turn {l} {m} p = sym (fold-chosen L (λ z. z) (λ q. true) f (pairs l)) ∙ fold-perm L (λ z. z) (perm-pairs (λ q. true) f (λ x y. refl) turn p) ∙ fold-chosen L (λ z. z) (λ q. true) f (pairs m)
 

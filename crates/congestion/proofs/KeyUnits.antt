@@ -1,4 +1,4 @@
--- The key of a coordinate gives its 64ths back. Assumes nothing.
+-- The 64ths of a coordinate can be read from its key. Assumes nothing.
 use mathlib.Core.Path.{_≡_, ap, _∙_}
 use Prim.Native.Nat.{zero, suc}
 use lib.Dec.{T}
@@ -16,6 +16,6 @@ canonical-fits (inf s) h = h
 canonical-fits (fin s zero e) h = tt
 canonical-fits (fin s (suc m) e) h = h
 
--- the key of a coordinate gives its 64ths back
+-- the float of a coordinate's key has the coordinate's 64ths
 pub key-unit : (x : Float) → T (fits binary64 x) → unit (floatAt (keyOf (canonicalZero x))) ≡ unit x
 key-unit x h = ap unit (float-back (canonicalZero x) (canonical-fits x h)) ∙ canonical-unit x

@@ -43,7 +43,7 @@ unfolding fold
 held-fold f [] h = tt
 held-fold f (x ∷ l) h = held-lesser (f x) (fold (lesser ltb) none f l) (h x (inl refl)) (held-fold f l (λ y m. h y (inr m)))
 
--- ---- the lesser of two gaps that are so many 64ths
+-- ---- the lesser of two gaps that are whole numbers of 64ths
 abbrev asFloat : Option ℕ → Option Float
 asFloat none = none
 asFloat (some n) = some (ofUnits n)
@@ -70,7 +70,7 @@ present (some n) = refl
 pub lesser-gap : (a b : Option ℕ) → Held a → Held b → lesserGap (gapOfUnits a) (gapOfUnits b) ≡ gapOfUnits (lesser ltb a b)
 lesser-gap a b p q = sym (ap₂ lesserGap (present a) (present b)) ∙ sym (gap-from-lesser (asFloat a) (asFloat b)) ∙ ap gapFrom (lesser-units a b p q) ∙ present (lesser ltb a b)
 
--- ---- the least of chosen gaps that are so many 64ths
+-- ---- the least of chosen gaps that are whole numbers of 64ths
 module _ {A : Type 0} (p : A → Bool) (g : A → Float) (n : A → ℕ) where
   abbrev number : A → Option ℕ
   number x = cond (p x) (some (n x)) none
@@ -108,7 +108,7 @@ above-zero a b h = lt-lengths plusZero (ofUnits (apart a b)) 0 (apart a b) (refl
   | inr n ↦ lt-ltb 0 (apart a b) (omega arith) ∙ sym (ap not (ne-eqb a b n))
 ]
 
--- a gap that is passed over where it is zero
+-- a gap that is ignored where it is zero
 pub nonzero-one : (r z : Bool) (n : ℕ) → cond (r && not z) (some n) none ≡ cond r (nonzero z n) none
 nonzero-one true true n = refl
 nonzero-one true false n = refl

@@ -40,7 +40,7 @@ key e = cond (e .ends) (endKey (e .item)) (startKey (e .item))
 abbrev pub activeAt : ℕ → Item → Bool
 activeAt t i = ltb (startKey i) t && leb t (endKey i)
 
--- q holds the events of l that are left, in order: those with a key of t or more; p is the last coordinate
+-- q holds the remaining events of l, in order: those with a key of t or more; p is the last coordinate
 pub record Pending (l : List Item) (t p : ℕ) (q : List Event) : Type 0 where
   pub rising : Pairwise (λ x y. key x < key y) q
   pub from : (e : Event) → Mem e q → t ≤ key e

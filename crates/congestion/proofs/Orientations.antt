@@ -1,4 +1,4 @@
--- Wires of two orientations have nothing to do with one another: each figure is put together from those of the two. Assumes nothing.
+-- Wires of different orientations are never close: each figure is composed of those of the two orientations. Assumes nothing.
 use mathlib.Core.Path.{_≡_, refl, sym, ap, ap₂, _∙_, subst}
 use mathlib.Core.List.{List, [], _∷_}
 use mathlib.Core.Option.{none}
@@ -55,7 +55,7 @@ module _ {M : Type 0} {_⊕_ : M → M → M} {u : M} (W : Monoid _⊕_ u) where
       go true x = sym (idr W x)
       go false x = sym (W .idl x)
 
-  -- f sees only the wires of the orientation h
+  -- f is u but for the wires of the orientation h
   fold-only : (h : Bool) (f : Wire → M) (l : List Wire) → ((t : Wire) → Bool·beq h (t .horizontal) ≡ false → f t ≡ u) → fold _⊕_ u f l ≡ fold _⊕_ u f (only h l)
   fold-only h f l z = fold-same W f (λ s. cond (Bool·beq h (s .horizontal)) (f s) u) l (λ s m. go s (Bool·beq h (s .horizontal)) refl) ∙ sym (fold-chosen W f (λ s. Bool·beq h (s .horizontal)) (λ s. s) l)
     where
@@ -63,7 +63,7 @@ module _ {M : Type 0} {_⊕_ : M → M → M} {u : M} (W : Monoid _⊕_ u) where
       go s true e = refl
       go s false e = z s e
 
-  -- f sees only the pairs of one orientation
+  -- f is u but for the pairs of one orientation
   pairs-two : (f : Wire × Wire → M) (l : List Wire) → ((s t : Wire) → Bool·beq (s .horizontal) (t .horizontal) ≡ false → f (s, t) ≡ u) → fold _⊕_ u f (pairs l) ≡ fold _⊕_ u f (pairs (only true l)) ⊕ fold _⊕_ u f (pairs (only false l))
   unfolding chosen fold pairs
   pairs-two f [] z = sym (W .idl u)

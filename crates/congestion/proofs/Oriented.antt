@@ -45,7 +45,7 @@ range-is c s t = same-test (inRange c s t) (ltb (apart (s .fixed) (t .fixed)) c)
     right : (a b : ℕ) → apart a b < c → b < a + c
     right a b p = omega arith
 
--- a gap is one number either way round
+-- a gap does not depend on which coordinate comes first
 pub apart-turn : (a b : ℕ) → apart a b ≡ apart b a
 apart-turn a b = ap₂ (λ (m n : ℕ). m - n) (max-comm a b) (min-comm a b)
 
@@ -116,7 +116,7 @@ module _ (c : ℕ) (L : List Wire) (sound : Sound L) (alike : (s t : Wire) → M
       meet : (j : Item) → T (on k j) → overlaps (i .wire) (j .wire) ≡ true
       meet j t = let x = covers-from k (j .wire) t in let y = covers-to k (j .wire) t in lt-ltb (max (i .wire .start) (j .wire .start)) (min (i .wire .end) (j .wire .end)) (omega arith)
 
-  -- a fold over the cells of the whole sweep that sees only one wire's is the fold over that wire's
+  -- a fold over the cells of the whole sweep that is u off one wire is the fold over that wire's cells
   own-cells : {M : Type 0} {_⊕_ : M → M → M} {u : M} (W : Monoid _⊕_ u) (i : Item) → Mem i l → (f : Bool → ℕ → M) (g : ℕ → M) → ((k : ℕ) → f false k ≡ u) → ((k : ℕ) → i .wire .start ≤ k → k < i .wire .end → f true k ≡ g k) → fold _⊕_ u (λ k. f (on k i) k) (cellsFrom lo (hi - lo)) ≡ fold _⊕_ u g (cells (i .wire))
   own-cells W i m f g p q =
       cells-within W (λ k. f (on k i) k) g lo hi (i .wire .start) (i .wire .end) (from-first c l fit i m) (le-of-lt (fit .long i m)) (ended i m)
@@ -149,7 +149,7 @@ module _ (c : ℕ) (L : List Wire) (sound : Sound L) (alike : (s t : Wire) → M
       ∙ greatest .idl _
       ∙ tops-are (neighborsIn (facing c) l) (neighborsOn c L) neighbors-on-is
 
-  -- ---- pairs: n where they are in range, o where their nets differ, v where they overlap
+  -- ---- a pair: n says whether it is in range, o whether the nets differ, v whether it overlaps
   shared : (i j : Item) → Mem i l → (n o v : Bool) → overlaps (i .wire) (j .wire) ≡ v → sum (λ k. bit (on k i && (on k j && (n && o)))) (cellsFrom lo (hi - lo)) ≡ cond ((n && v) && o) (overlap (i .wire) (j .wire)) 0
   shared i j m false o v e = cells-unit plus (λ k. bit (on k i && (on k j && false))) lo (hi - lo) (λ k x y. zero-bit (on k i && (on k j && false)) (λ t. and-r (on k j) false (and-r (on k i) (on k j && false) t)))
   shared i j m true false v e = cells-unit plus (λ k. bit (on k i && (on k j && false))) lo (hi - lo) (λ k x y. zero-bit (on k i && (on k j && false)) (λ t. and-r (on k j) false (and-r (on k i) (on k j && false) t))) ∙ sym (ap (λ (b : Bool). cond b (overlap (i .wire) (j .wire)) 0) (and-comm v false))

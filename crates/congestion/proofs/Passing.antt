@@ -1,4 +1,4 @@
--- What the sweep has summed up when it has passed all events: each sum over the time between events is a sum over cells. Assumes nothing.
+-- The sums of the sweep after all events: each sum over the stretches between events is a sum over cells. Assumes nothing.
 use mathlib.Core.Path.{_≡_, refl, sym, ap, ap₂, _∙_}
 use mathlib.Core.Logic.{inl, inr}
 use mathlib.Core.List.{List, [], _∷_}
@@ -27,7 +27,7 @@ abbrev pub on : ℕ → Item → Bool
 on k i = covers k (i .wire)
 
 module _ (c : ℕ) (l : List Item) (fit : Fit l) where
-  -- ---- the induction over the events that are left
+  -- ---- the induction over the remaining events
   pub sweep-ind : (P : ℕ → List Event → State → Type 0)
       → ((t : ℕ) (st : State) → Pending l t (st .previous) [] → P t [] st)
       → ((t : ℕ) (b : Bool) (s : Item) (q : List Event) (st : State) → Pending l t (st .previous) (event b s ∷ q) → Tracks c l (activeAt t) st → P (key (event b s) + 1) q (step c st (event b s) .value) → P t (event b s ∷ q) st)
@@ -39,7 +39,7 @@ module _ (c : ℕ) (l : List Item) (fit : Fit l) where
       moved true s pe = next l fit t (st .previous) (event true s) q pe
       moved false s pe = next l fit t (st .previous) (event false s) q pe
 
-  -- ---- a sum that grows by a count times the time between events, where the count is F of the active set
+  -- ---- a sum that grows by a count times the distance between events, where the count is F of the active set
   module _ (F : (Item → Bool) → ℕ) (F-same : (v w : Item → Bool) → ((j : Item) → Mem j l → v j ≡ w j) → F v ≡ F w) (F-none : F (λ i. false) ≡ 0)
       (acc cnt : State → ℕ) (grows : (b : Bool) (s : Item) (st : State) → acc (step c st (event b s) .value) ≡ acc st + cnt st * (at (event b s) - st .previous))
       (counts : (t : ℕ) (st : State) → Tracks c l (activeAt t) st → cnt st ≡ F (activeAt t)) where

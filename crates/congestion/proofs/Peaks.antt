@@ -1,4 +1,4 @@
--- The peak, for any count that depends on the active set and grows with it: the greatest count met after a start is the greatest over all cells. The sweep's own peak is of the number of neighbors. Assumes nothing.
+-- The peak, for any count that depends on the active set and grows with it: the greatest count after any start is the greatest over all cells. For the sweep's own peak the count is the number of neighbors. Assumes nothing.
 use mathlib.Core.Path.{_≡_, refl, sym, ap, _∙_, subst}
 use mathlib.Core.Logic.{inl}
 use mathlib.Core.List.{List, [], _∷_, _++_}
@@ -26,7 +26,7 @@ module _ (l : List Item) (N : (Item → Bool) → Item → ℕ) where
   abbrev pub topIn : (Item → Bool) → ℕ
   topIn w = fold max 0 (λ i. cond (w i) (N w i) 0) l
 
-  -- what is met at an event: after a start the greatest count, at an end nothing
+  -- the count that an event contributes: the greatest one after a start, 0 at an end
   abbrev pub metAt : Event → ℕ
   metAt e = cond (e .ends) 0 (topIn (activeAt (key e + 1)))
 
@@ -69,7 +69,7 @@ first-cell f x hi h =
     up : (a b : ℕ) → a ≤ max a b
     up a b = omega arith
 
--- ---- a count that grows with the set; so it sees only which items of the list are in it
+-- ---- a count that grows with the set, so that it depends only on which items of the list are in it
 module _ (l : List Item) (fit : Fit l) (N : (Item → Bool) → Item → ℕ) (grows : (v w : Item → Bool) → ((j : Item) → Mem j l → T (v j) → T (w j)) → (i : Item) → N v i ≤ N w i) where
   top-grows : (v w : Item → Bool) → ((j : Item) → Mem j l → T (v j) → T (w j)) → topIn l N v ≤ topIn l N w
   top-grows v w h = top-at-most l N v (topIn l N w) (λ i m t. le-trans (grows v w h i) (in-top l N w i m (h i m t)))
@@ -135,7 +135,7 @@ module _ (c : ℕ) (l : List Item) (fit : Fit l) where
   abbrev count : (Item → Bool) → Item → ℕ
   count = neighborsIn (facing c) l
 
-  -- after a start the state's peak has met the greatest count
+  -- after a start the state's peak is the greater of the peak before and the greatest count
   meets-top : (t : ℕ) (s : Item) (q : List Event) (st : State) → Pending l t (st .previous) (event false s ∷ q) → Tracks c l (activeAt t) st → max (st .peakCloseNeighbors) (highest c s st) ≡ max (st .peakCloseNeighbors) (topIn l count (activeAt (startKey s + 1)))
   meets-top t s q st pe tr =
       let m = item∈ l fit t (st .previous) (event false s) q pe in

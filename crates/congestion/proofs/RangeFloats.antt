@@ -1,4 +1,4 @@
--- A coordinate on the grid less the cutoff, and the two together: both are exact, neither is -0, and their keys and those of coordinates are in the order of the 64ths. Assumes nothing.
+-- A coordinate on the grid minus the cutoff, and plus the cutoff: both are exact, neither is -0, and their keys and those of coordinates are in the order of the 64ths. Assumes nothing.
 use mathlib.Core.Path.{_≡_, refl, sym, ap, ap₂, _∙_, subst}
 use mathlib.Core.Logic.{inl, inr}
 use mathlib.Core.Bool.{Bool, true, false, not}
@@ -24,7 +24,7 @@ use Rattle.floats.proofs.Units.{of-units-value, grid-value, steps-bound, unit-b
 use Rattle.congestion.specs.Wires.{cutoffOf}
 use Rattle.congestion.specs.Inner.Keys.{Key}
 
--- ---- the word of a number is the key of the float at it
+-- ---- the key of the float at a word is that word
 key-of-pattern : (k : ℕ) → k < 2 ^ 64 → (key (patternAt k) ≡ k) × (patternAt k < 2 ^ 64)
 key-of-pattern k h = elim (le-or-lt (2 ^ 63) k) [
   | inl p ↦ let e = pattern-high k p in (ap key e ∙ key-low (k - 2 ^ 63) (omega arith) ∙ omega arith, omega arith)
@@ -45,7 +45,7 @@ float-fits : (w : ℕ) → T (fits binary64 (floatAt w))
 unfolding floatAt
 float-fits w = ofBits-fits binary64 (patternAt w)
 
--- ---- a float that is so many 64ths above or below 0, with 2 ^ 28 for 0
+-- ---- a float that is p - 2 ^ 28 64ths, which may be below 0
 record Spot (x : Float) (p : ℕ) : Type 0 where
   num : Num binary64 x
   plain : canonicalZero x ≡ x
@@ -91,7 +91,7 @@ grid-spot x p g z = let b = steps-bound x g in record { num = (p, grid-num x g);
 word-spot : (w u : ℕ) → Key w u → Spot (floatAt w) (201326592 + u)
 word-spot w u k = subst (λ (n : ℕ). Spot (floatAt w) (201326592 + n)) (k .is) (grid-spot (floatAt w) (float-fits w) (k .grid) (k .plain))
 
--- ---- a rounded number of 64ths; it is no -0
+-- ---- a rounded number of 64ths; it is not -0
 not-zero : (x : Float) (s : Bool) (n : ℕ) → HasValue x s n 64 → 0 < n → canonicalZero x ≡ x
 unfolding canonicalZero
 not-zero nan s n v h = absurd v
@@ -108,7 +108,7 @@ round-plain s (suc n) h k = not-zero (round binary64 s (suc n) 64) s (suc n) (of
 round-spot : (x : Float) (s : Bool) (n p : ℕ) → x ≡ round binary64 s n 64 → n ≤ 268435456 → (T s → 0 < n) → at 268435456 s n ≡ p → Spot x p
 round-spot x s n p e h k is = subst (λ (z : Float). Spot z p) (sym e) (record { num = round-num binary64 s n 64; plain = round-plain s n (omega arith) k; sign = s; size = n; small = h; value = of-units-value s n (omega arith); is = is })
 
--- ---- a coordinate less another
+-- ---- a coordinate minus another
 sub-spot : (x y : Float) (p : ℕ) → T (onGrid x) → T (onGrid y) → canonicalZero x ≡ x → p + unit y ≡ 268435456 + unit x → Spot (sub binary64 x y) p
 unfolding ofUnits
 sub-spot x y p g k z e =
@@ -119,7 +119,7 @@ sub-spot x y p g k z e =
       | inr h ↦ round-spot (sub binary64 x y) true (unit y - unit x) p (sub-below x y g k h) (omega arith) (λ t. omega arith) (omega arith)
     ]
 
--- a sum is the difference with the sign turned
+-- a sum is the difference from the second number negated
 add-sub : (x y : Float) → add binary64 x y ≡ sub binary64 x (neg y)
 unfolding sub neg
 add-sub x nan = refl
@@ -135,7 +135,7 @@ neg-grid (inf s) g = absurd g
 neg-grid (fin true m e) g = (g, omega (arith, steps-bound (fin true m e) g))
 neg-grid (fin false m e) g = (g, omega (arith, steps-bound (fin false m e) g))
 
--- ---- the words of two coordinates of u and v 64ths, and a cutoff of c
+-- ---- the keys of two coordinates of u and v 64ths, and a cutoff of c
 module _ (w z u v c : ℕ) (cutoff : Float) (small : z < 2 ^ 64) (a : Key w u) (b : Key z v) (e : c ≡ cutoffOf cutoff) (h : 0 < c) (g : T (onGrid cutoff)) where
   cutoff-unit : (unit cutoff ≡ 67108864 + c) × (c ≤ 67108864)
   unfolding cutoffOf

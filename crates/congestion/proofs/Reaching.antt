@@ -1,4 +1,4 @@
--- What a sweep that keeps its own tally leans on at each event: the state after any of them, and that no count goes below 0. Assumes nothing.
+-- What a sweep that keeps its own tally uses at each event: the state after any of them, and that no count goes below 0. Assumes nothing.
 use mathlib.Core.Path.{_≡_, ap, _∙_}
 use mathlib.Core.List.{List, _∷_}
 use mathlib.Core.Bool.{Bool, true, false, _&&_}
@@ -13,7 +13,7 @@ use Rattle.congestion.proofs.Tracking.{facing, Tracks, tracks-same, gro
 use Rattle.congestion.proofs.Moments.{Fit, Pending, event, endKey, key, activeAt, unchanged, next, item∈, off-after, end-drops, step-tracks}
 use Rattle.congestion.proofs.Beginning.{pending, tracks}
 
--- ---- the state after any part of the events is that of a set which the keys give
+-- ---- the state after any part of the events is that of an active set, given by the keys
 pub record Reached (c : ℕ) (l : List Item) (q : List Event) (st : State) : Type 0 where
   pub threshold : ℕ
   pub left : Pending l threshold (st .previous) q
@@ -46,7 +46,7 @@ module _ (c : ℕ) (l : List Item) (fit : Fit l) where
     pub pairs-room : neighbors c s st ≤ st .closePairs
     pairs-room = let e = pairs-before c l (fit .rise) s s∈ (activeAt (endKey s + 1)) (activeAt (endKey s)) (off-after l fit s s∈) (end-drops l fit s s∈) (s .wire .end) st at-end in omega arith
 
-    -- `*count -= 1` does not: a neighbor of s has a count of 1 at least
+    -- `*count -= 1` does not: a neighbor of s has a count of at least 1
     pub count-room : (j : Item) → Mem j l → T (facing c s j) → 1 ≤ neighborsIn (facing c) l (activeAt (endKey s)) j
     count-room j m h =
         let e : neighborsIn (facing c) l (activeAt (endKey s)) j ≡ neighborsIn (facing c) l (activeAt (endKey s + 1)) j + 1 = grows c l (fit .rise) s s∈ (activeAt (endKey s + 1)) (activeAt (endKey s)) (off-after l fit s s∈) (end-drops l fit s s∈) (s .wire .end) st j ∙ ap (λ (b : Bool). neighborsIn (facing c) l (activeAt (endKey s + 1)) j + bit b) (is-true (facing c s j) h) in

@@ -40,7 +40,7 @@ use Rattle.congestion.proofs.Closeness.{overlap-floats}
 use Rattle.congestion.proofs.LeastGap.{held-lesser, held-least, lesser-gap, least-gap}
 use Rattle.congestion.proofs.RoundedSweep.{ItemStands, amounts-exact}
 
--- ---- the floats by index are those of the segment behind an item
+-- ---- the floats at an item's index are those of the item's segment
 record Behind (n : ℕ) (l : List Segment) (i : Item) : Type 0 where
   place : ℕ
   segment : Segment

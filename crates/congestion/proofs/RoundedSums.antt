@@ -29,7 +29,7 @@ use Rattle.congestion.proofs.Orientations.{overlap-sum}
 use Rattle.congestion.proofs.Fitness.{FitList, sound-wires}
 use Rattle.congestion.proofs.Bounds.{Small, total-small, overlap-small}
 
--- ---- a running sum of so many 64ths
+-- ---- a running sum of whole numbers of 64ths
 running-units : (z : ℕ) (l : List ℕ) → z + sum (λ n. n) l < 2 ^ 53 → runningSum (ofUnits z) (map ofUnits l) ≡ ofUnits (z + sum (λ n. n) l)
 unfolding runningSum fold
 running-units z [] h = let e : z ≡ z + 0 = omega arith in ap ofUnits e
@@ -50,7 +50,7 @@ sum-units l h = ap (λ (x : Float). runningSum x (map ofUnits l)) (sym zero-unit
 map-under : {A C D : Type 0} (f : C → D) (h : A → C) (g : A → D) (l : List A) → ((x : A) → Mem x l → g x ≡ f (h x)) → map g l ≡ map f (map h l)
 map-under f h g l e = map-same g (λ x. f (h x)) l e ∙ sym (map-map f h l)
 
--- ---- and in any order: the number of 64ths of a length is known from the float
+-- ---- the sum in any order: the float of a length determines its number of 64ths
 abbrev back : Float → ℕ
 back x = unit x - 67108864
 

@@ -50,7 +50,7 @@ congestedIn R l w = count (λ i. w i && not (eqb (neighborsIn R l w i) 0)) l
 abbrev pub pairsIn : (Item → Item → Bool) → List Item → (Item → Bool) → ℕ
 pairsIn R l w = count (λ p. w (p .0) && (w (p .1) && R (p .0) (p .1))) (pairs l)
 
--- they see only which items of the list are in the set
+-- they depend only on which items of the list are in the set
 module _ (R : Item → Item → Bool) (l : List Item) (v w : Item → Bool) (eq : (j : Item) → Mem j l → v j ≡ w j) where
   pub neighbors-same : (i : Item) → neighborsIn R l v i ≡ neighborsIn R l w i
   neighbors-same i = fold-same plus (λ j. bit (v j && R i j)) (λ j. bit (w j && R i j)) l (λ j m. ap (λ (b : Bool). bit (b && R i j)) (eq j m))

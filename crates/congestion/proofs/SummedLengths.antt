@@ -14,7 +14,7 @@ use Rattle.drawing.specs.Inner.Lengths.{SegmentsAgree}
 use Rattle.drawing.proofs.EntryLaws.{length-segments, segments-at}
 use Rattle.congestion.specs.Rounded.{runningSum, span, roundedTotal}
 
--- after i segments the lengths of the others are still to be added
+-- the total so far, with the lengths of the remaining segments added
 abbrev lengthsFrom : Float → List Segment → Float
 lengthsFrom total l = runningSum total (map (λ (s : Segment). span (s .start) (s .end)) l)
 

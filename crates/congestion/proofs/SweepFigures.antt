@@ -33,7 +33,7 @@ use Rattle.congestion.proofs.Orientations.{of-only, length-only, alike,
 sound-only : (h : Bool) (l : List Wire) → Sound l → Sound (only h l)
 sound-only h l v = record { few = le-trans (le-of-eq (length-only h l)) (le-trans (count-at-most (λ s. Bool·beq h (s .horizontal)) l) (v .few)); ordered = λ s m. v .ordered s (of-only h s l m .0) }
 
--- ---- figures with nothing in them: no wire is close to one of a different net
+-- ---- figures that are all 0: no wire is close to one of a different net
 module _ (c : ℕ) (l : List Wire) (no-others : (s t : Wire) → Mem s l → Mem t l → closeOther c s t ≡ false) where
   none-on : (s : Wire) → Mem s l → (k : ℕ) → neighborsOn c l s k ≡ 0
   none-on s m k = fold-unit plus (λ t. bit (closeOther c s t && covers k t)) l (λ t n. ap (λ (b : Bool). bit (b && covers k t)) (no-others s t m n))
@@ -105,14 +105,14 @@ one-way c pos h l v = elim (decide (ltb (length (only h l)) 2)) [
     like s t m n = alike h (s .horizontal) (t .horizontal) (of-only h s l m .1) (of-only h t l n .1)
 
 -- ---- the whole sweep
--- figures that are so many 64ths, at a cost
+-- figures given in 64ths, at a cost
 abbrev pub gathered : ℕ → ℕ → ℕ → ℕ → Option ℕ → ℕ → Charged (ParallelCongestion × Gap)
 gathered t c o p g n = record { value = (lengths t c o p, gapOfUnits g); cost = n }
 
 abbrev pub found : ℕ → List Wire → Charged (ParallelCongestion × Gap)
 found c l = gathered (total l) (congested c l) (pairOverlap c l) (peak c l) (leastUnits c l) (visits c l)
 
--- "Cutoff 0 or less gives total length, zeros and an absent gap", at no cost
+-- SCOPE 3.16, 4.5: "Cutoff 0 or less gives total length, zeros and an absent gap", at no cost
 pub zero-cutoff : (c : ℕ) → c ≡ 0 → (l : List Wire) → found c l ≡ gathered (total l) 0 0 0 none 0
 unfolding visits
 zero-cutoff c e l =

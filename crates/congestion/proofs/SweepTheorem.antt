@@ -1,4 +1,4 @@
--- The Rust's sweep, its segments in document 01's order, finds the all-pairs report of a fit drawing and costs its visit count; and both are the same for every order of the segments. Assumes nothing.
+-- The Rust's sweep, its segments in the order of SCOPE 9.4, finds the all-pairs report of a fit drawing and costs its visit count; and both are the same for every order of the segments. Assumes nothing.
 use mathlib.Core.Path.{_≡_, sym, _∙_}
 use mathlib.Core.Bool.{false}
 use mathlib.Core.List.{List, map}
@@ -47,7 +47,7 @@ module _ (cutoff : Float) (grid : T (onGrid cutoff)) where
       ∙ sym (all-pairs-found (segmentsInOrder l) g)
       ∙ all-pairs-order p g
 
-  -- "Cutoff 0 or less gives total length, zeros and an absent gap": the cutoff is not above 0
+  -- SCOPE 3.16, 4.5: "Cutoff 0 or less gives total length, zeros and an absent gap": the cutoff is not above 0
   pub no-cutoff : lt plusZero cutoff ≡ false → (l : List Segment) → FitList l → allPairs cutoff l ≡ record { value = (lengths (total (map wireOf l)) 0 0 0, Absent); cost = 0 }
   unfolding cutoffOf
   no-cutoff e l f =

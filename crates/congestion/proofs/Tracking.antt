@@ -114,7 +114,7 @@ module _ (c : ℕ) (l : List Item) (rise : Rising l) (s : Item) (s∈ : Mem s l)
     pairs-start : atStart c s st x .closePairs ≡ pairsIn (facing c) l v
     pairs-start = ap₂ _+_ (t .pairs-are) neighbors-start ∙ sym (pairs-add (facing c) (facing-sym c) (facing-irr c) l rise s s∈ w v new adds)
 
-    -- the greatest count among the neighbors, this item counted
+    -- the greatest count among the neighbors, this item included
     abbrev raised : ℕ
     raised = fold max 0 (λ r. cond (neighbor c (s .wire) r) (r .neighbors + 1) 0) (st .rows)
 
@@ -192,7 +192,7 @@ module _ (c : ℕ) (l : List Item) (rise : Rising l) (s : Item) (s∈ : Mem s l)
         go true b false true n p e g k = ap₂ (λ (y : Bool) (z : ℕ). bit ((y && true) && eqb (cond y z 0) 1)) e k ∙ ap bit (one-less n)
         go false b false true n p e g k = ap (λ (y : Bool). bit ((y && true) && eqb (cond y p 0) 1)) e
 
-    -- what was there, and what the end takes away: neither subtraction goes below 0
+    -- the count before an end is what remains plus what the end subtracts, so that no subtraction goes below 0
     pub active-before : st .congestedActive ≡ congestedIn (facing c) l w + wasCongested c s st + count (λ r. neighbor c (s .wire) r && eqb (r .neighbors) 1) (st .rows)
     active-before = t .active-is ∙ congested-add (facing c) (facing-sym c) (facing-irr c) l rise s s∈ w v new adds ∙ ap₂ (λ (a b : ℕ). congestedIn (facing c) l w + a + b) (sym congested-end) (sym stale)
 

@@ -8,11 +8,11 @@ use Rattle.rows.specs.Rows.{atLeastTwo}
 use Rattle.congestion.specs.Wires.{Wire}
 use Rattle.congestion.specs.Figures.{close}
 
--- the close pairs of all nets, how many
+-- the number of close pairs of all nets
 unfoldable pub closePairs : ℕ → List Wire → ℕ
 closePairs c l = count (λ p. close c (p .0) (p .1)) (pairs l)
 
--- the wires of one orientation, how many
+-- the number of wires of one orientation
 abbrev pub inOrientation : Bool → List Wire → ℕ
 inOrientation h l = count (λ s. Bool·beq h (s .horizontal)) l
 

@@ -1,4 +1,4 @@
--- The sums of lengths as the Rust's sweep takes them, with IEEE 754's rounded steps.
+-- The sums of lengths as the Rust's sweep takes them, with IEEE 754's rounded steps (SCOPE 1.3, 8.2).
 use mathlib.Core.List.{List, [], _∷_, map}
 use mathlib.Core.Bool.{Bool, true, false, _&&_, Bool·beq, cond}
 use Prim.Native.Nat.{ℕ}
@@ -31,7 +31,7 @@ pub record Amounts : Type 0 where
   pub previous : Float
   pub minimumPositive : Gap
 
--- `congested_length += congested_active as f64 * (coordinate.0 - previous)`, and so for the pairs; then the least of the separations of the neighbors that are `> 0.0`
+-- `congested_length += congested_active as f64 * (coordinate.0 - previous)`, and the same for the pairs; then the least of the separations of the neighbors that are `> 0.0`
 unfoldable pub roundedStep : ℕ → Coordinates → State → Amounts → Event → Amounts
 roundedStep c x st a e = record {
   congestedLength = add binary64 (a .congestedLength) (mul binary64 (ofInt binary64 (pos (st .congestedActive))) (sub binary64 (coordinate x e) (a .previous)));
@@ -40,12 +40,12 @@ roundedStep c x st a e = record {
   minimumPositive = lesserGap (a .minimumPositive) (leastGap (chosen (λ r. neighbor c (e .item .wire) r && lt plusZero (gapOf (x .fixed (r .item)) (x .fixed (e .item)))) (λ r. gapOf (x .fixed (r .item)) (x .fixed (e .item))) (st .rows)));
 }
 
--- over events, beside the states of the sweep
+-- the same over all events, with the states of the sweep
 unfoldable pub roundedRun : ℕ → Coordinates → State → Amounts → List Event → Amounts
 roundedRun c x st a [] = a
 roundedRun c x st a (e ∷ q) = roundedRun c x (step c st e .value) (roundedStep c x st a e) q
 
--- at the first event nothing is summed up
+-- before the first event: the sums are 0, and `previous` is its coordinate
 abbrev pub firstAmounts : Coordinates → List Event → Amounts
 firstAmounts x [] = record { congestedLength = plusZero; pairOverlapLength = plusZero; previous = plusZero; minimumPositive = Absent }
 firstAmounts x (e ∷ q) = record { congestedLength = plusZero; pairOverlapLength = plusZero; previous = coordinate x e; minimumPositive = Absent }

@@ -1,4 +1,4 @@
--- The Rust's sweep with no limit, over wires: a state for each event, and the visits that each event costs.
+-- The Rust's sweep with no limit (SCOPE 5.12), over wires: a state for each event, and the visits that each event costs.
 use mathlib.Core.List.{List, [], _∷_, map}
 use mathlib.Core.Option.{Option, none, some}
 use mathlib.Core.Bool.{Bool, true, false, not, _&&_, Bool·beq, cond}
@@ -38,7 +38,7 @@ pub record Event : Type 0 where
 abbrev pub at : Event → ℕ
 at e = cond (e .ends) (e .item .wire .end) (e .item .wire .start)
 
--- `(coordinate, 0 for an end and 1 for a start, index)`, in dictionary order: ends come before starts at one coordinate
+-- SCOPE 5.9: `(coordinate, 0 for an end and 1 for a start, index)`, in dictionary order: ends come before starts at one coordinate
 abbrev pub eventRow : Event → List ℕ
 eventRow e = at e ∷ cond (e .ends) 0 1 ∷ e .item .index ∷ []
 
@@ -51,17 +51,17 @@ events (i ∷ l) = record { ends = true; item = i } ∷ record { ends = false; i
 unfoldable pub inOrder : List Event → List Event
 inOrder l = sortBy (λ a b. rowLe (eventRow a) (eventRow b)) l
 
--- what the sweep remembers of one wire: whether it is active, and its `close_neighbor_counts`
+-- what the sweep stores for one wire: whether it is active, and its `close_neighbor_counts`
 pub record Row : Type 0 where
   pub item : Item
   pub active : Bool
   pub neighbors : ℕ
 
--- `Excluded(FloatKey(query.fixed - cutoff)), Excluded(FloatKey(query.fixed + cutoff))`, in 64ths
+-- SCOPE 5.12: `Excluded(FloatKey(query.fixed - cutoff)), Excluded(FloatKey(query.fixed + cutoff))`, in 64ths
 abbrev pub inRange : ℕ → Wire → Wire → Bool
 inRange c s t = ltb (s .fixed) (t .fixed + c) && ltb (t .fixed) (s .fixed + c)
 
--- an active wire in the range costs a visit
+-- SCOPE 5.12: an active wire in the range costs a visit
 abbrev pub visited : ℕ → Wire → Row → Bool
 visited c s r = r .active && inRange c s (r .item .wire)
 
@@ -72,7 +72,7 @@ neighbor c s r = r .active && (inRange c s (r .item .wire) && other s (r .item .
 abbrev pub same : Item → Item → Bool
 same i j = eqb (i .index) (j .index)
 
--- what a start of an item with n neighbors, and what an end, does to a row: that of the item itself, that of a neighbor, any other
+-- a row after the start of an item with n neighbors, and after an end: the row of the item itself, that of a neighbor, any other
 abbrev pub risen : Bool → Bool → ℕ → Row → Row
 risen true b n r = record { item = r .item; active = true; neighbors = n }
 risen false true n r = record { item = r .item; active = r .active; neighbors = r .neighbors + 1 }
@@ -83,7 +83,7 @@ fallen true b r = record { item = r .item; active = false; neighbors = 0 }
 fallen false true r = record { item = r .item; active = r .active; neighbors = r .neighbors - 1 }
 fallen false false r = r
 
--- the Rust's variables; `rows` stands for its set of active wires and their counts
+-- the Rust's variables; `rows` represents its set of active wires and their counts
 pub record State : Type 0 where
   pub rows : List Row
   pub congestedActive : ℕ
@@ -145,7 +145,7 @@ module _ (c : ℕ) (i : Item) (st : State) where
     minimumPositive = lesser ltb (st .minimumPositive) leastHere;
   }
 
--- one event: each active wire in the range costs one visit
+-- SCOPE 5.12: one event: each active wire in the range costs one visit
 abbrev pub step : ℕ → State → Event → Charged State
 step c st e = record { value = cond (e .ends) (atEnd c (e .item) st (at e)) (atStart c (e .item) st (at e)); cost = count (visited c (e .item .wire)) (st .rows) }
 
@@ -162,7 +162,7 @@ begin l = record { rows = map (λ i. record { item = i; active = false; neighbor
 unfoldable pub sweep : ℕ → List Wire → Charged State
 sweep c l = let i = numbered 0 l in runs (step c) (begin i) (inOrder (events i))
 
--- the same `if oriented.len() >= 2`: else nothing is done
+-- SCOPE 5.12: the same `if oriented.len() >= 2`: else nothing is done
 unfoldable pub along : ℕ → List Wire → Charged State
 along c l = cond (ltb (length l) 2) (free (begin [])) (sweep c l)
 
@@ -170,12 +170,12 @@ along c l = cond (ltb (length l) 2) (free (begin [])) (sweep c l)
 abbrev pub only : Bool → List Wire → List Wire
 only h l = keep (λ s. Bool·beq h (s .horizontal)) l
 
--- the gap of so many 64ths
+-- the gap of a number of 64ths
 abbrev pub gapOfUnits : Option ℕ → Gap
 gapOfUnits none = Absent
 gapOfUnits (some n) = Present (ofUnits n)
 
--- `measure_parallel_profile_bounded` with no limit; on an empty list, where the Rust returns early too, all is 0
+-- SCOPE 3.16, 5.12: `measure_parallel_profile_bounded` with no limit; on an empty list, where the Rust returns early too, all is 0
 unfoldable pub sweepWires : ℕ → List Wire → Charged (ParallelCongestion × Gap)
 sweepWires c l =
     cond (eqb c 0) (free (lengths (total l) 0 0 0, Absent))
@@ -184,6 +184,6 @@ sweepWires c l =
       gapOfUnits (lesser ltb (h .minimumPositive) (v .minimumPositive)),
     ))))
 
--- "Each measure walks as if its segments came in the order net, orientation byte, fixed, start, end"
+-- SCOPE 9.4: "Each measure walks as if its segments came in the order net, orientation byte, fixed, start, end"
 unfoldable pub walkAll : Float → List Segment → Charged (ParallelCongestion × Gap)
 walkAll cutoff l = sweepWires (cutoffOf cutoff) (map wireOf (segmentsInOrder l))

@@ -1,4 +1,4 @@
--- Segments on the grid in whole numbers of 1/64.
+-- Segments on the grid in whole numbers of 1/64 (SCOPE 9.1).
 use mathlib.Core.Bool.{Bool}
 use Prim.Native.Nat.{ℕ, _-_}
 use lib.Dec.{eqb}
@@ -13,10 +13,10 @@ pub record Wire : Type 0 where
   pub start : ℕ
   pub end : ℕ
 
--- a segment's coordinates as `unit` counts them: both zeros have one number, so that "Congestion turns -0 into +0 first" holds of all that is said of wires; "orientation byte 1 horizontal"
+-- a segment's coordinates as `unit` counts them: both zeros have one number, so that SCOPE 9.2, "Congestion turns -0 into +0 first", holds of everything defined over wires. SCOPE 2.1: "orientation byte 1 horizontal"
 abbrev pub wireOf : Segment → Wire
 wireOf s = record { net = s .net; horizontal = eqb (s .orientation) 1; fixed = unit (s .fixed); start = unit (s .start); end = unit (s .end) }
 
--- a cutoff in whole numbers of 1/64, 0 where it is 0 or less
+-- SCOPE 3.16: a cutoff in whole numbers of 1/64, 0 where it is 0 or less
 unfoldable pub cutoffOf : Float → ℕ
 cutoffOf x = unit x - zeroUnit

@@ -8,7 +8,7 @@ use crate::report::ParallelCongestion;
 use drawing::Refusal;
 use drawing::visits_used;
 
-// The answer behind the checks, for this total length.
+// The answer of a call whose checks passed, for this total length.
 pub fn answer_of(swept: Swept, total: f64, allowance: usize) -> CongestionAnswer
     ensures { λ r. ⌜ r ≡ answerOf swept total allowance ⌝ }
 {

@@ -1,4 +1,4 @@
-// The checks of the congestion calls, in document 01's order.
+// The checks of the congestion calls, in the order of SCOPE 7.
 ghost use mathlib.Core.Path.{_≡_};
 ghost use Rattle.laws.specs.Lists.{some-of};
 ghost use Rattle.drawing.specs.Refusals.{firstOf};
@@ -12,7 +12,7 @@ use floats::is_finite;
 use floats::on_grid;
 use list_checks::check_segments;
 
-// 6: a coordinate is off the grid.
+// SCOPE 7.6: a coordinate is off the grid.
 fn segment_off_grid(fixed: f64, start: f64, end: f64) -> bool
     ensures { λ r. ⌜ r ≡ offGridLine fixed start end ⌝ }
 {

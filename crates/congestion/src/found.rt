@@ -1,7 +1,7 @@
 // What a sweep found.
 use drawing::Gap;
 
-// The figures of one orientation, and how many visits are left.
+// The figures of one orientation or of both, and the remaining visits.
 pub struct Found {
     pub congested_length: f64,
     pub pair_overlap_length: f64,

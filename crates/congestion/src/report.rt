@@ -4,7 +4,7 @@ ghost use Rattle.congestion.specs.Ratio as Ratio;
 use drawing::Gap;
 use drawing::Refusal;
 
-// Lengths of wires that run side by side.
+// The lengths of all wires and of those close to other nets, and the peak (SCOPE 3.11, 3.12, 3.13, 3.14).
 pub struct ParallelCongestion {
     pub total_length: f64,
     pub congested_length: f64,
@@ -15,7 +15,7 @@ pub struct ParallelCongestion {
 }
 
 impl ParallelCongestion {
-    // The congested part of the total length, from 0 to 1; 0 unless the total is above 0.
+    // SCOPE 3.17: the congested part of the total length, from 0 to 1; 0 unless the total is above 0.
     pub fn ratio(self) -> f64
         ensures { λ r. ⌜ r ≡ Ratio.ratio (self .«total_length») (self .«congested_length») ⌝ }
     {
@@ -49,7 +49,7 @@ pub struct CongestionReport {
     pub visits: usize,
 }
 
-// What a congestion call answers: its report, or why it is turned down.
+// What a congestion call answers: its report, or the refusal.
 pub enum CongestionAnswer {
     Report(CongestionReport),
     Refused(Refusal),

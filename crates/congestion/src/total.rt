@@ -5,7 +5,7 @@ ghost use Rattle.drawing.specs.Inner.Lengths.{SegmentsAgree};
 ghost use Rattle.congestion.specs.Rounded.{roundedTotal};
 use floats::canonical_zero;
 
-// The summed length of all segments, of columns of one length: the checks of a call stand in front. Columns too short have none.
+// The summed length of all segments, for columns of one length: the checks of a call come first. Where `start` or `end` is too short, the answer is 0.
 pub fn total_length(
     net: &[u32],
     orientation: &[u8],

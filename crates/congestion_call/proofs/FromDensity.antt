@@ -19,7 +19,7 @@ use Rattle.congestion.specs.Inner.Answering.{plainly}
 use Rattle.congestion.proofs.Fitness.{fit-list}
 use Rattle.congestion.proofs.Answers.{density-settles, congestion-earlier, congestion-reached, cost-at-most}
 
--- ---- `measure_parallel_congestion_profile_bounded`: "the same with pair overlap and peak zero"
+-- ---- SCOPE 6.2: `measure_parallel_congestion_profile_bounded`, "the same with pair overlap and peak zero"
 pub plain-answer : (c : SegmentColumns) (cutoff : Float) (allowance words : ℕ) → plainly (densityAnswer c cutoff allowance words) ≡ profileAnswer c cutoff allowance words
 unfolding densityAnswer profileAnswer settled settle
 plain-answer c cutoff allowance words = go (firstOf (congestionConditions c cutoff words)) (reaches allowance (allPairs cutoff (segments c)))

@@ -1,2 +1,2 @@
--- What the functions' proofs lean on.
+-- What the functions' proofs use.
 mod FromDensity

@@ -43,7 +43,7 @@ pub fn measure_parallel_congestion_profile_bounded(
     without_density(answer)
 }
 
-// No drawing takes 2^64 - 1 visits, so that this allowance always reaches.
+// SCOPE 6.2: no drawing takes 2^64 - 1 visits, so that this allowance always reaches.
 pub fn measure_parallel_congestion(
     net: &[u32],
     orientation: &[u8],

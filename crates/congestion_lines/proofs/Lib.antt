@@ -1,2 +1,2 @@
--- What the proofs of the functions lean on.
+-- What the proofs of the functions use.
 mod SameColumns

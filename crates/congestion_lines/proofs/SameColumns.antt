@@ -12,7 +12,7 @@ use Rattle.congestion.specs.declared.report.CongestionAnswer.{CongestionAnswer}
 use Rattle.congestion.specs.Conditions.{congestionConditions}
 use Rattle.congestion.specs.Answer.{densityAnswer, profileAnswer, congestionAnswer}
 
--- `answer` is what the call answers of columns, told how many words the scratch has
+-- `answer` is what the call answers of columns and the length of the scratch
 abbrev Promised : (SegmentColumns → ℕ → CongestionAnswer) → Float → List ℕ → CongestionAnswer → List ℕ → SegmentColumns → Type 0
 Promised answer cutoff before told after s = (told ≡ answer s (length before)) × (after ≡ scratchAfter (firstOf (congestionConditions s cutoff (length before))) before) × (firstOf (congestionConditions s cutoff (length before)) ≡ Passed → SegmentsHeld s × Binary64 cutoff)
 

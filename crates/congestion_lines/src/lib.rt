@@ -1,4 +1,4 @@
-// Congestion of a list of lines, its three calls: the columns are laid out, and the call by columns does the rest, its refusals included.
+// The three congestion calls for a list of segments, each one a `Line` (SCOPE 2.6, 15.9): they are copied into columns, and the call by columns does all else, its refusals included.
 pub mod density;
 pub mod profile;
 pub mod unbounded;

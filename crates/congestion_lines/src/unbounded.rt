@@ -1,4 +1,4 @@
-// Congestion without an allowance of a list of lines: its columns are laid out, and the call by columns does the rest, its refusals included.
+// Congestion without an allowance of a list of segments: they are copied into columns, and the call by columns does all else, its refusals included.
 ghost use mathlib.Core.Path.{_≡_};
 ghost use mathlib.Core.List.{map};
 ghost use lib.ListN.{length, take};

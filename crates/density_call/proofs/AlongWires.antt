@@ -1,4 +1,4 @@
--- One orientation, from rows in order to the tables, with the words behind them cleared: the sweep may begin. Assumes nothing.
+-- One orientation, from rows in order to the tables, with the words after them cleared: the sweep may begin. Assumes nothing.
 use mathlib.Core.Path.{_≡_, refl, sym, ap, _∙_, subst}
 use mathlib.Core.Logic.{inl, inr}
 use mathlib.Core.List.{List, [], map}
@@ -46,7 +46,7 @@ use Rattle.density_call.specs.Inner.Measuring.{wireOfRow, Proper, Cutoff
 use Rattle.density_call.proofs.RowPlaces.{tables-stay}
 use Rattle.density_call.proofs.RowTabled.{coordinate-key, tabled}
 
--- ---- rows in order have rising lines
+-- ---- rows in order have ascending lines
 line-le : (a b : Row) → rowsInOrder a b ≡ true → a .line ≤ b .line
 unfolding words
 line-le a b e = elim (le-or-lt (a .line) (b .line)) [ inl h ↦ h | inr h ↦ clash (rowsInOrder a b) e (row-more (a .line) (b .line) _ _ h) ]
@@ -89,7 +89,7 @@ module _ (h : Bool) (l : List Row) (sorted : Sorted rowsInOrder l) (proper : (r 
         (ap (map (eventFrom l)) front ∙ ordered .ordered l refl (spread .ends) (spread .starts))
         (fills (cutoffOf cutoff) L (length-map l (wireOfRow h)) refl (cut .some) (cut .grid) fixed-key)
 
-    -- ---- the words behind the tables are cleared: t is s₃ with zeros from 8 n up to 10 n + 1
+    -- ---- the words after the tables are cleared: t is s₃ with zeros from 8 n up to 10 n + 1
     module _ (e : List ℕ) (room : 10 * n + 1 ≤ length s₃) (clear : e ≡ replicate {A = ℕ} (length (midOf (8 * n) (10 * n + 1 - 8 * n) s₃)) 0) where
       abbrev end : ℕ
       end = 10 * n + 1
@@ -155,7 +155,7 @@ module _ (s s₁ s₂ : List ℕ) (n from table : ℕ) (spread-is : s₁ ≡ row
       subst (λ (m : ℕ). EventsOrdered m s₁ s₂ → 8 * m ≤ length s₂ → Rangeable s₂ m) (a .size) (λ o b. rangeable (a .across) (a .l) (a .sorted) (a .proper) s₁ s₂ d o b) (ordered a) (omega arith)
 
   module _ (s₃ : List ℕ) (kept : length s₃ ≡ length s₂) (cutoff : Float) (cut : Cutoff cutoff) (only : RangesOnly n s₂ s₃) (fills : FillsRanges s₂ s₃ n cutoff) (e : List ℕ) (clear : e ≡ replicate {A = ℕ} (length (midOf (8 * n) (10 * n + 1 - 8 * n) s₃)) 0) where
-    -- the record that the sweep asks for, with the wires of the rows that are known
+    -- the record that the sweep requires, with the wires of the known rows
     pub rows-first : (a : AtRows s n from table) → (b : AtFirst (putMid (8 * n) (10 * n + 1 - 8 * n) s₃ e) n) × (sweep (b .c) (b .L) ≡ sweep (cutoffOf cutoff) (map (wireOfRow (a .across)) (a .l)))
     rows-first a =
         let d = spread a in
@@ -168,7 +168,7 @@ module _ (s s₁ s₂ : List ℕ) (n from table : ℕ) (spread-is : s₁ ≡ row
         (λ o x y z room few some. (at-first (a .across) (a .l) (a .sorted) (a .proper) s₁ s₂ d o s₃ cutoff cut x y e room z few some, first-wires (a .across) (a .l) (a .sorted) (a .proper) s₁ s₂ d o s₃ cutoff cut x y e room z few some))
         (ordered a) only fills clear (omega arith) p (omega arith)
 
--- ---- the columns of one orientation; e is what the words behind the first 16 for each segment became when the rows were ordered there
+-- ---- the columns of one orientation; e is what the words after the first 16 for each segment became when the rows were ordered there
 module _ (s e : List ℕ) (o n : ℕ) (c : SegmentColumns) (a : AtColumns (length s) o c)
     (orders : (n ≡ rowCount o c (length (midOf (16 * length (c .net)) (length s - 16 * length (c .net)) s))) × (e ≡ rowsPlaced o c (midOf (16 * length (c .net)) (length s - 16 * length (c .net)) s))) where
   abbrev l : List Row

@@ -1,4 +1,4 @@
--- Both orientations, one after the other within an allowance, come to the figures over all pairs. Assumes nothing.
+-- Both orientations, one after the other within an allowance, yield the figures over all pairs. Assumes nothing.
 use mathlib.Core.Path.{_≡_, refl, sym, ap, _∙_, subst}
 use mathlib.Core.Logic.{inl, inr}
 use mathlib.Core.List.{List, map}
@@ -56,7 +56,7 @@ below-left x y p q t a b e k = omega arith
 below-right : (x y p q t : ℕ) → x ≡ p → y ≡ q → t ≡ p + q → t < 2 ^ 53 → y < 2 ^ 53
 below-right x y p q t a b e k = omega arith
 
--- ---- what a sweep within an allowance came to
+-- ---- the outcome of a sweep within an allowance
 abbrev figures : State → ℕ → Found
 figures st m = record {
   «congested_length» = ofUnits (st .congestedLength);
@@ -199,7 +199,7 @@ module _ (cutoff : Float) (grid : T (onGrid cutoff)) (l : List Segment) (fit : F
     unfolding foundOf
     too-few m n e k = sym (ap foundOf (within-short m (allPairs cutoff l) (omega (arith, cost-least))))
 
-    -- ---- what the code answers, from what its sweeps came to
+    -- ---- what the code answers, from the outcomes of its sweeps
     module _ (m : ℕ) (first : Swept) (one : first ≡ sweptOf (within m (across c some l))) where
       whole : within m (allPairs cutoff l) ≡ onward (within m (across c some l)) (second c some l)
       whole = ap (within m) all-pairs-are ∙ wires-within c some l m

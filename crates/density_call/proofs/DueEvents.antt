@@ -1,4 +1,4 @@
--- Wherever the sweep stands, its next event may be handled: counts are small, no subtraction goes below 0, and floats hold the lengths. Assumes nothing.
+-- In every state of the sweep its next event may be handled: counts are small, no subtraction goes below 0, and floats hold the lengths. Assumes nothing.
 use mathlib.Core.Path.{_≡_, refl, sym, ap, _∙_, subst}
 use mathlib.Core.Logic.{inl}
 use mathlib.Core.List.{List, _∷_}
@@ -49,7 +49,7 @@ module _ (c : ℕ) (l : List Item) where
           le-trans f (le-of-eq (sym (ap (λ (z : Row). z .neighbors) (k .2) ∙ ap (λ (b : Bool). cond b (neighborsIn (facing c) l (activeAt (endKey s)) (k .0)) 0) a)));
     }
 
-    -- ---- any event; the sums at the end of the sweep bound those on the way
+    -- ---- any event; the sums at the end of the sweep bound those before it
     pub due : length l ≤ 4096 → (e : Event) (q : List Event) (st : State) → Reached c l (e ∷ q) st → run c (e ∷ q) st .congestedLength < 2 ^ 53 → run c (e ∷ q) st .pairOverlapLength < 2 ^ 53 → Due c st e
     unfolding runs
     due few e q st r h k = record {

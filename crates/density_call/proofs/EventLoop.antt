@@ -1,4 +1,4 @@
--- The loop over the events: after q events the others, from where the sweep stands, come to the same. Assumes nothing.
+-- The loop over the events: after q events, the others from the state reached have the outcome of all. Assumes nothing.
 use mathlib.Core.Path.{_≡_, refl, sym, ap, ap₂, _∙_, subst}
 use mathlib.Core.Logic.{inl, inr}
 use mathlib.Core.Bool.{Bool, false}
@@ -45,7 +45,7 @@ use Rattle.density_call.proofs.DueEvents.{due}
 use Rattle.density_call.proofs.GapFloats.{gap-again}
 use Rattle.density_call.proofs.EventSteps.{ends-at, starts-at}
 
--- ---- the items are the wires with their places
+-- ---- the items are the wires with their indices
 length-numbered : (k : ℕ) (L : List Wire) → length (numbered k L) ≡ length L
 length-numbered k L = sym (length-map (numbered k L) (λ (i : Item). i .wire)) ∙ ap length (wires-of k L)
 
@@ -57,7 +57,7 @@ numbered-at k (x ∷ L) d (suc i) h = let e : suc k + i ≡ k + suc i = omega ar
 places : (L : List Wire) → numbered 0 L ≡ map (itemAt L) (upTo (length L))
 places L = sym (upTo-placed (numbered 0 L) (itemAt L) (length L) (length-numbered 0 L) (λ i h. let e : 0 + i ≡ i = omega arith in numbered-at 0 L (itemAt L 0) i h ∙ ap (λ (m : ℕ). record { wire = getD L i noWire; index = m }) e))
 
--- ---- before the first event no word tells of an active wire
+-- ---- before the first event no wire is active by the words
 module _ (L : List Wire) (w : List ℕ) (clear : (i : ℕ) → i < 2 * length L → getD w i 0 ≡ 0) where
   none-active : (i : ℕ) → i < length L → member (drop (length L) w) i ≡ false
   unfolding member
@@ -71,7 +71,7 @@ module _ (L : List Wire) (w : List ℕ) (clear : (i : ℕ) → i < 2 * length L 
       let h = upTo-below (length L) i m in
       ap₂ (λ (b : Bool) (k : ℕ). record { item = itemAt L i; active = b; neighbors = k }) (sym (none-active i h)) (sym (clear i (omega arith))))
 
--- ---- a wire of the list stands at a place, and its coordinates are small
+-- ---- a wire of the list has an index, and its coordinates are small
 wire-place : (L : List Wire) (w : Wire) → Mem w L → (i : ℕ) × (i < length L) × (w ≡ getD L i noWire)
 wire-place L w m =
     let k = mem-map (λ i. getD L i noWire) (upTo (length L)) w (subst (Mem w) (sym (upTo-entries L noWire)) m) in
@@ -84,7 +84,7 @@ small-wires c L s tabled w m =
     let e : w .end ≡ itemAt L (p .0) .wire .end = ap (λ (z : Wire). z .end) (p .2) in
     omega (arith, k .is, unit-bound (floatAt (getD s (2 * length L + p .0) 0)) (k .grid))
 
--- ---- the coordinate of an event is the float of the word at its number behind the event numbers
+-- ---- the coordinate of an event is the float of the word at its number after the event numbers
 event-key : (c : ℕ) (L : List Wire) (s : List ℕ) → Tabled c L s → (e : ℕ) → e < 2 * length L → Key (getD s (2 * length L + e) 0) (at (eventAt L e))
 event-key c L s tabled e h = elim (le-or-lt (length L) e) [
   | inr l ↦ subst (λ (z : Event). Key (getD s (2 * length L + e) 0) (at z)) (sym (ends-at L e l)) (tabled .ends e l)
@@ -147,7 +147,7 @@ module _ (s₀ : List ℕ) (n allowance : ℕ) (a : AtFirst s₀ n) where
     pub whole : run (a .c) (drop q order) st ≡ all .value
     pub onwards : ComesTo (step (a .c)) (within allowance all) (drop q order) st (state .remaining)
 
-  -- event q, and those behind it
+  -- event q, and those after it
   module _ (s : List ℕ) (room : 10 * n + 1 ≤ length s) (tabled : Tabled (a .c) (a .L) s) (q : ℕ) where
     abbrev number : ℕ
     number = getD s q 0

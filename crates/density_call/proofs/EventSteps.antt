@@ -89,7 +89,7 @@ module _ (c : ℕ) (L : List Wire) (s w : List ℕ) (st : State) (tabled : Table
       let near : apart (itemAt L j .wire .fixed) (r .item .wire .fixed) < 2 ^ 53 = omega (arith, fixed-small j h, fixed-small (p .0) (p .1)) in
       held-gap (neighbor c (itemAt L j .wire) r) (eqb (itemAt L j .wire .fixed) (r .item .wire .fixed)) (apart (itemAt L j .wire .fixed) (r .item .wire .fixed)) near)
 
--- ---- a wire's event is due: what the meeting asks for
+-- ---- a wire's event is due: what the meeting requires
 module _ (s : List ℕ) (n e : ℕ) (state : Sweeping) (a : AtEvent s n e state) (j : ℕ) (inside : j < n) where
   counts-small : (i : ℕ) → i < n → getD s (8 * n + i) 0 ≤ 4096
   counts-small i h =
@@ -100,7 +100,7 @@ module _ (s : List ℕ) (n e : ℕ) (state : Sweeping) (a : AtEvent s n e state)
   meetable : (starts : Bool) → (starts ≡ false → (r : Row) → Mem r (a .st .rows) → neighbor (a .c) (itemAt (a .L) j .wire) r ≡ true → 1 ≤ r .neighbors) → Meetable starts s n j
   meetable starts some = record { c = a .c; L = a .L; st = a .st; size = a .size; few = a .few; inside = inside; tabled = a .tabled; stored = a .stored; room = a .room; counts = counts-small; some = some }
 
-  -- no more wires are counted than there are
+  -- a count of wires is at most their number
   count-few : (p : Row → Bool) → count p (a .st .rows) ≤ 4096
   count-few p = omega (arith, count-at-most p (a .st .rows), ap length (a .stored .rows) ∙ rows-length (a .L) (drop (8 * n) s), a .size, a .few)
 
@@ -108,18 +108,18 @@ module _ (s : List ℕ) (n e : ℕ) (state : Sweeping) (a : AtEvent s n e state)
   held-next : Held (lesser ltb (a .st .minimumPositive) (leastHere (a .c) (itemAt (a .L) j) (a .st)))
   held-next = held-lesser (a .st .minimumPositive) (leastHere (a .c) (itemAt (a .L) j) (a .st)) (a .follows .held) (held-here (a .c) (a .L) s (drop (8 * n) s) (a .st) (a .tabled) (a .stored .rows) j (omega (arith, a .size)))
 
-  -- the tables when only counts changed, and then the words behind them
+  -- the tables when only counts changed, and then the words after them
   tabled-then : (t u : List ℕ) → CountsOnly n s t → take (8 * n) u ≡ take (8 * n) t → Tabled (a .c) (a .L) u
   tabled-then t u only e = tables-stay (a .c) (a .L) s u (subst (λ (m : ℕ). take (8 * m) u ≡ take (8 * m) s) (sym (a .size)) (e ∙ only .front)) (a .tabled)
 
--- ---- a meeting's answer decides whether the sweep goes on
+-- ---- a meeting's answer decides whether the sweep continues
 never : {A : Type 0} (m : Meeting) → Paid m ≡ Over → A
 never m e = let z : _≡_ {A = ℕ} 0 1 = cc in absurd (omega arith)
 
 same-meeting : (m k : Meeting) → Paid m ≡ Paid k → m ≡ k
 same-meeting m k e = cc
 
--- M is what it comes to where the visits can be paid, and R what holds then
+-- M is the meeting where the visits can be paid, and R what holds then
 abbrev Answered : ℕ → ℕ → Met → Meeting → Type 0 → Type 0
 Answered m cost met M R = (m < cost → met ≡ Over) × (cost ≤ m → (met ≡ Paid M) × R)
 
@@ -154,7 +154,7 @@ module _ (s : List ℕ) (n j : ℕ) (state : Sweeping) where
     pub start-meetable : Meetable true s n j
     start-meetable = meetable s n (n + j) state a j start-inside true (λ e. clash true refl e)
 
-    -- what the meeting answers with m visits left
+    -- what the meeting answers with m remaining visits
     abbrev metAtStart : ℕ → Meeting
     metAtStart m = record {
       neighbors = neighbors (a .c) starting (a .st);
@@ -290,7 +290,7 @@ module _ (s : List ℕ) (n j : ℕ) (state : Sweeping) (inside : j < n) where
         (stops (a .c) (a .L) n (a .st) (event true (ending a)) (state .remaining) met (metAtEnd a (state .remaining)) (rowsAtEnd a t) (end-answer a) t h)
 
     module _ (meeting : Meeting) (went : met ≡ Paid meeting) where
-      -- what is taken away is there
+      -- the subtractions do not go below 0
       pub end-fits : AtEvent s n j state → (bit (not (eqb own 0)) + meeting .changed ≤ passed .«congested_active») × (meeting .neighbors ≤ passed .«close_pairs»)
       end-fits a =
           let q = known (a .c) (a .L) n (a .st) (event true (ending a)) (state .remaining) met (metAtEnd a (state .remaining)) (rowsAtEnd a t) (end-answer a) meeting went in

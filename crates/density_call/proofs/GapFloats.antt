@@ -29,7 +29,7 @@ use Rattle.congestion.proofs.LeastGap.{held-lesser, lt-units, grid-gap, above-z
 pub lesser-none : (o : Option ℕ) → lesser ltb o none ≡ o
 lesser-none o = idr fewest o
 
--- so many 64ths are a number
+-- the float of a number of 64ths is not a NaN
 value-number : (x : Float) (s : Bool) (a b : ℕ) → HasValue x s a b → Number x
 unfolding isNan
 value-number nan s a b h = absurd h
@@ -40,7 +40,7 @@ units-number : (n : ℕ) → n < 2 ^ 53 → Number (ofUnits n)
 unfolding ofUnits
 units-number n h = value-number (ofUnits n) false n 64 (of-units-value false n h)
 
--- ---- when the sweep is done it becomes a gap
+-- ---- after the sweep it becomes a gap
 pub gap-again : (o : Option ℕ) → Held o → gapOfFloat (leastFloat o) ≡ gapOfUnits o
 gap-again none h = none-absent
 gap-again (some n) h = number-present (ofUnits n) (units-number n h)
@@ -55,7 +55,7 @@ lesser-float (some n) a h k = ap (λ (t : Bool). cond t (ofUnits n) (ofUnits a))
     either true = refl
     either false = refl
 
-    -- the lesser of two numbers, whichever is asked first
+    -- the lesser of two numbers, whichever is compared first
     turned : (n a : ℕ) → cond (ltb n a) n a ≡ cond (ltb a n) a n
     turned n a = elim (le-or-lt a n) [
       | inr h ↦ rw (lt-ltb n a h, le-ltb a n (omega arith))

@@ -1,4 +1,4 @@
--- What the functions' proofs lean on: the code's tables, and what a wire meets.
+-- What the functions' proofs use: the code's tables, and what a wire meets.
 mod RangeSearch
 mod PlaceFolds
 mod VisitLaws

@@ -1,4 +1,4 @@
--- A wire's own count and its place in the set of active ones are written: the rows that the words then tell of. Assumes nothing.
+-- A wire's own count and its bit in the set of active wires are written: the rows that the words then hold. Assumes nothing.
 use mathlib.Core.Path.{_≡_, refl, sym, ap, ap₂, _∙_}
 use mathlib.Core.Logic.{inl, inr}
 use mathlib.Core.Bool.{Bool, true, false, not, _&&_, _||_}

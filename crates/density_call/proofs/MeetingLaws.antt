@@ -1,4 +1,4 @@
--- The loop over the wires that an event's wire meets: when the places from p on are done, the figures are those of the rows of these places, and their counts are the new ones. Assumes nothing.
+-- The loop over the wires that an event's wire meets: when the indices from p on are done, the figures are those of the rows of these indices, and their counts are the new ones. Assumes nothing.
 use mathlib.Core.Path.{_≡_, refl, sym, ap, ap₂, _∙_, subst}
 use mathlib.Core.Logic.{inl, inr}
 use mathlib.Core.List.{List, map, map-map}
@@ -35,7 +35,7 @@ use Rattle.density_call.proofs.GapFloats.{lesser-none, keys-join}
 use Rattle.density_call.proofs.PlaceFolds.{since, since-none, since-next, since-all, since-at-most, since-below-all}
 
 -- ---- a row under an event
--- what a neighbor of the count k adds to the greatest count
+-- what a neighbor whose count is k contributes to the greatest count
 abbrev top : Bool → ℕ → ℕ
 top true k = k + 1
 top false k = 0
@@ -89,7 +89,7 @@ module _ (starts : Bool) (n j : ℕ) (s₀ : List ℕ) (least₀ : Float) (allow
   abbrev hi : ℕ
   hi = getD s₀ (7 * n + j) 0
 
-  -- what the place k contributes to each figure
+  -- what the wire at index k contributes to each figure
   abbrev turned : ℕ → Bool
   turned k = near k && eqb (row k .neighbors) (turning starts)
 
@@ -115,7 +115,7 @@ module _ (starts : Bool) (n j : ℕ) (s₀ : List ℕ) (least₀ : Float) (allow
   pub going-few : (met : Meeting) (s : List ℕ) (p : ℕ) → Going met s p → (met .neighbors ≤ n) × (met .changed ≤ n)
   going-few met s p g = let a = g .neighbors in let b = g .changed in (omega (arith, since-at-most n p near), omega (arith, since-at-most n p turned))
 
-  -- ---- a place that is not visited contributes nothing
+  -- ---- a wire that is not visited contributes nothing
   module _ (k : ℕ) (e : seen k ≡ false) where
     unseen-near : near k ≡ false
     unseen-near = sym (and-assoc (row k .active) (inRange c wire (row k .item .wire)) (other wire (row k .item .wire))) ∙ ap (λ (b : Bool). b && other wire (row k .item .wire)) e
@@ -132,7 +132,7 @@ module _ (starts : Bool) (n j : ℕ) (s₀ : List ℕ) (least₀ : Float) (allow
     unseen-count : countAt k ≡ row k .neighbors
     unseen-count = ap (λ (b : Bool). moved starts b (row k) .neighbors) unseen-near ∙ ap (λ (r : Row). r .neighbors) (moved-not starts (row k))
 
-  -- ---- one place more: the scratch s becomes t
+  -- ---- one wire more: the scratch s becomes t
   pub record Adds (met next : Meeting) (s t : List ℕ) (i : ℕ) : Type 0 where
     pub only : CountsOnly n s t
     pub count : getD (drop (8 * n) t) i 0 ≡ countAt i
@@ -143,7 +143,7 @@ module _ (starts : Bool) (n j : ℕ) (s₀ : List ℕ) (least₀ : Float) (allow
     pub highest : next .highest ≡ max (met .highest) (reached i)
     pub least : (o : Option ℕ) → met .least ≡ leastFloat o → Held o → (next .least ≡ leastFloat (lesser ltb o (gapAt i))) × Held (lesser ltb o (gapAt i))
 
-  -- the next place below p that is visited
+  -- the next index below p that is visited
   pub record Next (p i : ℕ) : Type 0 where
     pub inside : i < n
     pub below : i < p
@@ -190,7 +190,7 @@ module _ (starts : Bool) (n j : ℕ) (s₀ : List ℕ) (least₀ : Float) (allow
         least = new-least;
       }
 
-  -- ---- what the tables tell
+  -- ---- what the tables hold
   module _ (size : length L ≡ n) (tabled : Tabled c L s₀) (j<n : j < n) where
     in-range : (k : ℕ) → k < n → inRange c wire (itemAt L k .wire) ≡ (leb lo k && ltb k hi)
     in-range k h = subst (λ (z : ℕ). inRange c wire (itemAt L k .wire) ≡ (leb (getD s₀ (6 * z + j) 0) k && ltb k (getD s₀ (7 * z + j) 0))) size (tabled .ranges .range k j (omega arith) (omega arith))
@@ -335,7 +335,7 @@ module _ (starts : Bool) (n j : ℕ) (s₀ : List ℕ) (least₀ : Float) (allow
             let d = since-below-all n i (λ k. bit (seen k)) in
             omega arith
 
-    -- ---- behind the loop
+    -- ---- after the loop
     module _ (st : State) (stored : Stored L st (drop (8 * n) s₀)) where
       over-rows : {M : Type 0} {_⊕_ : M → M → M} {u : M} (O : Monoid _⊕_ u) (f : Row → M) → fold _⊕_ u f (st .rows) ≡ fold _⊕_ u (λ k. f (row k)) (upTo n)
       over-rows {_⊕_ = _⊕_} {u = u} O f = ap (fold _⊕_ u f) (stored .rows) ∙ fold-map O f row (upTo (length L)) ∙ ap (λ (z : ℕ). fold _⊕_ u (λ k. f (row k)) (upTo z)) size

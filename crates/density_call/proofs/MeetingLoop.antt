@@ -27,7 +27,7 @@ use Rattle.density_call.specs.Inner.Meeting.{Meetable, CountsOnly, Meets
 use Rattle.density_call.proofs.RowPlaces.{upTo-mem}
 use Rattle.density_call.proofs.MeetingLaws.{Going, Next, going-few, going-none, old-count, next-place, differ, visit-next, visit-stops, spent-meets, went-meets}
 
--- the head of the loop, for whatever wires the tables are of: `rest` is the part of a word of bits below `to`, and the bits stay as they were at the entry
+-- the invariant at the head of the loop, for whatever wires the tables are of: `rest` is the part of a word of bits below `to`, and the bits stay as they were at the entry
 pub record Turn (starts : Bool) (n j : ℕ) (s₀ : List ℕ) (least₀ : Float) (allowance : ℕ) (met : Meeting) (s : List ℕ) (to rest : ℕ) : Type 0 where
   pub meetable : Meetable starts s₀ n j
   pub long : length s ≡ length s₀

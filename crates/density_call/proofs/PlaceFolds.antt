@@ -1,4 +1,4 @@
--- Folds over the places 0 .. n - 1 to which only those from a place p on contribute, and how they grow as p falls. Assumes nothing.
+-- Folds over the indices 0 .. n - 1 to which only those from an index p on contribute, and how they grow as p falls. Assumes nothing.
 use mathlib.Core.Path.{_≡_, sym, ap, ap₂, _∙_}
 use mathlib.Core.Logic.{inl, inr}
 use mathlib.Core.List.{[], _∷_}
@@ -19,7 +19,7 @@ since _⊕_ u n p g = fold _⊕_ u (λ k. cond (leb p k) (g k) u) (upTo n)
 
 module _ {M : Type 0} {_⊕_ : M → M → M} {u : M} (O : Monoid _⊕_ u) where
   infixl 65 _⊕_
-  -- only the place i contributes
+  -- only the index i contributes
   fold-one : (n i : ℕ) (x : M) → i < n → fold _⊕_ u (λ k. cond (eqb k i) x u) (upTo n) ≡ x
   unfolding fold upTo
   fold-one zero i x h = absurd (omega arith)
@@ -39,7 +39,7 @@ module _ {M : Type 0} {_⊕_ : M → M → M} {u : M} (O : Monoid _⊕_ u) where
     | inr a ↦ cond-false (leb p k) (g k) u (lt-leb p k a)
   ])
 
-  -- the place i besides, and none between it and p
+  -- the index i is added, and none between it and p contributes
   pub since-next : (n i p : ℕ) (g : ℕ → M) → i < n → i < p → ((k : ℕ) → k < n → i < k → k < p → g k ≡ u) → since _⊕_ u n i g ≡ since _⊕_ u n p g ⊕ g i
   since-next n i p g a b h =
       fold-same O (λ k. cond (leb i k) (g k) u) (λ k. cond (leb p k) (g k) u ⊕ cond (eqb k i) (g i) u) (upTo n) (λ k m. at k (upTo-below n k m))

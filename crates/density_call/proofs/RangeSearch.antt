@@ -21,7 +21,7 @@ use Rattle.density_call.specs.Inner.Tables.{itemAt, Ranged}
 use Rattle.density_call.specs.Inner.Ranges.{Rangeable, RangesOnly, FillsRanges}
 use Rattle.congestion.proofs.RangeFloats.{above-low, below-high}
 
--- what two places tell of n keys, for the wire at place j
+-- the range of the wire at index j among n keys, by its two ends
 pub record Found (n : ℕ) (cutoff : Float) (s : List ℕ) (j from to : ℕ) : Type 0 where
   pub inside : to ≤ n
   pub low : (i : ℕ) → i < n → leb from i ≡ ltb (keyOf (sub binary64 (floatAt (getD s (4 * n + j) 0)) cutoff)) (getD s (4 * n + i) 0)
@@ -115,7 +115,7 @@ module _ (n : ℕ) (cutoff : Float) (s₀ : List ℕ) where
         done = done-next;
       }
 
--- ---- on the grid the columns tell which wires are within the cutoff
+-- ---- on the grid the columns give the wires within the cutoff
 module _ (c : ℕ) (L : List Wire) (cutoff : Float) (s₀ s : List ℕ) (words : (i : ℕ) → getD s₀ i 0 < 2 ^ 64) (e : c ≡ cutoffOf cutoff) (h : 0 < c) (g : T (onGrid cutoff)) where
   abbrev Keyed : ℕ → Type 0
   Keyed n = (j : ℕ) → j < n → Key (getD s₀ (4 * n + j) 0) (itemAt L j .wire .fixed)

@@ -1,4 +1,4 @@
--- The rows that the words behind the tables tell of, place by place, and what is left of the tables when only those words change. Assumes nothing.
+-- The rows that the words after the tables hold, index by index, and that the tables stay when only those words change. Assumes nothing.
 use mathlib.Core.Path.{_≡_, sym, ap, ap₂, _∙_, subst}
 use mathlib.Core.Logic.{inl, inr}
 use mathlib.Core.Bool.{Bool, not, _&&_}
@@ -20,7 +20,7 @@ use Rattle.congestion.specs.Walk.{Row, State, wasCongested}
 use Rattle.congestion.specs.Inner.Keys.{Key}
 use Rattle.density_call.specs.Inner.Tables.{itemAt, eventAt, Tabled, rowFrom, rowsFrom}
 
--- ---- places
+-- ---- indices
 pub upTo-mem : (n i : ℕ) → i < n → Mem i (upTo n)
 unfolding upTo
 upTo-mem zero i h = absurd (omega arith)
@@ -29,7 +29,7 @@ upTo-mem (suc n) i h = elim (same-or-not i n) [
   | inr e ↦ append-left i (upTo n) (n ∷ []) (upTo-mem n i (omega arith))
 ]
 
--- of the places only j is asked for
+-- of the indices only j counts
 count-one : (p : ℕ → Bool) (n j : ℕ) → j < n → count (λ i. eqb j i && p i) (upTo n) ≡ bit (p j)
 unfolding upTo fold
 count-one p zero j h = absurd (omega arith)
@@ -60,7 +60,7 @@ module _ (L : List Wire) where
   pub rows-length : (w : List ℕ) → length (rowsFrom L w) ≡ length L
   rows-length w = length-map (upTo (length L)) (rowFrom L w) ∙ length-upTo (length L)
 
-  -- the words v tell of the rows of w under a function, where they do so at each place
+  -- the words v hold the rows of w under a function f, where they do so at each index
   module _ (w v : List ℕ) (f : Row → Row) where
     pub rows-are : ((i : ℕ) → i < length L → rowFrom L v i ≡ f (rowFrom L w i)) → rowsFrom L v ≡ map f (rowsFrom L w)
     rows-are h = map-same (rowFrom L v) (λ i. f (rowFrom L w i)) (upTo (length L)) (λ i m. h i (upTo-below (length L) i m)) ∙ sym (map-map f (rowFrom L w) (upTo (length L)))

@@ -1,4 +1,4 @@
--- The tables of rows in order are those of their wires: the keys stand for coordinates on the grid, and events in order of keys are in order of 64ths. Assumes nothing.
+-- The tables of rows in order are those of their wires: the keys are those of coordinates on the grid, and events in order of keys are in order of 64ths. Assumes nothing.
 use mathlib.Core.Path.{_≡_, refl, sym, ap, _∙_, subst}
 use mathlib.Core.Logic.{inl, inr}
 use mathlib.Core.List.{List, [], _∷_, map, map-map}
@@ -78,7 +78,7 @@ module _ (a b : ℕ) (c : Coordinate a) (d : Coordinate b) where
   unfolding rowLe
   first-word-same p q = λ i. cond (key-before i) true (cond (key-equal i) (rowLe p q) false)
 
--- ---- a sort of entries that others stand for
+-- ---- a sort of entries, and of their images under g
 module _ {A B : Type 0} (le : A → A → Bool) (leq : B → B → Bool) (g : A → B) where
   insert-map : (x : A) (l : List A) → ((y : A) → Mem y l → le x y ≡ leq (g x) (g y)) → map g (insertBy le x l) ≡ insertBy leq (g x) (map g l)
   unfolding insertBy

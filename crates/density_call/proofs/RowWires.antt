@@ -1,4 +1,4 @@
--- The wires that rows stand for: a row of a segment on the grid gives the segment's wire, and the rows of both orientations those of all segments, in another order. Assumes nothing.
+-- The wires of rows: a row of a segment on the grid gives the segment's wire, and the rows of both orientations give the wires of all segments, in another order. Assumes nothing.
 use mathlib.Core.Path.{_≡_, refl, sym, ap, _∙_, subst}
 use mathlib.Core.Logic.{inl, inr}
 use mathlib.Core.List.{List, [], _∷_, _++_, map, append-nil}

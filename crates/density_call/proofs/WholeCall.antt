@@ -1,4 +1,4 @@
--- The whole call: the answer from what the sweep came to. Assumes nothing.
+-- The whole call: the answer from the outcome of the sweep. Assumes nothing.
 use mathlib.Core.Path.{_≡_, refl, sym, ap, _∙_}
 use Prim.Native.Nat.{ℕ, _-_}
 use lib.Ieee.{Float}
@@ -30,7 +30,7 @@ use Rattle.congestion.proofs.Answers.{Passes, density-settles}
 abbrev Profile : Type 0
 Profile = ParallelCongestion × Gap
 
--- what the code makes of an outcome is what the outcome replies, where the total length is the outcome's
+-- the code's answer for an outcome is the reply to that outcome, where the total length is the outcome's
 pub answer-replies : (o : Outcome Profile) (total : Float) (allowance : ℕ) → ((p : Profile) (m : ℕ) → o ≡ left p m → total ≡ p .0 .«total_length») → answerOf (foundOf o) total allowance ≡ reply (λ p n. Report (reportOf p n)) (Refused WorkLimitExceeded) allowance o
 unfolding answerOf reply foundOf
 answer-replies spent total allowance k = refl

@@ -20,7 +20,7 @@ use rows::order_events;
 use rows::order_rows;
 use rows::spread_rows;
 
-// The tables of n rows whose places in order stand from word `from` on, their table `table` words further on. The words behind the tables are cleared: no wire is active yet. Then the sweep runs.
+// Makes the tables of n rows: their indices in order are stored from word `from` on, and the rows themselves `table` words later. The words after the tables are cleared: no wire is active yet. Then the sweep runs.
 fn sweep_rows(
     s: &mut [u64],
     n: usize,
@@ -41,7 +41,7 @@ fn sweep_rows(
     run_events(s, n, allowance)
 }
 
-// "`oriented.len() >= 2`": fewer than two wires cost nothing.
+// SCOPE 5.12: "`oriented.len() >= 2`": fewer than two wires cost nothing.
 pub(crate) fn sweep_along(
     s: &mut [u64],
     wanted: u8,

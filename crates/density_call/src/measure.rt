@@ -24,7 +24,7 @@ use drawing::clear;
 use drawing::minimum_option;
 use rows::segments_to_sweep;
 
-// The figures of both orientations, with what the second sweep left.
+// The figures of both orientations, with the remaining visits of the second sweep.
 fn together(across: Found, down: Found) -> Found
     ensures { λ r. ⌜ r ≡ togetherOf across down ⌝ }
 {
@@ -41,8 +41,8 @@ fn together(across: Found, down: Found) -> Found
     }
 }
 
-// The sweep over a fit drawing: horizontal segments first, then vertical ones with what is left of the allowance. A cutoff of 0 or less costs nothing.
-// Each segment that is swept costs a visit at least. Where the allowance does not reach that, it is spent before any table is made.
+// The sweep over a fit drawing: horizontal segments first, then vertical ones with the remaining visits. A cutoff of 0 or less costs nothing.
+// Each segment that is swept costs at least one visit. Where the allowance is below that, it counts as spent before any table is made.
 fn walk_segments(
     net: &[u32],
     orientation: &[u8],

@@ -13,7 +13,7 @@ use floats::absolute;
 use floats::float_of_key;
 use floats::lesser;
 
-// How many of the wires met are of another net; how many of these become congested or cease to be; the greatest count among them; the least gap so far; how many visits are left.
+// How many of the wires met are of another net; how many of these become congested or cease to be; the greatest count among them; the least gap so far; the remaining visits.
 // The least gap is a NaN where there is none yet (`no_gap`). These figures are copied at each visit: with an enum, whose copies wait for the stores that made it, they took two thirds of the loop's time.
 pub(crate) struct Meeting {
     pub neighbors: usize,
@@ -23,7 +23,7 @@ pub(crate) struct Meeting {
     pub remaining: usize,
 }
 
-// The sweep stops where a visit is due and none is left.
+// The meeting, or that the allowance is spent: a visit is due and none remains.
 pub(crate) enum Met {
     Went(Meeting),
     Spent,
@@ -64,7 +64,7 @@ fn lower(starts: bool, count: u64, after: u64) -> u64
     if starts { count } else { after }
 }
 
-// The greatest count so far; only a start's counts are asked for.
+// The greatest count so far; only a start's counts are needed.
 fn highest_after(starts: bool, highest: usize, after: u64) -> usize
     ensures { λ r. ⌜ r ≡ cond starts (max highest after) highest ⌝ }
 {
@@ -119,7 +119,7 @@ fn visit(
     meet_neighbor(s, 8 * n + i, starts, gap, meeting)
 }
 
-// The start or the end of wire j: the active wires of its range are visited from the greatest place down.
+// The start or the end of wire j: the active wires of its range are visited from the greatest index down.
 pub(crate) fn meet(
     s: &mut [u64],
     n: usize,

@@ -1,4 +1,4 @@
-// The sweep over all events of one orientation. The scratch holds the tables of its n wires (8 n words) and behind them the words that the sweep changes.
+// The sweep over all events of one orientation. The scratch holds the tables of its n wires (8 n words) and after them the words that the sweep changes.
 ghost use mathlib.Core.Path.{_≡_};
 ghost use Rattle.laws.specs.Inner.Allowance.{within};
 ghost use Rattle.congestion.specs.Walk.{sweep};

@@ -1,4 +1,4 @@
-// One event of the sweep over an orientation's wires, within what is left of the allowance.
+// One event of the sweep over an orientation's wires, within the remaining visits.
 ghost use mathlib.Core.Path.{_≡_};
 ghost use mathlib.Core.Bool.{not};
 ghost use Prim.Native.Nat.{_+_, _*_, _^_, _≤_, _<_};
@@ -14,7 +14,7 @@ use bitset::insert;
 use bitset::remove;
 use floats::float_of_key;
 
-// The Rust's variables, and how many visits are left. The least gap is a NaN where there is none yet.
+// The Rust's variables, and the remaining visits. The least gap is a NaN where there is none yet.
 pub(crate) struct Sweeping {
     pub congested_active: usize,
     pub congested_length: f64,
@@ -26,7 +26,7 @@ pub(crate) struct Sweeping {
     pub remaining: usize,
 }
 
-// Where the sweep stands after an event, or that the allowance is spent.
+// The state after an event, or that the allowance is spent.
 pub(crate) enum Handled {
     Went(Sweeping),
     Spent,
@@ -77,7 +77,7 @@ fn with_start(state: Sweeping, meeting: Meeting) -> Sweeping
     }
 }
 
-// An end of a wire with a count of its own: it is no longer congested, nor are neighbors that had only this one.
+// An end of a wire whose own count is `count`: it is no longer congested, nor are neighbors that had only this one.
 fn with_end(state: Sweeping, count: usize, meeting: Meeting) -> Sweeping
     requires { ⌜ bit (not (eqb «count» 0)) + meeting .changed ≤ state .«congested_active» ⌝ }
     requires { ⌜ meeting .neighbors ≤ state .«close_pairs» ⌝ }
@@ -96,7 +96,7 @@ fn with_end(state: Sweeping, count: usize, meeting: Meeting) -> Sweeping
     }
 }
 
-// Wire j is active from now on, with so many close neighbors.
+// Wire j is active from now on, with this number of close neighbors.
 fn activate(s: &mut [u64], n: usize, j: usize, neighbors: usize)
     requires { ⌜ j < n ⌝ }
     requires { ⌜ n ≤ 4096 ⌝ }

@@ -1,4 +1,4 @@
--- Searches, `set` and the steps of the sweep within an allowance, node by node: what code that pays for each visit comes to. Assumes nothing.
+-- Searches, `set` and the steps of the sweep within an allowance, node by node: the outcomes of code that pays for each visit. Assumes nothing.
 use mathlib.Core.Path.{_≡_, refl, _∙_}
 use mathlib.Core.Bool.{Bool, true, false}
 use mathlib.Core.List.{List, [], _∷_}
@@ -17,7 +17,7 @@ use Rattle.separation.specs.Searches.{leaf, orElse, node, setRun}
 use Rattle.separation.specs.Inner.Searches.{searchOf}
 use Rattle.separation.specs.Walk.{nothing, lesserFigures, Sweep, remove, endsAt, step, sweep, along, walkAll}
 
--- ---- "a search answers found, empty or spent"
+-- ---- SCOPE 15.6: "a search answers found, empty or spent"
 pub answer-spent : searchOf spent ≡ Spent
 unfolding searchOf
 answer-spent = refl
@@ -30,7 +30,7 @@ pub answer-empty : (m : ℕ) → searchOf (left none m) ≡ Empty m
 unfolding searchOf
 answer-empty m = refl
 
--- ---- a leaf and a node, with nothing left and with one visit at least
+-- ---- a leaf and a node, with no visit left and with at least one
 pub leaf-spent : (t : Bool) (s : ℕ) → within 0 (leaf t s) ≡ spent
 leaf-spent true s = visit-spent (free (some s))
 leaf-spent false s = visit-spent (free none)

@@ -24,7 +24,7 @@ module _ (s : SegmentColumns) (words : ℕ) (passed : firstOf (separationConditi
   unfolding separationAnswer
   answer-is m = rw passed
 
-  -- "A call whose allowance reaches it returns the all-pairs report, whose visits are that count; a call whose allowance does not returns the spent-allowance refusal", which is 7
+  -- SCOPE 8.3: "A call whose allowance reaches it returns the all-pairs report, whose visits are that count; a call whose allowance does not returns the spent-allowance refusal", which is 7
   pub result-settles : (m : ℕ) → resultOf (separationAnswer s m words) ≡ settle (λ f n. (0, reportOf f n)) (7, zeros) m (allPairs (segments s))
   unfolding settle resultOf numberOf
   result-settles m = ap resultOf (answer-is m) ∙ go (reaches m (allPairs (segments s))) (allPairs (segments s))

@@ -1,4 +1,4 @@
--- "List order decides nothing in a report": every order of the segments gives one walk, with its visits, and one set of figures. Assumes nothing.
+-- SCOPE 9.4: "List order decides nothing in a report": every order of the segments gives one walk, with its visits, and one set of figures. Assumes nothing.
 use mathlib.Core.Path.{_≡_, sym, ap, _∙_}
 use mathlib.Core.List.{List}
 use Rattle.laws.specs.Lists.{All}

@@ -1,4 +1,4 @@
--- The visits of the walk: a sweep of n segments takes at least 5 n, and at most n (10 h + 5), 2 to the power h being its leaf count. Assumes nothing.
+-- The visits of the walk: a sweep of n segments takes at least 5 n, and at most n (10 h + 5), 2 to the power h being its leaf count (SCOPE 4.4). Assumes nothing.
 use mathlib.Core.Path.{_≡_, refl, sym, ap, _∙_}
 use mathlib.Core.List.{List, [], _∷_}
 use mathlib.Core.Bool.{Bool, true, false}
@@ -114,7 +114,7 @@ along-least [] = zero-le
 along-least (r ∷ []) = zero-le
 along-least (r ∷ t ∷ l) = omega (arith, two-or-more (length (r ∷ t ∷ l)) (omega arith), sweep-least (r ∷ t ∷ l))
 
--- the segments that are swept, five times
+-- the walk takes at least five visits for each segment that is swept
 pub walk-least : (l : List Segment) → 5 * (atLeastTwo (length (oriented 1 l)) + atLeastTwo (length (oriented 0 l))) ≤ walkAll l .cost
 unfolding walkAll
 walk-least l = omega (arith, along-least (oriented 1 l), along-least (oriented 0 l))
@@ -125,14 +125,14 @@ along-bound [] = zero-le
 along-bound (r ∷ []) = zero-le
 along-bound (r ∷ t ∷ l) = sweep-bound (r ∷ t ∷ l)
 
--- "n is that orientation's segments and 2 to the power h its leaf count"
+-- SCOPE 4.4: "n is that orientation's segments and 2 to the power h its leaf count"
 abbrev pub segmentsAlong : ℕ → List Segment → ℕ
 segmentsAlong o l = count (λ (s : Segment). eqb (s .orientation) o) l
 
 abbrev pub levelsAlong : ℕ → List Segment → ℕ
 levelsAlong o l = levels (length (lines (oriented o l)))
 
--- "separation at most the sum over orientations of n times (10h + 5)"
+-- SCOPE 4.4: "separation at most the sum over orientations of n times (10h + 5)"
 pub visit-bound : (l : List Segment) → visitCount l ≤ segmentsAlong 1 l * (10 * levelsAlong 1 l + 5) + segmentsAlong 0 l * (10 * levelsAlong 0 l + 5)
 unfolding visitCount walkAll
 visit-bound l = rw (← oriented-length 1 l, ← oriented-length 0 l) (omega (arith, along-bound (oriented 1 l), along-bound (oriented 0 l)))

@@ -1,4 +1,4 @@
--- The marked cases of separation, by computing the definitions. Assumes nothing.
+-- The marked cases of separation (SCOPE 13), by computing the definitions. Assumes nothing.
 use mathlib.Core.Path.{_≡_, refl}
 use mathlib.Core.List.{[], _∷_}
 use Prim.Native.Nat.{ℕ}
@@ -41,7 +41,7 @@ two m n a b = segmentColumns (m ∷ n ∷ []) (1 ∷ 1 ∷ []) (float (a .0) ∷
 abbrev alone : SegmentColumns
 alone = segmentColumns (1 ∷ []) (1 ∷ []) (float 0 ∷ []) (float 0 ∷ []) (float 0x4024_0000_0000_0000 ∷ [])
 
--- "Drawing D: net 1 horizontal at 0 from 0 to 10; net 2 horizontal at 4 from 5 to 15"
+-- SCOPE 11.5: "Drawing D: net 1 horizontal at 0 from 0 to 10; net 2 horizontal at 4 from 5 to 15"
 abbrev D : SegmentColumns
 D = two 1 2 (0, 0, 0x4024_0000_0000_0000) (0x4010_0000_0000_0000, 0x4014_0000_0000_0000, 0x402e_0000_0000_0000)
 
@@ -53,7 +53,7 @@ touching = two 1 2 (0, 0, 0x4014_0000_0000_0000) (0x4010_0000_0000_0000, 0x4014_
 abbrev level : SegmentColumns
 level = two 1 2 (0x4010_0000_0000_0000, 0, 0x4024_0000_0000_0000) (0x4010_0000_0000_0000, 0x4014_0000_0000_0000, 0x4022_0000_0000_0000)
 
--- the same at +0 and at -0: "Zeros become +0."
+-- the same at +0 and at -0: SCOPE 3.7: "Zeros become +0."
 abbrev zeros : SegmentColumns
 zeros = two 1 2 (0, 0, 0x4024_0000_0000_0000) (0x8000_0000_0000_0000, 0x4014_0000_0000_0000, 0x4022_0000_0000_0000)
 
@@ -61,7 +61,7 @@ zeros = two 1 2 (0, 0, 0x4024_0000_0000_0000) (0x8000_0000_0000_0000, 0x4014_000
 abbrev related : SegmentColumns
 related = two 1 1 (0, 0, 0x4024_0000_0000_0000) (0x3ff0_0000_0000_0000, 0x4014_0000_0000_0000, 0x4022_0000_0000_0000)
 
--- the same at the largest float and at its negative, of two nets: "An overflowing gap is +infinity, a present value."
+-- the same at the largest float and at its negative, of two nets: SCOPE 3.8: "An overflowing gap is +infinity, a present value."
 abbrev far : SegmentColumns
 far = two 1 2 (0x7fef_ffff_ffff_ffff, 0, 0x4024_0000_0000_0000) (0xffef_ffff_ffff_ffff, 0x4014_0000_0000_0000, 0x4022_0000_0000_0000)
 
@@ -70,22 +70,22 @@ four = Present (float 0x4010_0000_0000_0000)
 
 -- columns, allowance and words of scratch
 pub record Marked : Type 0 where
-  -- (a) "one segment, allowance 0: separation absent, 0 visits"
+  -- SCOPE 13.a: "one segment, allowance 0: separation absent, 0 visits"
   pub a : separationAnswer alone 0 96 ≡ accepted nothing 0
-  -- (b) "D's separation accepted at 16, refused at 15"
+  -- SCOPE 13.b: "D's separation accepted at 16, refused at 15"
   pub b-accepted : separationAnswer D 16 128 ≡ accepted (record { least = four; leastNonzero = four }) 16
   pub b-refused : separationAnswer D 15 128 ≡ Refused WorkLimitExceeded
-  -- D as the program `sheet` measures it
+  -- SCOPE 11.5: D as the program `sheet` measures it
   pub d-sheet : separationAnswer D 1000 7744 ≡ accepted (record { least = four; leastNonzero = four }) 16
-  -- (d) "0 to 5 and 5 to 9, nets 1 and 2: absent"
+  -- SCOPE 13.d: "0 to 5 and 5 to 9, nets 1 and 2: absent"
   pub d : separationAnswer touching 1000 128 ≡ accepted nothing 14
-  -- (e) "equal fixed, overlapping, two nets: least 0, nonzero absent"
+  -- SCOPE 13.e: "equal fixed, overlapping, two nets: least 0, nonzero absent"
   pub e : separationAnswer level 1000 128 ≡ accepted (record { least = Present plusZero; leastNonzero = Absent }) 10
   pub e-zeros : separationAnswer zeros 1000 128 ≡ accepted (record { least = Present plusZero; leastNonzero = Absent }) 10
-  -- (f) "one net, gap 1: absent"
+  -- SCOPE 13.f: "one net, gap 1: absent"
   pub f : separationAnswer related 1000 128 ≡ accepted nothing 14
   pub overflow : separationAnswer far 1000 128 ≡ accepted (record { least = Present (inf false); leastNonzero = Present (inf false) }) 16
-  -- a refusal's number and values, one word of scratch too few
+  -- SCOPE 6.3, 7.4: a refusal's number and values, one word of scratch too few
   pub short : resultOf (separationAnswer D 16 127) ≡ (4, record { minimum = Absent; «minimum_positive» = Absent; visits = 0 })
 
 pub marked : Marked

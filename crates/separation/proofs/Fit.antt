@@ -1,4 +1,4 @@
--- Segments that pass check 5: their coordinates are finite and no -0, and pairs that count are rows that meet. Assumes nothing.
+-- Segments that pass check 5: with zeros made +0 their coordinates are finite and not -0, and pairs that count are rows that meet. Assumes nothing.
 use mathlib.Core.Path.{_≡_, sym, ap, _∙_}
 use mathlib.Core.Bool.{true, false, not, _&&_}
 use mathlib.Core.List.{List, [], _∷_}

@@ -15,6 +15,6 @@ pub mod AnyOrder
 pub mod Checked
 pub mod Answers
 pub mod Examples
--- what code that pays for each visit leans on
+-- laws that code which pays for each visit uses
 pub mod Allowances
 pub mod States

@@ -35,7 +35,7 @@ pub levels-least : (n k : ℕ) → n ≤ 2 ^ k → levels n ≤ k
 unfolding levels
 levels-least n k h = size-le (n - 1) k (omega (arith, pow-pos k))
 
--- "leading_zeros of count minus one gives levels"
+-- SCOPE 15.4: "leading_zeros of count minus one gives levels"
 pub levels-zeros : (n : ℕ) → n ≤ 2 ^ 64 → 64 - leadingZeros 64 (n - 1) ≡ levels n
 unfolding levels
 levels-zeros n h =

@@ -1,4 +1,4 @@
--- Lines are places of finite floats in totalOrder: their gaps are good, +0 on one line and nonzero on two, and a nearer pair of lines has no larger gap. Assumes nothing.
+-- Lines are keys of finite floats, in totalOrder: their gaps are good, +0 on one line and nonzero on two, and a nearer pair of lines has no larger gap. Assumes nothing.
 use mathlib.Core.Path.{_≡_, sym, ap, _∙_, subst}
 use mathlib.Core.Logic.{inl, inr}
 use mathlib.Core.Bool.{true, not}
@@ -16,7 +16,7 @@ use Rattle.floats.proofs.NumberKeys.{key-lt, float-back}
 use Rattle.separation.specs.Figures.{nonzero}
 use Rattle.separation.proofs.Meets.{Closer}
 
--- a finite float that is no -0
+-- a finite float that is not -0
 pub record Plain (x : Float) : Type 0 where
   pub fin : Fin binary64 x
   pub plus : canonicalZero x ≡ x
@@ -43,7 +43,7 @@ rank-below-key x y p q h = elim (le-or-lt (rank binary64 y) (rank binary64 x)) [
     strict : {a b : ℕ} → b ≤ a → (a ≡ b → ⊥) → b < a
     strict h n = omega arith
 
--- ---- the place of such a float
+-- ---- the key of such a float
 pub record Placed (p : ℕ) : Type 0 where
   pub plain : Plain (floatAt p)
   pub back : keyOf (floatAt p) ≡ p

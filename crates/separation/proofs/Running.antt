@@ -1,4 +1,4 @@
--- The figures that the sweep keeps as it goes are those of the gaps of all that it compares. Assumes nothing.
+-- The figures that the sweep keeps from event to event are those of the gaps of all that it compares. Assumes nothing.
 use mathlib.Core.Path.{_≡_, refl, sym, ap, _∙_, subst}
 use mathlib.Core.Logic.{inl}
 use mathlib.Core.List.{List, [], _∷_, _++_, map, map-append, append-nil, append-assoc}
@@ -74,7 +74,7 @@ one-least : (x : Float) → nonzero x ≡ true → leastOf (x ∷ []) ≡ record
 unfolding leastOf chosen
 one-least x e = rw e (λ i. record { least = least-one x i; leastNonzero = least-one x i })
 
--- the other line of a search's answer is a place, and not p
+-- the line that a search found is the key of a finite float, and not p
 abbrev Off : List ℕ → Option ℕ → ℕ → Type 0
 Off ls none p = Unit {0}
 Off ls (some i) p = Placed (getD ls i 0) × (getD ls i 0 ≡ p → ⊥)
@@ -122,7 +122,7 @@ module _ (ls : List ℕ) (h : ℕ) (rising : Rising ls) (room : length ls ≤ 2 
       ∙ sight-least ls p place v q ((l ++ A) ++ B) gb
       ∙ ap leastOf (append-assoc (l ++ A) B C ∙ append-assoc l A (B ++ C) ∙ ap (λ (z : List Float). l ++ z) (sym meets-parts))
 
--- ---- the sweep over a list l of rows with start < end, whose lines are places
+-- ---- the sweep over a list l of rows with start < end, whose lines are keys of finite floats
 module _ (l : List Row) (ls : List ℕ) (h : ℕ) (rising : Rising ls) (room : length ls ≤ 2 ^ h) (lined : (r : Row) → Mem r l → Mem (r .line) ls) (proper : (r : Row) → Mem r l → r .start < r .end) (places : (r : Row) → Mem r l → Placed (r .line)) where
   runs-least : (active : List Row) (es : List Event) → State l active es → (seen : List Float) → All Good seen → runs (step ls h) (record { active = active; met = leastOf seen }) es .value .met ≡ leastOf (seen ++ map gapAt (sights ls h active es))
   unfolding runs sights step endsAt startsAt looking

@@ -37,7 +37,7 @@ kept n l m k e =
     let g = mem-chosen (otherThan n) (λ (x : ℕ). x) m l (subst (λ (z : List ℕ). Mem m z) (sym e) (inl refl)) in
     eqb-false m n (not-true (eqb m n) (ap (otherThan n) (g .3) ∙ g .2))
 
--- ---- "a tree summary with one net only" would not do: of two different nets one is always another than n
+-- ---- SCOPE 14.7: "a tree summary with one net only" would not do: of two different nets one is always another than n
 pub two-decide : (a b n : ℕ) → (b ≡ a → ⊥) → (not (eqb a n) || not (eqb b n)) ≡ true
 two-decide a b n h = elim (decide (eqb a n)) [
   | inr f ↦ rw f

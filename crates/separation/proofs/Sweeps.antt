@@ -85,7 +85,7 @@ now-or-later : (r x : Row) (i : ℕ) (es : List Event) → StartsIn r (starts i 
 now-or-later r x i es (j, inl e) = inl (ap rowAt e)
 now-or-later r x i es (j, inr m) = inr (j, m)
 
--- where the sweep stands: the events to come, and what is active of the rows l
+-- a state of the sweep: the remaining events, and which of the rows l are active
 pub record State (l : List Row) (active : List Row) (es : List Event) : Type 0 where
   pub sorted : Sorted eventsInOrder es
   pub from : (a : Row) → Mem a active → Mem a l

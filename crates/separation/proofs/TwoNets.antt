@@ -22,7 +22,7 @@ use Rattle.separation.specs.TwoNets.{TwoNets, insert, insertAll, fromNet
 use Rattle.separation.proofs.Summaries.{otherThan, two-decide}
 use Rattle.separation.proofs.Lines.{other-join, leaf-nets}
 
--- the places fill from the first on, and two nets differ
+-- a second net is there only where a first one is, and the two differ
 abbrev Apart : Option ℕ → Option ℕ → Type 0
 Apart none none = Unit {0}
 Apart none (some b) = ⊥
@@ -56,7 +56,7 @@ inserted (some a) (some b) m h = elim (decide (eqb a m || eqb b m)) [
     full : Inserts (pair (some a) (some b)) (pair (some a) (some b)) m
     full = record { apart = h; decides = λ n. rw (two-decide a b n h) }
 
--- so a list's two nets tell what the whole list does
+-- so the two nets of a list decide what the whole list does
 all-inserted : (s : TwoNets) (l : List ℕ) (n : ℕ) → Apart (s .first) (s .second) → hasOther (insertAll s l) n ≡ (hasOther s n || some-of (otherThan n) l)
 unfolding insertAll some-of
 all-inserted s [] n h = or-false (hasOther s n)
@@ -78,7 +78,7 @@ merged-decides : (s t : TwoNets) (n : ℕ) → hasOther (merged s t) n ≡ (hasO
 unfolding merged hasOther some-of
 merged-decides s t n = nets-decide _ n ∙ simp (some-listed, or-assoc, ← or-false)
 
--- ---- what the Rust's tree holds at a node tells, for every net, what the walk asks there
+-- ---- what the Rust's tree holds at a node decides, for every net, what the walk asks there
 pub two-nets-decide : (ls : List ℕ) (active : List Row) (n h s : ℕ) → hasOther (summaryOver ls active h s) n ≡ otherIn ls active n s (s + 2 ^ h)
 unfolding summaryOver
 two-nets-decide ls active n zero s = nets-decide (sortBy leb nets) n ∙ perm-some (otherThan n) (sort-perm leb nets) ∙ leaf-nets ls active s nets there taken n

@@ -1,5 +1,5 @@
--- The tree of active nets: its searches and its `set`, each with the nodes that it touches. "Every node touched by a search or a `set` costs one visit".
--- A tree of h levels has 2 to the power h leaves, one for each line. Its root has number 1, and the children of node k have 2 k and 2 k + 1; a node over h levels whose first leaf is s stands for the leaves from s up to s + 2 ^ h.
+-- The tree of active nets: its searches and its `set`, each with the nodes that it touches. SCOPE 5.11: "Every node touched by a search or a `set` costs one visit".
+-- A tree of h levels has 2 to the power h leaves; the first of them are the lines. Its root is node 1, and the children of node k are 2 k and 2 k + 1. A node over h levels whose first leaf is s covers the leaves from s on, before s + 2 ^ h.
 use mathlib.Core.Bool.{Bool, true, false, not, _&&_}
 use mathlib.Core.List.{List}
 use mathlib.Core.Option.{Option, none, some}
@@ -10,7 +10,7 @@ use Rattle.laws.specs.Charged.{Charged, free, visit, after}
 use Rattle.rows.specs.Rows.{Row}
 use Rattle.separation.specs.Lines.{index}
 
--- some active segment of another net than n lies on a line from a on, before b: what the Rust's summaries decide (`two-nets-decide` in proofs/TwoNets.antt)
+-- some active segment of another net than n is on a line whose index is at least a and below b: what the Rust's summaries decide (`two-nets-decide` in proofs/TwoNets.antt)
 unfoldable pub otherIn : List ℕ → List Row → ℕ → ℕ → ℕ → Bool
 otherIn ls active n a b = some-of (λ r. not (eqb (r .net) n) && (leb a (index ls (r .line)) && ltb (index ls (r .line)) b)) active
 
@@ -29,7 +29,7 @@ abbrev pub node : Bool → Charged (Option ℕ) → Charged (Option ℕ) → Cha
 node true one two = visit (after one (λ r. orElse r two))
 node false one two = visit (free none)
 
--- `search_rightmost` from node k: the last leaf below q for which `has` holds. `has` is asked with a node's number, which only the tree in the scratch needs, its first leaf and its end.
+-- SCOPE 5.10: `search_rightmost` from node k, the last leaf below q for which `has` holds. `has` takes a node's number, which only the tree in the scratch needs, its first leaf and its end.
 unfoldable pub rightmost : (ℕ → ℕ → ℕ → Bool) → ℕ → ℕ → ℕ → ℕ → Charged (Option ℕ)
 rightmost has q zero k s = leaf (ltb s q && has k s (s + 1)) s
 rightmost has q (suc h) k s =
@@ -37,7 +37,7 @@ rightmost has q (suc h) k s =
     let low = rightmost has q h (2 * k) s in
     node (ltb s q && has k s (s + 2 ^ suc h)) high low
 
--- `search_leftmost` from node k: the first leaf from q on for which `has` holds
+-- SCOPE 5.10: `search_leftmost` from node k, the first leaf from q on for which `has` holds
 unfoldable pub leftmost : (ℕ → ℕ → ℕ → Bool) → ℕ → ℕ → ℕ → ℕ → Charged (Option ℕ)
 leftmost has q zero k s = leaf (ltb q (s + 1) && has k s (s + 1)) s
 leftmost has q (suc h) k s =
@@ -45,7 +45,7 @@ leftmost has q (suc h) k s =
     let high = leftmost has q h (2 * k + 1) (s + 2 ^ h) in
     node (ltb q (s + 2 ^ suc h) && has k s (s + 2 ^ suc h)) low high
 
--- `set`: a leaf, and each node above it up to the root
+-- SCOPE 5.11: `set` touches a leaf and each node above it up to the root
 unfoldable pub setRun : ℕ → Charged (Unit {0})
 setRun zero = visit (free tt)
 setRun (suc h) = visit (setRun h)

@@ -1,4 +1,4 @@
--- The Rust's own summary of the nets that are active on some lines, item by item: the first two different ones that it meets. The port keeps less of them (Inner/Summaries.antt); by `two-nets-decide` in proofs/TwoNets.antt the Rust's tree tells what the walk asks of it.
+-- The Rust's own summary of the nets that are active on some lines, function by function: the first two different ones that it meets. The port stores less (Inner/Summaries.antt). By `two-nets-decide` in proofs/TwoNets.antt the Rust's tree answers what the walk asks of it.
 use mathlib.Core.Bool.{Bool, false, not, _||_, cond}
 use mathlib.Core.List.{List, [], _∷_}
 use mathlib.Core.Option.{Option, none, some}
@@ -19,7 +19,7 @@ abbrev pub isNet : Option ℕ → ℕ → Bool
 isNet none n = false
 isNet (some m) n = eqb m n
 
--- a net that is neither of the two goes into the first place where that is empty, else into the second where that is
+-- a net that is neither of the two becomes the first where there is none, else the second where there is none
 abbrev pub placed : Option ℕ → Option ℕ → ℕ → TwoNets
 placed none b n = record { first = some n; second = b }
 placed (some a) none n = record { first = some a; second = some n }
@@ -38,7 +38,7 @@ insertAll s (n ∷ l) = insertAll (insert s n) l
 unfoldable pub fromNets : List ℕ → TwoNets
 fromNets l = insertAll (record { first = none; second = none }) l
 
--- `flatten`: a net that is there comes before those of l
+-- `flatten`: a net that is present comes before those of l
 abbrev pub listed : Option ℕ → List ℕ → List ℕ
 listed none l = l
 listed (some n) l = n ∷ l
@@ -56,7 +56,7 @@ isOther (some m) n = not (eqb m n)
 unfoldable pub hasOther : TwoNets → ℕ → Bool
 hasOther s n = isOther (s .first) n || isOther (s .second) n
 
--- what the `ActiveNetTree` holds at the node over h levels whose first leaf is s. A leaf has what `set` was last handed for its line: `from_nets` of the keys of the line's map, which are the nets active there, rising. A net may stand here several times where the map has it once; `insert` passes over it. Above the leaves is what `set` merges of the two children; `default`, from which all nodes start, is what two of it merge to.
+-- what the `ActiveNetTree` holds at the node over h levels whose first leaf is s. A leaf holds what `set` last stored for its line: `from_nets` of the keys of the line's map, which are the nets active there, ascending. A net may be in this list several times where the map has it once; `insert` ignores the others. A node above the leaves holds what `set` merges from its two children. All nodes start as `default`, and two of these merge to `default`.
 unfoldable pub summaryOver : List ℕ → List Row → ℕ → ℕ → TwoNets
 summaryOver ls active zero s = fromNets (sortBy leb (chosen (λ r. eqb (index ls (r .line)) s) (λ r. r .net) active))
 summaryOver ls active (suc h) s = merged (summaryOver ls active h s) (summaryOver ls active h (s + 2 ^ h))

@@ -1,4 +1,4 @@
--- The Rust's walk with no limit: the figures that it finds, at the cost of its visits. It takes nothing from an allowance or a scratch.
+-- The Rust's walk with no limit (SCOPE 5.8, 5.9, 5.10, 5.11): the figures that it finds, at the cost of its visits. It depends on no allowance and no scratch (SCOPE 4.1).
 use mathlib.Core.Bool.{Bool, true, false, _&&_, cond}
 use mathlib.Core.List.{List, [], _∷_}
 use mathlib.Core.Option.{Option, none, some}
@@ -23,7 +23,7 @@ nothing = record { least = Absent; leastNonzero = Absent }
 unfoldable pub lesserFigures : Figures → Figures → Figures
 lesserFigures f g = record { least = lesserGap (f .least) (g .least); leastNonzero = lesserGap (f .leastNonzero) (g .leastNonzero) }
 
--- where the sweep stands: the active segments, and the figures of what it has met
+-- the state of the sweep: the active segments, and the figures of the gaps so far
 pub record Sweep : Type 0 where
   pub active : List Row
   pub met : Figures
@@ -32,22 +32,22 @@ pub record Sweep : Type 0 where
 unfoldable pub same : Row → Row → Bool
 same a b = (eqb (a .net) (b .net) && eqb (a .line) (b .line)) && (eqb (a .start) (b .start) && eqb (a .end) (b .end))
 
--- the rows with one less that equals x
+-- the rows without the first one that equals x
 unfoldable pub remove : Row → List Row → List Row
 remove x [] = []
 remove x (a ∷ l) = let r = remove x l in cond (same x a) l (a ∷ r)
 
--- another net on the segment's own line: the gap is 0
+-- SCOPE 5.10: another net is on the segment's own line, so that the gap is 0
 abbrev pub ownLine : Bool → Figures → Figures
 ownLine true f = record { least = Present plusZero; leastNonzero = f .leastNonzero }
 ownLine false f = f
 
--- another net on the line that a search found
+-- SCOPE 5.10: another net is on the line that a search found
 abbrev pub otherLine : List ℕ → ℕ → Option ℕ → Figures → Figures
 otherLine ls line none f = f
 otherLine ls line (some i) f = let g = Present (gapOf (floatAt (getD ls i 0)) (floatAt line)) in lesserFigures f (record { least = g; leastNonzero = g })
 
--- what a start looks at: is another net on the segment's own line (`has_other_at`), which is the nearest line below with another net, which the nearest above. "Every node touched by a search or a `set` costs one visit, and so does each `has_other_at`."
+-- SCOPE 5.10, 5.11: what a start searches: is another net on the segment's own line (`has_other_at`), which is the nearest line below with another net, which the nearest above. "Every node touched by a search or a `set` costs one visit, and so does each `has_other_at`."
 unfoldable pub looking : List ℕ → ℕ → List Row → Figures → Row → Charged Figures
 looking ls h active f x =
     let i = index ls (x .line) in
@@ -57,13 +57,13 @@ looking ls h active f x =
     after (leftmost (λ k. has) (suc i) h 1 0) (λ above.
     free (otherLine ls (x .line) above (otherLine ls (x .line) below (ownLine own f))))))
 
--- a segment starts: the look, then its line's `set`
+-- SCOPE 5.10: a segment starts: the searches, then its line's `set`
 unfoldable pub startsAt : List ℕ → ℕ → Sweep → Row → Charged Sweep
 startsAt ls h s x =
     after (looking ls h (s .active) (s .met) x) (λ f.
     after (setRun h) (λ done. free (record { active = x ∷ s .active; met = f })))
 
--- a segment ends: its line's `set`
+-- SCOPE 5.10: a segment ends: its line's `set`
 unfoldable pub endsAt : ℕ → Sweep → Row → Charged Sweep
 endsAt h s x = after (setRun h) (λ done. free (record { active = remove x (s .active); met = s .met }))
 
@@ -71,22 +71,22 @@ unfoldable pub step : List ℕ → ℕ → Sweep → Event → Charged Sweep
 step ls h s (ends i x) = endsAt h s x
 step ls h s (starts i x) = startsAt ls h s x
 
--- the sweep over one orientation's segments in order, from no active segment and absent figures
+-- SCOPE 5.9: the sweep over one orientation's segments in order, from no active segment and absent figures
 unfoldable pub sweep : List Row → Charged Figures
 sweep l =
     let ls = lines l in
     after (runs (step ls (levels (length ls))) (record { active = []; met = nothing }) (events l)) (λ s. free (s .met))
 
--- "An orientation with fewer than two segments costs nothing."
+-- SCOPE 5.8: "An orientation with fewer than two segments costs nothing."
 unfoldable pub along : List Row → Charged Figures
 along [] = free nothing
 along (r ∷ []) = free nothing
 along (r ∷ t ∷ l) = sweep (r ∷ t ∷ l)
 
--- horizontal first, then vertical
+-- SCOPE 5.8: horizontal first, then vertical
 unfoldable pub walkAll : List Segment → Charged Figures
 walkAll l = after (along (oriented 1 l)) (λ f. after (along (oriented 0 l)) (λ g. free (lesserFigures f g)))
 
--- "Clearance and separation: the visits of the Rust's walk with no limit, its lists ordered as the departures say."
+-- SCOPE 4.2: "Clearance and separation: the visits of the Rust's walk with no limit, its lists ordered as the departures say."
 unfoldable pub visitCount : List Segment → ℕ
 visitCount l = walkAll l .cost

@@ -1,4 +1,4 @@
-// The checks of the call, in document 01's order.
+// The checks of the call, in the order of SCOPE 7.
 ghost use mathlib.Core.Path.{_≡_};
 ghost use Rattle.drawing.specs.Refusals.{firstOf};
 ghost use Rattle.drawing.specs.Entries.{segmentColumns};
@@ -6,7 +6,7 @@ ghost use Rattle.separation.specs.Conditions.{separationConditions};
 use drawing::Check;
 use list_checks::check_segments;
 
-// The checks of separation: segments and a scratch of so many words.
+// Separation takes segments, and a scratch whose length is `words`.
 pub fn check_separation(
     net: &[u32],
     orientation: &[u8],

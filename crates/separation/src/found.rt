@@ -5,7 +5,7 @@ ghost use Rattle.separation.specs.Inner.States.{foundBy};
 use drawing::Gap;
 use drawing::minimum_option;
 
-// The figures of one orientation, and how many visits are left.
+// The figures of one orientation or of both, and the remaining visits.
 pub struct Found {
     pub minimum: Gap,
     pub minimum_positive: Gap,
@@ -18,7 +18,7 @@ pub enum Swept {
     Spent,
 }
 
-// The lesser of each figure, with what the second sweep left.
+// The lesser of each figure, with the remaining visits of the second sweep.
 pub fn together(across: Found, down: Found) -> Found
     ensures { λ r. ⌜ foundBy r ≡ lesserFigures (foundBy across) (foundBy down) ⌝ }
     ensures { λ r. ⌜ r .remaining ≡ down .remaining ⌝ }

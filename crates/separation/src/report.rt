@@ -9,7 +9,7 @@ pub struct ParallelSeparation {
     pub visits: usize,
 }
 
-// The report, or why the call was turned down.
+// The report, or the refusal.
 pub enum SeparationAnswer {
     Report(ParallelSeparation),
     Refused(Refusal),

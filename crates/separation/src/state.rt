@@ -1,4 +1,4 @@
-// Where the sweep stands: the figures so far, and how many visits are left; and what changes them.
+// The state of the sweep, and what changes it.
 ghost use mathlib.Core.Path.{_≡_};
 ghost use Rattle.floats.specs.Values.{gapOf};
 ghost use Rattle.separation.specs.Walk.{ownLine};
@@ -10,20 +10,20 @@ use drawing::least_with;
 use drawing::no_gap;
 use floats::absolute;
 
-// The figures so far, and how many visits are left. Each least gap is a NaN where there is none yet.
+// The figures so far, and the remaining visits. Each least gap is a NaN where there is none yet.
 pub struct Sweeping {
     pub minimum: f64,
     pub minimum_positive: f64,
     pub remaining: usize,
 }
 
-// Where the sweep stands after an event, or that the allowance is spent.
+// The state after an event, or that the allowance is spent.
 pub enum Handled {
     Went(Sweeping),
     Spent,
 }
 
-// Where the sweep begins: nothing met, and the whole allowance left.
+// The state before the first event: no gap yet, and the whole allowance remaining.
 pub fn at_start(allowance: usize) -> Sweeping
     ensures { λ r. ⌜ r ≡ atStart allowance ⌝ }
 {
@@ -34,7 +34,7 @@ pub fn at_start(allowance: usize) -> Sweeping
     }
 }
 
-// Another net on the segment's own line makes the least gap 0. The caller hands over what the look at it left.
+// Another net on the segment's own line makes the least gap 0. `remaining` is the number of visits that remain after `has_other_at`.
 pub fn with_own_line(own: bool, remaining: usize, state: Sweeping) -> Sweeping
     ensures { λ r. ⌜ metBy r ≡ ownLine own (metBy state) ⌝ }
     ensures { λ r. ⌜ r .remaining ≡ remaining ⌝ }
@@ -68,7 +68,7 @@ pub fn with_other_line(there: f64, here: f64, remaining: usize, state: Sweeping)
     }
 }
 
-// The figures, with what a `set` left of the allowance.
+// The figures, with the remaining visits after a `set`.
 pub fn after_charge(charge: Charge, state: Sweeping) -> Handled
     ensures { λ r. ⌜ r ≡ chargedTo state charge ⌝ }
 {
@@ -82,7 +82,7 @@ pub fn after_charge(charge: Charge, state: Sweeping) -> Handled
     })
 }
 
-// What the sweep found, when its last event is handled.
+// What the sweep found once its last event is handled.
 pub fn found_in(state: Sweeping) -> Found
     ensures { λ r. ⌜ r ≡ foundIn state ⌝ }
 {

@@ -1,10 +1,10 @@
-// What is known of the nets that are active on some lines: enough to tell, for every net, whether another one is active there.
+// What is known of the nets that are active on some lines: enough to decide, for every net, whether another one is active there.
 ghost use mathlib.Core.Path.{_≡_};
 ghost use mathlib.Core.Bool.{_||_};
 ghost use Prim.Native.Nat.{ℕ};
 ghost use Rattle.separation.specs.Inner.Summaries.{hasOther, summaryOfWord};
 
-// No net, one, or two different ones at least. The Rust keeps two of these; which two is of no matter, since of two different nets one is always another than the net asked for.
+// No net, one, or at least two different ones. The Rust stores two of them; it does not matter which, since of two different nets at least one is not the excluded net.
 pub enum NetSummary {
     Nothing,
     One(u32),
@@ -45,7 +45,7 @@ impl NetSummary {
     }
 }
 
-// A summary as a word: 0 is no net, a net and one more is that net, and any greater word is two nets.
+// A summary as a word: 0 is no net, a net plus 1 is that net, and any greater word is two nets.
 pub fn summary_of_word(word: u64) -> NetSummary
     ensures { λ r. ⌜ r ≡ summaryOfWord word ⌝ }
 {

@@ -1,4 +1,4 @@
--- How often each net is active on each line, in words: what a line's words tell, and what a start and an end make of all of them. Assumes nothing.
+-- How often each net is active on each line, in words: the summary of a line's words, and what a start and an end make of all of them. Assumes nothing.
 use mathlib.Core.Path.{_≡_, refl, sym, ap, _∙_, subst}
 use mathlib.Core.Logic.{_⊎_, inl, inr}
 use mathlib.Core.Bool.{Bool, true, false, not}
@@ -26,7 +26,7 @@ use Rattle.separation_call.specs.Inner.ActiveTree.{Decides}
 use Rattle.separation_call.specs.Inner.ActiveNets.{onLine, netCount, NetsOn, Slots, Counted, Countable, Endable, lineSummary, summaryOfLine, Starts, Ends}
 use Rattle.separation_call.proofs.NetCounts.{count-start, count-end, counts-decide}
 
--- ---- what a line's words tell
+-- ---- the summary of a line's words
 module _ (many total : ℕ) where
   pub told-none : many ≡ 0 → Nothing ≡ lineSummary many total
   unfolding lineSummary
@@ -74,7 +74,7 @@ module _ (net : ℕ) where
       go true h = ((λ k. d .0 (without-in l m k .0)), h)
       go false h = h
 
-  -- where it is none of them, nothing goes
+  -- where it is none of them, nothing is removed
   without-none : (l : List ℕ) → (Mem net l → ⊥) → keep (otherThan net) l ≡ l
   unfolding chosen
   without-none [] f = refl
@@ -103,7 +103,7 @@ unfolding fold
 mem-sum m (k ∷ l) (inl e) = omega (arith, e)
 mem-sum m (k ∷ l) (inr h) = let r = mem-sum m l h in omega arith
 
--- ---- the active rows change by one of this net on this line: elsewhere each net counts as before
+-- ---- the active rows change by one of this net on this line: all other counts stay
 abbrev Elsewhere : List ℕ → List Row → List Row → ℕ → ℕ → Type 0
 Elsewhere ls old new line net = (i m : ℕ) → (i ≡ line → m ≡ net → ⊥) → netCount ls new i m ≡ netCount ls old i m
 
@@ -139,7 +139,7 @@ module _ (ls : List ℕ) (old new : List Row) (b : ℕ) where
     nets-off : (i many total : ℕ) → (i ≡ line → ⊥) → NetsOn ls old b i many total → NetsOn ls new (b + 1) i many total
     nets-off i many total f = nets-same i many total (λ m h. omega (arith, elsewhere i m (λ e g. f e))) (λ m h. omega (arith, elsewhere i m (λ e g. f e)))
 
-    -- what holds of the net and of those that count as before
+    -- what holds of the net and of those whose count stays
     or-else : (P : ℕ → Type 0) (m : ℕ) → P net → (netCount ls new line m ≡ netCount ls old line m → P m) → P m
     or-else P m h f = elim (same-or-not m net) [
       | inl e ↦ subst P (sym e) h
@@ -169,7 +169,7 @@ module _ (ls : List ℕ) (old new : List Row) (b : ℕ) where
         there m e (inl h) = subst (λ (z : ℕ). 0 < netCount ls new line z) (sym h) q
         there m e (inr k) = omega (arith, o .there m k)
 
-    -- it leaves its line
+    -- the net is gone from its line
     nets-less : (many total : ℕ) → 0 < netCount ls old line net → netCount ls new line net ≡ 0 → NetsOn ls old b line many total → NetsOn ls new (b + 1) line (many - 1) (total - net)
     nets-less many total p q o =
         let l = keep (otherThan net) (o .nets) in
@@ -218,7 +218,7 @@ module _ (n slot line : ℕ) (c : List ℕ) (room : 3 * n ≤ length c) (s : slo
         rest = λ i f g h. getD-set-other b slot i count 0 f ∙ getD-set-other a (2 * n + line) i total 0 h ∙ getD-set-other c (n + line) i many 0 g;
       }
 
--- ---- so the words count the new rows; place j has the slot, the line and the net
+-- ---- so the words count the new rows; segment j has the slot, the line and the net
 module _ (n b : ℕ) (ls : List ℕ) (lineOf netOf slotOf : ℕ → ℕ) (old : List Row) (c : List ℕ) (k : Counted n b ls lineOf netOf slotOf old c) (j slot line net : ℕ) (inside : j < n) (of-slot : slotOf j ≡ slot) (of-line : lineOf j ≡ line) (of-net : netOf j ≡ net) where
   count-is : getD c slot 0 ≡ netCount ls old line net
   count-is = ap (λ (z : ℕ). getD c z 0) (sym of-slot) ∙ k .counts j inside ∙ (λ t. netCount ls old (of-line t) (of-net t))
@@ -263,7 +263,7 @@ module _ (k n slot line many total : ℕ) (c e : List ℕ) (t : LineChanged k n 
   pub changed-length : length e ≡ length c
   changed-length = elim t [ inl g ↦ rw (g .1) (simp length-set) | inr g ↦ ap (λ (z : List ℕ). length z) (g .1) ]
 
-  -- then the slot gets its new count, and the words are lent on
+  -- then the slot gets its new count, and the words are lent to the next call
   pub changed-lent : (count : ℕ) → 3 * n ≤ length c → 3 * n ≤ length (midOf 0 (length (set e slot count) - 0) (set e slot count))
   changed-lent count h = rw (tail-lent 0 (set e slot count)) (simp length-set (omega (arith, changed-length)))
 

@@ -24,7 +24,7 @@ use Rattle.separation_call.specs.Inner.Prepared.{Prepared}
 use Rattle.separation.specs.Inner.States.{sweptOf}
 use Rattle.separation_call.specs.Inner.Sweeping.{Gapped, AtTables, AtRows, AtColumns}
 
--- e is what the words behind the first 16 for each segment became when the rows were ordered there
+-- e is what the words after the first 16 for each segment became when the rows were ordered there
 module _ (s e : List ℕ) (o n : ℕ) (c : SegmentColumns) (a : AtColumns (length s) o c)
     (ordered : (n ≡ rowCount o c (length (midOf (16 * length (c .net)) (length s - 16 * length (c .net)) s))) × (e ≡ rowsPlaced o c (midOf (16 * length (c .net)) (length s - 16 * length (c .net)) s))) where
   abbrev l : List Row

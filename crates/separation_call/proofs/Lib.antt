@@ -1,4 +1,4 @@
--- What code that pays for each visit and stores summaries leans on, a file for each notion.
+-- Laws that code which pays for each visit and stores summaries uses, a file for each notion.
 pub mod Trees
 pub mod NetCounts
 pub mod StoredTree

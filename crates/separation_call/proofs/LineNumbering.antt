@@ -25,12 +25,12 @@ use Rattle.separation.proofs.Lines.{Rising, lines-rising, line-mem, index-lt}
 use Rattle.separation_call.specs.Inner.Numbered.{lineOf, Numbered, LinesNumbered}
 
 -- ---- the different keys, up to a key
--- the keys of the lines before that of x, where the keys p stand before x
+-- the keys of the lines before that of x, where the keys p come before x
 pub firsts : List ℕ → ℕ → List ℕ
 firsts [] x = []
 firsts (y ∷ p) x = put (differs y (p ++ x ∷ [])) y (firsts p x)
 
--- what stands behind x is of no matter for them
+-- they do not depend on what comes after x
 distinct-split : (p : List ℕ) (x : ℕ) (t : List ℕ) → distinct (p ++ x ∷ t) ≡ firsts p x ++ distinct (x ∷ t)
 unfolding distinct firsts
 distinct-split [] x t = refl
@@ -145,7 +145,7 @@ places-below l = mem-all (λ (i : ℕ). i < length l) (map (λ (r : Row). index 
     omega (arith, g .2, index-lt (lines l) (g .0 .line) (line-mem (g .0) l (g .1)), lines-few l))
 
 -- ---- the pass
--- j keys of column 4 have their numbers, and the keys of their m lines stand in column 6
+-- j keys of column 4 have their numbers, and the keys of their m lines are in column 6
 pub record Numbering (n : ℕ) (s₀ s : List ℕ) (m last j : ℕ) : Type 0 where
   pub room : 7 * n ≤ length s₀
   pub small : j ≤ n

@@ -1,4 +1,4 @@
--- A slot for each line and net: a word for each place, the words in order, and each group's first place handed out. Assumes nothing.
+-- A slot for each line and net: a word for each segment, the words in order, and the index of each group's first word assigned to its segments. Assumes nothing.
 use mathlib.Core.Path.{_≡_, refl, sym, ap, _∙_, subst}
 use mathlib.Core.Logic.{inl, inr}
 use mathlib.Core.Bool.{true}
@@ -35,13 +35,13 @@ use Rattle.separation.proofs.Lines.{first-word, index-here, index-past, index-l
 use Rattle.separation_call.specs.Inner.ActiveNets.{Slots}
 use Rattle.separation_call.specs.Inner.Numbered.{Slottable, slotWord, WordsFilled, placeOf, groupOf, WordsInOrder, slotOf, HandedOut, SlotsAssigned}
 
--- ---- the first place of a value in a list in order
+-- ---- the first index of a value in a list in order
 index-at : (l : List ℕ) (k p : ℕ) → k < length l → ((i : ℕ) → i < k → getD l i 0 < p) → p ≤ getD l k 0 → index l p ≡ k
 index-at [] k p b f h = absurd (not-suc-le-zero b)
 index-at (q ∷ l) zero p b f h = index-here q p l h
 index-at (q ∷ l) (suc k) p b f h = index-past q p l (f 0 (omega arith)) ∙ ap suc (index-at l k p (le-of-suc-le-suc b) (λ i g. f (suc i) (suc-le-suc g)) h)
 
--- the value stands there
+-- the value is there
 index-value : (l : List ℕ) (p : ℕ) → Sorted leb l → Mem p l → getD l (index l p) 0 ≡ p
 index-value (q ∷ l) p s m = elim (le-or-lt p q) [
   | inl h ↦ rw (index-here q p l h) (first h m)
@@ -71,7 +71,7 @@ fitting n s g j b = record {
   small = column-all (λ (m : ℕ). m < 2 ^ 32) n 5 s (omega (arith, g .room)) (g .nets) j b;
 }
 
--- j words stand in column 8
+-- j words of column 8 are written
 pub record Filling (n : ℕ) (s₀ s : List ℕ) (j : ℕ) : Type 0 where
   pub given : Slottable n s₀
   pub small : j ≤ n
@@ -110,7 +110,7 @@ module _ (n : ℕ) (s₀ s : List ℕ) (j : ℕ) (v : Filling n s₀ s j) (h : j
 pub filling-end : (n : ℕ) (s₀ s : List ℕ) (j : ℕ) → Filling n s₀ s j → n ≤ j → WordsFilled n s₀ s
 filling-end n s₀ s j v h = record { front = v .front; words = λ i b. v .words i (omega arith); behind = v .behind }
 
--- ---- the slots are handed out
+-- ---- the slots are assigned
 pub slot-same : (k slot last group : ℕ) → group ≡ last → slotOf k slot last group ≡ slot
 unfolding slotOf
 slot-same k slot last group e = rw (eq-eqb group last e)
@@ -209,7 +209,7 @@ module _ (n : ℕ) (s₀ s : List ℕ) (slot last k : ℕ) (v : Handing n s₀ s
           ∙ getD-set-same s (7 * n + placeOf (getD (column n 8 s₀) k 0)) next 0 (omega (arith, v .words .inside (getD (column n 8 s₀) k 0) there, handing-room))
           ∙ is
 
-      -- a word of the same place would be the same word
+      -- a word of the same segment would be the same word
       earlier : (next : ℕ) → next ≡ index (map groupOf (column n 8 s₀)) (groupOf (getD (column n 8 s₀) k 0)) → (i : ℕ) → i < k
           → getD (set s (7 * n + placeOf (getD s (8 * n + k) 0)) next) (7 * n + placeOf (getD (column n 8 s₀) i 0)) 0 ≡ index (map groupOf (column n 8 s₀)) (groupOf (getD (column n 8 s₀) i 0))
       earlier next is i b =
@@ -239,7 +239,7 @@ unfolding before
 words-sorted k [] s = tt
 words-sorted k (x ∷ l) s = (λ y m. le-leb x y (first-word x y [] [] (s .0 y m)), words-sorted k l (s .1))
 
--- the line and the net of place j in one number
+-- the line and the net of segment j in one number
 abbrev pair : List ℕ → ℕ → ℕ → ℕ
 pair s n j = getD s (4 * n + j) 0 * 2 ^ 32 + getD s (5 * n + j) 0
 
@@ -282,7 +282,7 @@ module _ (n : ℕ) (s a p : List ℕ) (g : Slottable n s) (len : length a ≡ le
   b-perm : Perm (column n 8 b) (column n 8 a)
   b-perm = subst (λ (l : List ℕ). Perm (take n l) (column n 8 a)) (sym b-rest) (sorted-perm (drop (8 * n) a) n n 0 fits)
 
-  -- the words that are sorted are those of the places
+  -- the words that are sorted are those of the segments
   word-at : (j : ℕ) → j < n → getD (column n 8 a) j 0 ≡ slotWord s n j
   word-at j h = column-at n 8 a j h ∙ f .words j h
 

@@ -21,7 +21,7 @@ use Rattle.separation.specs.Inner.Summaries.{hasOther}
 use Rattle.separation.proofs.Allowances.{answer-spent, answer-found, answer-empty, leaf-spent, leaf-found, empty-paid, node-spent, first-spent, first-found, first-empty}
 use Rattle.separation_call.specs.Inner.ActiveTree.{summaryAt, otherNetOf}
 
--- ---- an answer tells what the run came to
+-- ---- an answer determines the outcome of the run
 pub was-spent : (o : Outcome (Option ℕ)) → Spent ≡ searchOf o → o ≡ spent
 unfolding searchOf
 was-spent spent e = refl
@@ -40,7 +40,7 @@ was-empty spent m e = cc
 was-empty (left (some j) r) m e = cc
 was-empty (left none r) m e = cc
 
--- ---- a visit is paid: the run within m goes on within m - 1
+-- ---- a visit is paid: the run within m continues within m - 1
 pub paid-before : (m : ℕ) → (m ≡ 0 → ⊥) → m ≡ suc (m - 1)
 paid-before m p = omega arith
 
@@ -54,11 +54,11 @@ module _ (m : ℕ) (b : Bool) where
   unfolding otherNetOf
   other-known p other e = ap (λ (t : Bool). Known t (m - 1)) e ∙ sym (ap otherNetOf (ap (λ (z : ℕ). within z (visit (free b))) (paid-before m p) ∙ visit-paid (m - 1) (free b) ∙ within-free (m - 1) b))
 
--- ---- a search goes on
+-- ---- a search continues
 paid : (m : ℕ) → (m ≡ 0 → ⊥) → (run : Charged (Option ℕ)) (r : Search) → r ≡ searchOf (within (suc (m - 1)) run) → r ≡ searchOf (within m run)
 paid m p run r e = e ∙ ap (λ (z : ℕ). searchOf (within z run)) (sym (paid-before m p))
 
--- ---- a node whose children are searched: the first one's answer is handed on, or the second one is searched with what is left
+-- ---- a node whose children are searched: the first one's answer is returned, or the second one is searched with the remaining visits
 module _ (one two : Charged (Option ℕ)) (a : Search) (m : ℕ) (p : m ≡ 0 → ⊥) (e : a ≡ searchOf (within (m - 1) one)) where
   hand-spent : a ≡ Spent → Spent ≡ searchOf (within m (node true one two))
   hand-spent x = paid m p (node true one two) Spent (rw (first-spent one two (m - 1) (was-spent (within (m - 1) one) (sym x ∙ e))) (sym answer-spent))
@@ -78,7 +78,7 @@ abbrev pub search : Way → (ℕ → ℕ → ℕ → Bool) → ℕ → ℕ → �
 search down = rightmost
 search up = leftmost
 
--- the leaves from s up to e reach into the query
+-- the leaves from s on, before e, reach into the query
 abbrev pub reaches : Way → ℕ → ℕ → ℕ → Bool
 reaches down q s e = ltb s q
 reaches up q s e = ltb q e
@@ -129,7 +129,7 @@ pub record Opened (w : Way) (t : List ℕ) (n q k s e m : ℕ) : Type 0 where
   pub active : hasOther (summaryAt t k) n ≡ true
   pub wide : e - s ≡ 1 → ⊥
 
--- ---- a search from node k over the leaves from s up to e, within m
+-- ---- a search from node k over the leaves from s on, before e, within m
 abbrev others : List ℕ → ℕ → ℕ → ℕ → ℕ → Bool
 others t n k a b = hasOther (summaryAt t k) n
 

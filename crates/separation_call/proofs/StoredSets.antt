@@ -21,7 +21,7 @@ use Rattle.separation_call.specs.Inner.ActiveTree.{summaryAt, chargeOf, 
 use Rattle.separation_call.proofs.StoredSearches.{paid-before}
 use Rattle.separation_call.proofs.Trees.{Merging, merging-begins, merging-goes-on, merging-ends}
 
--- ---- what a charge tells
+-- ---- the cases of a charge
 charge-spent : chargeOf spent ≡ Spent
 unfolding chargeOf
 charge-spent = refl
@@ -33,14 +33,14 @@ charge-paid m = refl
 pub spent-not-paid : (m : ℕ) → Spent ≡ Paid m → ⊥
 spent-not-paid m e = let z : _≡_ {A = ℕ} 0 1 = cc in omega arith
 
--- a power tells its exponent
+-- a power determines its exponent
 same-height : (g h : ℕ) → 2 ^ g ≡ 2 ^ h → g ≡ h
 same-height g h e = elim (le-or-lt g h) [
   | inr x ↦ absurd (omega (arith, pow-lt x))
   | inl x ↦ elim (le-or-lt h g) [ inl y ↦ omega arith | inr y ↦ absurd (omega (arith, pow-lt y)) ]
 ]
 
--- ---- the way up: h nodes from c up to the root, none where c is 0
+-- ---- the path up: h nodes from c up to the root, none where c is 0
 pub record Way (h c : ℕ) : Type 0 where
   pub least : 2 ^ h ≤ 2 * c + 1
   pub most : c < 2 ^ h
@@ -53,7 +53,7 @@ way-ends : (h c : ℕ) → c ≡ 0 → Way h c → h ≡ 0
 way-ends zero c z w = refl
 way-ends (suc g) c z w = absurd (omega (arith, w .least, pow-succ' 2 g, pow-pos g))
 
--- ---- the loop: c is the next node to be merged anew, `rest` what is left of the allowance
+-- ---- the loop: c is the next node to be merged anew, `rest` the remaining visits
 pub record Setting (leaves m : ℕ) (start : List ℕ) (first : ℕ) (t : List ℕ) (rest c : ℕ) : Type 0 where
   pub height : ℕ
   pub count : leaves ≡ 2 ^ height
@@ -65,7 +65,7 @@ pub record Setting (leaves m : ℕ) (start : List ℕ) (first : ℕ) (t : List �
   pub charged : within m (setRun height) ≡ within (suc rest) (setRun above)
   pub merging : (ls : List ℕ) (new : List Row) → Merging ls new (summaryAt start) height first → Merging ls new (summaryAt t) height c
 
--- nothing is left at the leaf
+-- no visit is left at the leaf
 pub set-stops : (m : ℕ) → m ≡ 0 → (H : ℕ) → Spent ≡ chargeOf (within m (setRun H))
 set-stops m z H = rw (z, set-spent H) (sym charge-spent)
 
@@ -87,7 +87,7 @@ module _ {leaves m : ℕ} {start : List ℕ} {first : ℕ} {t : List ℕ} {rest 
   abbrev same : (H : ℕ) → leaves ≡ 2 ^ H → s .height ≡ H
   same H e = same-height (s .height) H (sym (s .count) ∙ e)
 
-  -- nothing is left at a node above the leaf
+  -- no visit is left at a node above the leaf
   pub setting-stops : (c ≡ 0 → ⊥) → rest ≡ 0 → (H : ℕ) → leaves ≡ 2 ^ H → Spent ≡ chargeOf (within m (setRun H))
   setting-stops n z H e =
       let w = way-on (s .above) c n (s .way) in

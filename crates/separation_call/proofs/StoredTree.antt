@@ -1,4 +1,4 @@
--- The tree as words: how many leaves there are, and where the nodes below a node stand. Assumes nothing.
+-- The tree as words: how many leaves there are, and the numbers of the nodes below a node. Assumes nothing.
 use mathlib.Core.Path.{_≡_, sym, ap, _∙_}
 use mathlib.Core.List.{List}
 use Prim.Native.Nat.{ℕ, zero, suc, _+_, _-_, _*_, _/_, _%_, _^_, _≤_, _<_}
@@ -26,7 +26,7 @@ module _ (n : ℕ) (few : n ≤ 4096) where
       rw e (shl-exact {a = 1} 1 (levels n) 64 (omega arith) (omega (arith, levels-few)) ∙ one-mul (2 ^ levels n))
 
 -- ---- nodes
--- the root stands above all leaves
+-- the root is above all leaves
 pub root-below : (t : List ℕ) (leaves : ℕ) → Leaves t leaves → Below t 1 0 leaves
 root-below t leaves l = record { height = l .height; level = l .height; at = node-root (l .height); to = omega (arith, l .count); room = omega (arith, l .count, l .room) }
 

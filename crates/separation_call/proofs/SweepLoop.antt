@@ -1,4 +1,4 @@
--- The loop over the events: after q events the others, from where the sweep stands, come to the same. Assumes nothing.
+-- The loop over the events: after q events, the others from the state reached have the outcome of all. Assumes nothing.
 use mathlib.Core.Path.{_≡_, refl, sym, ap, _∙_, subst}
 use mathlib.Core.Logic.{inl, inr}
 use mathlib.Core.List.{List, [], _∷_}
@@ -79,7 +79,7 @@ module _ (l : List Row) (F : List ℕ) (H allowance : ℕ) where
   abbrev start : Sweep
   start = record { active = []; met = nothing }
 
-  -- what all events come to
+  -- the outcome of all events
   abbrev whole : Outcome Sweep
   whole = within allowance (runs (step (lines l) H) start (events l))
 
@@ -182,7 +182,7 @@ module _ (l : List Row) (F : List ℕ) (H allowance : ℕ) where
   pub swept-all : H ≡ levels (length (lines l)) → sweptOf all ≡ sweptOf (within allowance (sweep l))
   swept-all e = ap sweptOf (ap (λ (h : ℕ). figuresOf (within allowance (runs (step (lines l) h) start (events l)))) e ∙ sym (sweep-within allowance l))
 
--- ---- the same for whatever rows the scratch is made ready with; n is how many they are
+-- ---- the same for whatever rows the scratch is made ready with; n is their number
 module _ (n leaves allowance : ℕ) (s₀ : List ℕ) where
   abbrev pub Runs : Sweeping → List ℕ → ℕ → Type 0
   Runs st s q = (l : List Row) (F : List ℕ) (H : ℕ) → length l ≡ n → leaves ≡ 2 ^ H → Ready l F H 0 [] s₀ → ((a : Row) → Mem a l → a .start < a .end) → Going l F H allowance st s q

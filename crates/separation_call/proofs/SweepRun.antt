@@ -1,4 +1,4 @@
--- The events of one orientation, one after another, over the scratch that holds its tables: what an event reads there, what it makes of the scratch, and what all events come to. Assumes nothing.
+-- The events of one orientation, one after another, over the scratch that holds its tables: what an event reads there, what it makes of the scratch, and the outcome of all events. Assumes nothing.
 use mathlib.Core.Path.{_≡_, refl, sym, ap, _∙_, subst}
 use mathlib.Core.Logic.{inl, inr}
 use mathlib.Core.List.{List, _∷_, _++_}
@@ -92,7 +92,7 @@ module _ (l : List Row) (F : List ℕ) (H b : ℕ) (active : List Row) (s : List
       ∙ ap (take (length ls)) (column-same n 6 (9 * n) s F (omega arith) (ready .front))
       ∙ ready .prepared .fixed
 
-  -- ---- the tree behind the counts
+  -- ---- the tree after the counts
   tree-from : drop (3 * n) (drop (9 * n) s) ≡ drop (12 * n) s
   tree-from = let k : 9 * n + 3 * n ≡ 12 * n = omega arith in drop-drop (3 * n) (9 * n) s ∙ ap (λ (m : ℕ). drop m s) k
 
@@ -125,7 +125,7 @@ module _ (l : List Row) (F : List ℕ) (H b : ℕ) (active : List Row) (s : List
         inside = omega (arith, line-in, line-word j inside);
       })
 
-  -- ---- the words behind the tables came back as e
+  -- ---- the words after the tables came back as e
   module _ (t e : List ℕ) (back : t ≡ putMid (9 * n) (length s - 9 * n) s e) (long : length t ≡ length s) (new : List Row) (within-rows : (a : Row) → Mem a new → Mem a l) where
     together : t ≡ take (9 * n) s ++ e
     together = back ∙ tail-back (9 * n) s e (omega (arith, ready .room))
@@ -158,7 +158,7 @@ module _ (l : List Row) (F : List ℕ) (H b : ℕ) (active : List Row) (s : List
       after-leave : new ≡ remove (rowFrom l j) active → Mem (rowFrom l j) active → TakenOut n leaves (getD s (7 * n + j) 0) (getD s (4 * n + j) 0) (getD s (5 * n + j) 0) (take (length s - 9 * n) (drop (9 * n) s)) e r → Ready l F H (b + 1) new t
       after-leave is m f = still-ready (subst (λ (z : List Row). Working n (b + 1) ls H lineOf netOf slotOf z e) (sym is) (f b ls H lineOf netOf slotOf active (rowFrom l j) j to count (at-place j inside) lent-work m went))
 
--- ---- what a step comes to, as far as the figures go
+-- ---- the outcome of a step, its figures only
 flatten : (active : List Row) (st : Sweeping) (x : Row) (o : Outcome (Unit {0})) → figuresOf (onward o (λ done r. left (record { active = remove x active; met = metBy st }) r)) ≡ onward o (λ done m. left (metBy st) m)
 unfolding onward
 flatten active st x spent = refl
@@ -229,7 +229,7 @@ module _ (s : List ℕ) (leaves j : ℕ) (st : Sweeping) where
     first-of a h (inl e) = subst (λ (z : Row). Mem z l) (sym e) (row-in l F H b active s ready j h)
     first-of a h (inr m) = ready .from a m
 
-  -- the look was not paid for
+  -- the searches were not paid for
   pub begins-not : (n : ℕ) (looked-at : Handled) (t : List ℕ) → j < n → LookedAt n s leaves j st looked-at → looked-at ≡ Spent → Begins s t n leaves j st Spent
   begins-not n looked-at t h f e l F H b active size count ready =
       let looked = subst (λ (m : ℕ). j < m → LookedAt m s leaves j st looked-at → outcomeOf looked-at ≡ within (st .remaining) (looking (lines l) H active (metBy st) (rowFrom l j))) size (look-is l F H b active count ready looked-at) h f in
@@ -261,7 +261,7 @@ module _ (s : List ℕ) (leaves j : ℕ) (st : Sweeping) where
       Then n = j < n → TakenOut n leaves (getD s (7 * n + j) 0) (getD s (4 * n + j) 0) (getD s (5 * n + j) 0) (tail (9 * n) s) e r → length e ≡ length (tail (9 * n) s)
           → (outcomeOf r ≡ figuresOf (within (st .remaining) (endsAt H (record { active = active; met = metBy st }) (rowFrom l j)))) × ((to : Sweeping) → r ≡ Went to → Ready l F H (b + 1) (remove (rowFrom l j) active) (putMid (9 * n) (length s - 9 * n) s e))
 
--- ---- what the calls ask for
+-- ---- what the calls require
 module _ (s : List ℕ) (n leaves j : ℕ) (a : AtStart s n leaves j) where
   abbrev At-n : (ℕ → Type 0) → Type 0
   At-n P = (j < length (a .l) → P (length (a .l))) → P n

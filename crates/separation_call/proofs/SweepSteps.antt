@@ -1,4 +1,4 @@
--- The steps of the sweep as the code takes them: a search's answer joined to the figures, what a start looks at, and a paid `set`. Assumes nothing.
+-- The steps of the sweep as the code takes them: a search's answer joined to the figures, what a start searches, and a paid `set`. Assumes nothing.
 use mathlib.Core.Path.{_≡_, refl, sym, ap, _∙_}
 use mathlib.Core.Bool.{Bool, true, false, _&&_}
 use mathlib.Core.List.{List}
@@ -113,7 +113,7 @@ unfolding otherNetOf
 was-known spent b m e = cc
 was-known (left c n) b m e = cc
 
--- ---- what a start looks at, within an allowance
+-- ---- what a start searches, within an allowance
 module _ (ls : List ℕ) (h : ℕ) (active : List Row) (f : Figures) (x : Row) where
   abbrev place : ℕ
   place = index ls (x .line)
@@ -124,7 +124,7 @@ module _ (ls : List ℕ) (h : ℕ) (active : List Row) (f : Figures) (x : Row) w
   abbrev own : Bool
   own = has place (suc place)
 
-  -- the runs behind `has_other_at`, each with what is known by then
+  -- the runs after `has_other_at`, each with what is known by then
   abbrev above : Figures → Charged Figures
   above g = after (leftmost (λ k. has) (suc place) h 1 0) (λ v. free (otherLine ls (x .line) v g))
 

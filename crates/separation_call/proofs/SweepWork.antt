@@ -1,4 +1,4 @@
--- The words that the sweep changes: a segment is entered or taken out, its line's summary goes into the tree behind the counts. Assumes nothing.
+-- The words that the sweep changes: a segment is entered or taken out, its line's summary goes into the tree after the counts. Assumes nothing.
 use mathlib.Core.Path.{_≡_, sym, ap, _∙_, subst}
 use mathlib.Core.List.{List, _∷_, _++_}
 use Prim.Native.Nat.{ℕ, _+_, _-_, _*_, _^_, _≤_}
@@ -25,11 +25,11 @@ use Rattle.separation_call.proofs.Trees.{start-off, end-off}
 use Rattle.separation_call.proofs.ActiveNets.{counted-frame}
 use Rattle.separation_call.proofs.SweepSteps.{charge-pays, charge-paid}
 
--- the tree behind the counts is lent on
+-- the tree after the counts is lent to the next call
 pub leaves-behind : (n leaves : ℕ) (w u : List ℕ) → drop (3 * n) u ≡ drop (3 * n) w → Leaves (drop (3 * n) w) leaves → Leaves (take (length u - 3 * n) (drop (3 * n) u)) leaves
 leaves-behind n leaves w u e l = subst (λ (t : List ℕ). Leaves t leaves) (sym (tail-lent (3 * n) u ∙ e)) l
 
--- w became u by the counts, and u became v by the tree e behind them
+-- w became u by the counts, and u became v by the tree e after them
 module _ (n leaves line : ℕ) (w u e v : List ℕ) (summary : NetSummary) (rest : drop (3 * n) u ≡ drop (3 * n) w) (long : length u ≡ length w) (room : 3 * n ≤ length w) (back : v ≡ putMid (3 * n) (length u - 3 * n) u e) where
   together : v ≡ take (3 * n) u ++ e
   together = back ∙ tail-back (3 * n) u e (omega arith)
@@ -48,7 +48,7 @@ module _ (n leaves line : ℕ) (w u e v : List ℕ) (summary : NetSummary) (rest
         subst (λ (t : List ℕ). Covers ls new (summaryAt t) H) (sym fresh) (renewed ls old new off before decides);
   }
 
-  -- the `set` was charged, and what it answers is handed on
+  -- the `set` was charged, and its answer is returned
   module _ (st : Sweeping) (charge : Charge) (r : Handled) (told : r ≡ chargedTo st charge) (renews : (H m : ℕ) → leaves ≡ 2 ^ H → charge ≡ Paid m → Renewed (take (length u - 3 * n) (drop (3 * n) u)) e H line summary) where
     pub pays : ((H : ℕ) → leaves ≡ 2 ^ H → charge ≡ chargeOf (within (st .remaining) (setRun H))) → Pays leaves st r
     pays f H k = ap outcomeOf told ∙ charge-pays st H charge (f H k)

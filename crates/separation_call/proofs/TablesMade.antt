@@ -1,4 +1,4 @@
--- From rows in order to the tables that the sweep reads, and the words behind them cleared: the sweep may begin. Assumes nothing.
+-- From rows in order to the tables that the sweep reads, and the words after them cleared: the sweep may begin. Assumes nothing.
 use mathlib.Core.Path.{_≡_, refl, sym, ap, _∙_, subst}
 use mathlib.Core.Logic.{inl, inr}
 use mathlib.Core.List.{List, [], map}
@@ -94,7 +94,7 @@ module _ (n from table : ℕ) (s s₁ s₂ s₃ : List ℕ) (many : ℕ) (a : At
       subst (λ (m : ℕ). EventsOrdered m s₁ s₂ → LinesNumbered m s₂ s₃ many → SlotsAssigned m s₃ s₄ → Prepared l s₄ × (many ≡ length (lines l))) e
       (λ o b g. (tables-are l sorted s₁ s₂ s₃ many d o b s₄ g, lines-are l sorted s₁ s₂ s₃ many d o b .many-is)) ordered numbered assigned
 
--- ---- the leaf count is less than twice the lines, so that the tree has room
+-- ---- the leaf count is at most twice the lines, so that the tree has room
 levels-few : (m : ℕ) → 1 ≤ m → 2 ^ levels m ≤ 2 * m
 levels-few m h = go (levels m) refl
   where
@@ -109,7 +109,7 @@ nothing-at : (t : List ℕ) (k : ℕ) → getD t k 0 ≡ 0 → summaryAt t k ≡
 unfolding summaryOfWord
 nothing-at t k e = rw e
 
--- ---- the words behind the tables are cleared: t is s with zeros from 9 n up to the end of the tree
+-- ---- the words after the tables are cleared: t is s with zeros from 9 n up to the end of the tree
 module _ (l : List Row) (s e : List ℕ) (leaves : ℕ) (count : leaves ≡ 2 ^ levels (length (lines l))) (some : 1 ≤ length l) (room : 20 * length l ≤ length s) (clear : e ≡ replicate {A = ℕ} (length (midOf (9 * length l) (12 * length l + 2 * leaves - 9 * length l) s)) 0) where
   abbrev m : ℕ
   m = length l
@@ -161,7 +161,7 @@ module _ (l : List Row) (s e : List ℕ) (leaves : ℕ) (count : leaves ≡ 2 ^ 
     gaps = gaps;
   }
 
--- ---- what the calls ask for, and what the sweep gives
+-- ---- what the calls require, and what the sweep gives
 module _ (s : List ℕ) (n many : ℕ) where
   pub tables-leaves : AtTables s n many → (1 ≤ many) × (many ≤ 4096)
   tables-leaves a = let p = a .some in let q = a .few in let e = a .size in let k = a .count in (omega (arith, lines-some (a .l) (omega arith)), omega (arith, lines-few (a .l)))

@@ -100,7 +100,7 @@ upwards-next : {c k : ℕ} → Upwards c k → (k ≡ c) ⊎ Upwards (c / 2) k
 upwards-next here = inl refl
 upwards-next (up p) = inr p
 
--- a node that holds leaf i stands above it
+-- a node that holds leaf i is above it
 holds-up : (H i h k s : ℕ) → NodeAt H h k s → s ≤ i → i < s + 2 ^ h → Upwards (2 ^ H + i) k
 holds-up H i zero k s n a b = let e : k ≡ 2 ^ H + i = omega (arith, n .number) in subst (λ (z : ℕ). Upwards z k) e here
 holds-up H i (suc h) k s n a b = elim (le-or-lt (s + 2 ^ h) i) [

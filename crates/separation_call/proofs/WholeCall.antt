@@ -1,4 +1,4 @@
--- The whole call: what the checks tell of the columns, both orientations, and the answer. Assumes nothing.
+-- The whole call: what the checks establish of the columns, both orientations, and the answer. Assumes nothing.
 use mathlib.Core.Path.{_≡_, sym, ap, _∙_, subst}
 use mathlib.Core.Bool.{Bool, true}
 use mathlib.Core.List.{List}
@@ -41,7 +41,7 @@ use Rattle.separation.specs.Inner.States.{foundBy, sweptOf, Answers, tooFew}
 use Rattle.separation_call.specs.Inner.Sweeping.{Gapped, AtColumns}
 use Rattle.separation.proofs.States.{went-is, spent-is, too-few-means}
 
--- ---- what the checks tell
+-- ---- what the checks establish
 row-net : (s : Segment) → s .net < 2 ^ 32 → rowOf s .net < 2 ^ 32
 unfolding rowOf
 row-net s h = h
@@ -55,7 +55,7 @@ module _ (c : SegmentColumns) (words : ℕ) (passed : firstOf (separationConditi
         subst (λ (x : Row). (x .net < 2 ^ 32) × (x .start < x .end)) (sym (g .is))
         (row-net s (all-mem (λ (t : Segment). t .net < 2 ^ 32) (segments c) nets s (g .there)), row-rises s (all-mem Fit (segments c) (passed-fit c words passed held) s (g .there)))
 
-    -- every line is the place of a finite coordinate
+    -- every line is the key of a finite coordinate
     lines-placed : (o p : ℕ) → Mem p (lines (oriented o (segments c))) → Placed p
     lines-placed o p m =
         let r = line-of-row p (oriented o (segments c)) m in

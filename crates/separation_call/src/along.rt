@@ -26,7 +26,7 @@ use rows::spread_rows;
 use separation::Found;
 use separation::Swept;
 
-// The tables of n rows whose places in order stand from word `from` on, their table `table` words further on. The answer is the number of lines.
+// Makes the tables of n rows: their indices in order are stored from word `from` on, and the rows themselves `table` words later. The answer is the number of lines.
 fn make_tables(s: &mut [u64], n: usize, from: usize, table: usize) -> usize
     requires { ⌜ AtRows (now s) n from table ⌝ }
     ensures { λ r. ⌜ ((l : List Row) → length l ≡ n → Sorted rowsInOrder l → ((a : Row) → Mem a l → a .net < 2 ^ 32) → RowsOrdered l table (drop from (now (s .entry))) → Prepared l (now (s .exit)) × (r ≡ length (lines l))) ⌝ }
@@ -38,7 +38,7 @@ fn make_tables(s: &mut [u64], n: usize, from: usize, table: usize) -> usize
     many
 }
 
-// The words behind the tables are cleared: no segment is active yet. Then the sweep runs.
+// The words after the tables are cleared: no segment is active yet. Then the sweep runs.
 fn sweep_tables(s: &mut [u64], n: usize, many: usize, allowance: usize) -> Swept
     requires { ⌜ AtTables (now s) n many ⌝ }
     ensures { λ r. ⌜ ((l : List Row) → length l ≡ n → many ≡ length (lines l) → Prepared l (now (s .entry)) → Sorted rowsInOrder l → ((a : Row) → Mem a l → (a .net < 2 ^ 32) × (a .start < a .end)) → Gapped (lines l) → r ≡ sweptOf (within allowance (Walk.sweep l))) ⌝ }
@@ -49,7 +49,7 @@ fn sweep_tables(s: &mut [u64], n: usize, many: usize, allowance: usize) -> Swept
     run_events(s, n, leaves, allowance)
 }
 
-// "An orientation with fewer than two segments costs nothing."
+// SCOPE 5.8: "An orientation with fewer than two segments costs nothing."
 pub(crate) fn sweep_along(
     s: &mut [u64],
     wanted: u8,

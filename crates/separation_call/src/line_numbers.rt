@@ -14,7 +14,7 @@ fn line_of(m: usize, last: u64, key: u64) -> usize
     if key == last { m - 1 } else { m }
 }
 
-// Column 4 holds the line keys of n rows in order. Each word of it becomes the number of its line, and the line's key goes to that place in column 6. The answer is the number of lines.
+// Column 4 holds the line keys of n rows in order. Each word of it becomes the number of its line, and the line's key is stored at that index in column 6. The answer is the number of lines.
 // A key that is not new is written once more over itself, so that the loop has no branch for it.
 pub(crate) fn number_lines(s: &mut [u64], n: usize) -> usize
     requires { ⌜ 7 * n ≤ length (now s) ⌝ }

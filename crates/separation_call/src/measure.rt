@@ -21,8 +21,8 @@ use separation::check_separation;
 use separation::together;
 use separation::too_few;
 
-// The walk over a fit drawing: horizontal segments first, then vertical ones with what is left of the allowance.
-// Where the allowance does not reach what the segments cost at least, it is spent before any table is made.
+// The walk over a fit drawing: horizontal segments first, then vertical ones with the remaining visits.
+// Where the allowance is below the least that the segments cost, it counts as spent before any table is made.
 fn walk_segments(
     net: &[u32],
     orientation: &[u8],

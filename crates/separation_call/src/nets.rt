@@ -21,7 +21,7 @@ fn line_summary(c: &[u64], n: usize, line: usize) -> NetSummary
     NetSummary::Two
 }
 
-// A segment starts: the first of its slot brings its net to the line.
+// A segment starts: the first of its slot adds its net to the line.
 pub(crate) fn start_net(c: &mut [u64], n: usize, slot: usize, line: usize, net: u32) -> NetSummary
     requires { ⌜ Countable n slot line net (now c) ⌝ }
     ensures counted { λ r. ⌜ Starts n slot line net (now (c .entry)) (now (c .exit)) r ⌝ }
@@ -38,7 +38,7 @@ pub(crate) fn start_net(c: &mut [u64], n: usize, slot: usize, line: usize, net: 
     line_summary(&c[0..], n, line)
 }
 
-// A segment ends: the last of its slot takes its net off the line.
+// A segment ends: the last of its slot removes its net from the line.
 pub(crate) fn end_net(c: &mut [u64], n: usize, slot: usize, line: usize, net: u32) -> NetSummary
     requires { ⌜ Endable n slot line net (now c) ⌝ }
     ensures counted { λ r. ⌜ Ends n slot line net (now (c .entry)) (now (c .exit)) r ⌝ }

@@ -1,4 +1,4 @@
-// The sweep over all events of one orientation. The scratch holds the tables of its n segments (9 n words) and behind them the words that the sweep changes: 3 n for the active nets, then the tree.
+// The sweep over all events of one orientation. The scratch holds the tables of its n segments (9 n words) and after them the words that the sweep changes: 3 n for the active nets, then the tree.
 ghost use mathlib.Core.Path.{_≡_};
 ghost use mathlib.Core.List.{List, []};
 ghost use Prim.Native.Nat.{ℕ, _<_, _^_};
@@ -29,7 +29,7 @@ fn handle_event(s: &mut [u64], n: usize, leaves: usize, e: usize, state: Sweepin
     start_event(s, n, leaves, e - n, state)
 }
 
-// The number of the event at place q in their order.
+// The number of the event at index q in their order.
 fn event_at(s: &[u64], q: usize) -> usize
     requires { ⌜ q < length (now s) ⌝ }
     ensures { λ r. ⌜ r ≡ getD (now (s .entry)) q 0 ⌝ }

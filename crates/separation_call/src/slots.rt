@@ -6,13 +6,13 @@ ghost use Rattle.rows.specs.Inner.Tables.{column};
 ghost use Rattle.separation_call.specs.Inner.Numbered.{Slottable, WordsFilled, WordsInOrder, slotOf, HandedOut, SlotsAssigned};
 use sorting::sort_indices;
 
-// A word is made of a line, a net and a place. The place has the lowest 12 bits, so that a net counts 2^12.
+// A word is made of a line, a net and a segment's index. The index has the lowest 12 bits, so the net is multiplied by 2^12.
 const NET: u64 = 4096;
 
-// The net has the next 32 bits, so that a line counts 2^44.
+// The net has the next 32 bits, so the line is multiplied by 2^44.
 const LINE: u64 = 17592186044416;
 
-// Column 8 takes a word for each place.
+// Column 8 takes a word for each segment.
 fn fill_words(s: &mut [u64], n: usize)
     requires { ⌜ Slottable n (now s) ⌝ }
     ensures { λ _. ⌜ WordsFilled n (now (s .entry)) (now (s .exit)) ⌝ }
@@ -28,14 +28,14 @@ fn fill_words(s: &mut [u64], n: usize)
     }
 }
 
-// The slot of the k-th word: that of the word before it where line and net are the same, else its own place. The first word has slot 0 either way.
+// The slot of the k-th word: that of the word before it where line and net are the same, else k. The first word has slot 0 either way.
 fn slot_of(k: usize, slot: usize, last: u64, group: u64) -> usize
     ensures { λ r. ⌜ r ≡ slotOf k slot last group ⌝ }
 {
     if group == last { slot } else { k }
 }
 
-// Words of the same line and net stand side by side in column 8. The place of the first of them is their slot, and goes to column 7 at the place that each of them ends with.
+// Words of the same line and net are adjacent in column 8. The index of the first of them is their slot. It is stored in column 7, at the index that each of them has in its low 12 bits.
 fn hand_out(s: &mut [u64], n: usize)
     requires { ⌜ (9 * n ≤ length (now s)) × WordsInOrder n (column n 8 (now s)) ⌝ }
     ensures { λ _. ⌜ HandedOut n (now (s .entry)) (now (s .exit)) ⌝ }

@@ -1,4 +1,4 @@
-// One event of the sweep over an orientation's segments, within what is left of the allowance.
+// One event of the sweep over an orientation's segments, within the remaining visits.
 ghost use mathlib.Core.Path.{_≡_};
 ghost use mathlib.Core.List.{List};
 ghost use mathlib.Core.Option.{Option};
@@ -43,7 +43,7 @@ fn with_search(fixed: &[u64], line: usize, search: Search, state: Sweeping) -> H
     Handled::Went(with_other_line(there, here, rest, state))
 }
 
-// What a start looks at: whether another net is on its own line, and the nearest line with another net on either side.
+// What a start searches (SCOPE 5.10): whether another net is on its own line, and the nearest line with another net on either side.
 fn look(
     tree: &[u64],
     leaves: usize,
@@ -69,7 +69,7 @@ fn look(
     with_search(fixed, line, above, half)
 }
 
-// A segment starts: its net is counted, and its line's summary is set. `work` holds the counts and behind them the tree.
+// A segment starts: its net is counted, and its line's summary is set. `work` holds the counts and after them the tree.
 fn enter(
     work: &mut [u64],
     n: usize,
@@ -88,7 +88,7 @@ fn enter(
     after_charge(charge, state)
 }
 
-// A segment ends: one less of its net, and its line's summary is set.
+// A segment ends: its net is counted once less, and its line's summary is set.
 fn leave(
     work: &mut [u64],
     n: usize,

@@ -17,7 +17,7 @@ use separation::merged_word;
 use separation::summary_of_word;
 use separation::word_of;
 
-// The least power of two that is not below the count: its exponent, the levels of the tree, is the number of binary digits of the count minus one.
+// The least power of two that is not below the count: its exponent, the levels of the tree, is the number of binary digits of the count minus one (SCOPE 15.4).
 pub(crate) fn leaf_count(coordinate_count: usize) -> usize
     requires { ⌜ 1 ≤ «coordinate_count» ⌝ }
     requires { ⌜ «coordinate_count» ≤ 4096 ⌝ }
@@ -37,7 +37,7 @@ fn other_below(tree: &[u64], node: usize, excluded: u32) -> bool
     summary.has_other(excluded)
 }
 
-// The same of one line, for one visit.
+// The same for one line, at the cost of one visit.
 pub(crate) fn has_other_at(
     tree: &[u64],
     leaves: usize,
@@ -56,7 +56,7 @@ pub(crate) fn has_other_at(
     OtherNet::Known(other, remaining - 1)
 }
 
-// The last line below `query_end` with another active net, among those from `start` up to `end`, which stand below the node.
+// The last line below `query_end` with another active net, among those from `start` on, before `end`, which are the leaves below the node.
 fn search_rightmost(
     tree: &[u64],
     node: usize,

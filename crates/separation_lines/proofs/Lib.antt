@@ -1,2 +1,2 @@
--- What the proof of the function leans on.
+-- What the proof of the function uses.
 mod SameColumns

@@ -1,4 +1,4 @@
--- What only inner contracts cite: the answers that the code makes of what the sweep found, and of another answer.
+-- What only inner contracts cite: the answers that the code makes from what the sweep found, and from another answer.
 use Prim.Native.Nat.{ℕ, _-_}
 use lib.Ieee.{Float}
 use Rattle.floats.specs.Values.{plusZero}

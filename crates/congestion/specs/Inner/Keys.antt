@@ -7,7 +7,7 @@ use Rattle.floats.specs.Values.{canonicalZero}
 use Rattle.floats.specs.TotalOrder.{floatAt}
 use Rattle.floats.specs.Grid.{onGrid, unit}
 
--- the word is the key of a float on the grid, of so many 64ths; no key is that of -0
+-- the word w is the key of a float on the grid, which is not -0, and `unit` counts its 64ths as u
 pub record Key (w u : ℕ) : Type 0 where
   pub grid : T (onGrid (floatAt w))
   pub plain : canonicalZero (floatAt w) ≡ floatAt w

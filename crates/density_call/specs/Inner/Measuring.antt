@@ -36,7 +36,7 @@ pub record Coordinate (w : ℕ) : Type 0 where
   pub plain : canonicalZero float ≡ float
   pub is : w ≡ keyOf float
 
--- a row of such words, its end behind its start
+-- a row of such words, its end after its start
 pub record Proper (r : Row) : Type 0 where
   pub line : Coordinate (r .line)
   pub start : Coordinate (r .start)
@@ -48,7 +48,7 @@ pub record Cutoff (x : Float) : Type 0 where
   pub grid : T (onGrid x)
   pub some : 0 < cutoffOf x
 
--- rows in order behind room for their tables: they can be swept
+-- rows in order, with room for their tables before them: they can be swept
 pub record AtRows (s : List ℕ) (n from table : ℕ) : Type 0 where
   pub l : List Row
   pub across : Bool
@@ -62,14 +62,14 @@ pub record AtRows (s : List ℕ) (n from table : ℕ) : Type 0 where
   pub apart : n ≤ table
   pub room : from + table + 4 * n ≤ length s
 
--- columns whose rows of one orientation can be swept, with a scratch of so many words
+-- columns whose rows of one orientation can be swept, with a scratch whose length is `words`
 pub record AtColumns (words wanted : ℕ) (c : SegmentColumns) : Type 0 where
   pub agree : SegmentsAgree c
   pub few : length (c .net) ≤ 4096
   pub room : 32 * length (c .net) + 64 ≤ words
   pub proper : (r : Row) → Mem r (oriented wanted (segments c)) → Proper r
 
--- what figures within an allowance come to, as the code answers it
+-- the code's answer for the outcome of figures within an allowance
 unfoldable pub foundOf : Outcome (ParallelCongestion × Gap) → Swept
 foundOf spent = Spent
 foundOf (left p m) = Went (record {

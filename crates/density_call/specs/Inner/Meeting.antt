@@ -20,12 +20,12 @@ use Rattle.congestion.specs.Walk.{Row, State, visited, neighbor, neighbors, lea
 use Rattle.congestion.specs.Inner.Keys.{Held}
 use Rattle.density_call.specs.Inner.Tables.{itemAt, Tabled, rowsFrom, Stored}
 
--- how many visits wire j's event costs
+-- the number of visits that wire j's event costs
 abbrev pub visitsOf : ℕ → List Wire → ℕ → State → ℕ
 visitsOf c L j st = count (visited c (itemAt L j .wire)) (st .rows)
 
--- wire j may meet the others at its start, where the test is true, or at its end: for what the code asks of numbers
--- where an end takes one off a neighbor's count, the count is not 0
+-- what the code needs for wire j to meet the others, at its start where `starts` is true, else at its end
+-- `some`: where an end lowers a neighbor's count, the count is not 0
 pub record Meetable (starts : Bool) (s : List ℕ) (n j : ℕ) : Type 0 where
   pub c : ℕ
   pub L : List Wire
@@ -44,7 +44,7 @@ pub record CountsOnly (n : ℕ) (s t : List ℕ) : Type 0 where
   pub front : take (8 * n) t ≡ take (8 * n) s
   pub behind : drop (9 * n) t ≡ drop (9 * n) s
 
--- ---- an event of wire j: its start where the test is true, else its end
+-- ---- an event of wire j: its start where `starts` is true, else its end
 -- each neighbor's count rises by one, or falls by one
 abbrev pub moved : Bool → Bool → Row → Row
 moved true b r = risen false b 0 r
@@ -55,7 +55,7 @@ abbrev pub turning : Bool → ℕ
 turning true = 0
 turning false = 1
 
--- the greatest count that a start makes; an end asks for none
+-- the greatest count that a start makes; an end needs none
 abbrev pub topmost : Bool → (Row → Bool) → List Row → ℕ
 topmost true p l = fold max 0 (λ x. cond (p x) (x .neighbors + 1) 0) l
 topmost false p l = 0
@@ -80,11 +80,11 @@ Meets starts s t n j least allowance r =
     × (rowsFrom L (drop (8 * n) t) ≡ map (λ x. moved starts (neighbor c (itemAt L j .wire) x) x) (st .rows)))
 
 -- ---- its loop
--- a gap joins the least one where it is above 0; a NaN, which stands for none, is below nothing
+-- a gap joins the least one where it is above 0; a NaN, which means none, is below nothing
 abbrev pub withGap : Float → Float → Float
 withGap least gap = cond (lt plusZero gap) (lesserOf gap least) least
 
--- a neighbor of the count k at that gap: its new count, the greatest count so far, and the meeting with it
+-- a neighbor whose count is k, at a gap: its new count, the greatest count so far, and the meeting with it
 abbrev pub countAfter : Bool → ℕ → ℕ
 countAfter true k = k + 1
 countAfter false k = k - 1
@@ -96,7 +96,7 @@ highestAfter false h k = h
 abbrev pub withNeighbor : Bool → ℕ → Float → Meeting → Meeting
 withNeighbor starts k gap t = record { neighbors = t .neighbors + 1; changed = t .changed + bit (eqb k (turning starts)); highest = highestAfter starts (t .highest) k; least = withGap (t .least) gap; remaining = t .remaining - 1 }
 
--- a wire of the same net costs a visit and no more
+-- a wire of the same net costs a visit and changes nothing else
 abbrev pub paid : Meeting → Meeting
 paid t = record { neighbors = t .neighbors; changed = t .changed; highest = t .highest; least = t .least; remaining = t .remaining - 1 }
 

@@ -1,4 +1,4 @@
--- What only inner contracts cite: for each place the places of the wires within the cutoff, which stand side by side.
+-- What only inner contracts cite: for each wire the indices of the wires within the cutoff, which are adjacent.
 use mathlib.Core.Path.{_≡_}
 use mathlib.Core.List.{List}
 use Prim.Native.Nat.{ℕ, _+_, _*_, _≤_, _<_}
@@ -20,7 +20,7 @@ pub record RangesOnly (n : ℕ) (s t : List ℕ) : Type 0 where
   pub front : take (6 * n) t ≡ take (6 * n) s
   pub behind : drop (8 * n) t ≡ drop (8 * n) s
 
--- the columns tell which wires are within the cutoff, on the grid and for a cutoff above 0
+-- the columns give the wires within the cutoff, on the grid and for a cutoff above 0
 abbrev pub FillsRanges : List ℕ → List ℕ → ℕ → Float → Type 0
 FillsRanges s t n cutoff =
     (c : ℕ) (L : List Wire) → length L ≡ n → c ≡ cutoffOf cutoff → 0 < c → T (onGrid cutoff) → ((j : ℕ) → j < n → Key (getD s (4 * n + j) 0) (itemAt L j .wire .fixed)) → Ranged c L t

@@ -1,4 +1,4 @@
--- What only inner contracts cite: where the sweep over one orientation's wires stands, what each event makes of that, and what all events come to.
+-- What only inner contracts cite: the state of the sweep over one orientation's wires, what each event makes of it, and the outcome of all events.
 use mathlib.Core.Path.{_≡_}
 use mathlib.Core.Bool.{true, not, _&&_, Bool·beq}
 use mathlib.Core.List.{List, _++_}
@@ -25,7 +25,7 @@ use Rattle.density_call.specs.Inner.Tables.{eventAt, Tabled, Stored}
 use Rattle.density_call.specs.Inner.Meeting.{leastFloat}
 
 -- ---- the steps of an event, on the Rust's variables
--- `congested_length += congested_active as f64 * (coordinate.0 - previous)`, and so for the pairs
+-- `congested_length += congested_active as f64 * (coordinate.0 - previous)`, and the same for the pairs
 abbrev pub passedTo : Sweeping → Float → Sweeping
 passedTo s x = record {
   «congested_active» = s .«congested_active»;
@@ -38,7 +38,7 @@ passedTo s x = record {
   remaining = s .remaining;
 }
 
--- a wire that met these others starts; or ends, with a count of its own
+-- the variables after a wire that met these others starts, and after it ends with its own count
 abbrev pub startedBy : Sweeping → Meeting → Sweeping
 startedBy s m = record {
   «congested_active» = s .«congested_active» + bit (not (eqb (m .neighbors) 0)) + m .changed;
@@ -63,14 +63,14 @@ endedBy s own m = record {
   remaining = m .remaining;
 }
 
--- ---- and on the scratch: wire j's own count and its place in the set of active ones
+-- ---- and on the scratch: wire j's own count and its bit in the set of active wires
 unfoldable pub activated : ℕ → ℕ → ℕ → List ℕ → List ℕ
 activated n j k s = take (9 * n) (set s (8 * n + j) k) ++ inserted (drop (9 * n) s) j
 
 unfoldable pub deactivated : ℕ → ℕ → List ℕ → List ℕ
 deactivated n j s = take (9 * n) (set s (8 * n + j) 0) ++ removed (drop (9 * n) s) j
 
--- ---- where the sweep stands
+-- ---- the state of the sweep
 -- the variables hold the figures of a state; `previous` is the float of a key
 pub record Follows (s : Sweeping) (st : State) : Type 0 where
   pub active : s .«congested_active» ≡ st .congestedActive
@@ -84,13 +84,13 @@ pub record Follows (s : Sweeping) (st : State) : Type 0 where
   pub last : s .previous ≡ floatAt word
   pub key : Key word (st .previous)
 
--- what an end takes away is there
+-- an end's subtractions do not go below 0
 pub record Ending (c : ℕ) (i : Item) (st : State) : Type 0 where
   pub active : wasCongested c i st + count (λ r. neighbor c (i .wire) r && eqb (r .neighbors) 1) (st .rows) ≤ st .congestedActive
   pub pairs : neighbors c i st ≤ st .closePairs
   pub some : (r : Row) → Mem r (st .rows) → neighbor c (i .wire) r ≡ true → 1 ≤ r .neighbors
 
--- the event e comes next in the state st, and floats hold what it makes of the lengths
+-- the event e comes next in the state st, and floats hold the lengths after it
 pub record Due (c : ℕ) (st : State) (e : Event) : Type 0 where
   pub past : st .previous ≤ at e
   pub active : st .congestedActive ≤ 16777216
@@ -114,7 +114,7 @@ pub record AtEvent (s : List ℕ) (n e : ℕ) (state : Sweeping) : Type 0 where
   pub follows : Follows state st
   pub due : Due c st (eventAt L e)
 
--- the sweep went on to the state st, with the scratch t and so many visits left
+-- the sweep continued to the state st, with the scratch t and m remaining visits
 pub record Onward (c : ℕ) (L : List Wire) (n : ℕ) (st : State) (t : List ℕ) (m : ℕ) (r : Handled) : Type 0 where
   pub to : Sweeping
   pub went : r ≡ Went to
@@ -123,7 +123,7 @@ pub record Onward (c : ℕ) (L : List Wire) (n : ℕ) (st : State) (t : List ℕ
   pub tabled : Tabled c L t
   pub stored : Stored L st (drop (8 * n) t)
 
--- what the event e comes to in the state st, with m visits left: a step of the sweep, where its visits can be paid; the scratch becomes t
+-- the outcome of the event e in the state st, with m remaining visits: a step of the sweep, where its visits can be paid; the scratch becomes t
 abbrev pub Steps : ℕ → List Wire → ℕ → State → Event → List ℕ → ℕ → Handled → Type 0
 Steps c L n st e t m r =
     (m < step c st e .cost → r ≡ Spent) × (step c st e .cost ≤ m → Onward c L n (step c st e .value) t (m - step c st e .cost) r)
@@ -132,7 +132,7 @@ Steps c L n st e t m r =
 abbrev pub Handles : List ℕ → List ℕ → ℕ → ℕ → Sweeping → Handled → Type 0
 Handles s t n e state r = (a : AtEvent s n e state) → Steps (a .c) (a .L) n (a .st) (eventAt (a .L) e) t (state .remaining) r
 
--- ---- the sweep may begin: the tables are made, and the words behind them are cleared
+-- ---- the sweep may begin: the tables are made, and the words after them are cleared
 pub record AtFirst (s : List ℕ) (n : ℕ) : Type 0 where
   pub c : ℕ
   pub L : List Wire
@@ -145,7 +145,7 @@ pub record AtFirst (s : List ℕ) (n : ℕ) : Type 0 where
   pub ordered : (w : Wire) → Mem w L → w .start < w .end
   pub alike : (v w : Wire) → Mem v L → Mem w L → Bool·beq (v .horizontal) (w .horizontal) ≡ true
 
--- what a sweep within the allowance comes to, as the code answers it
+-- the code's answer for the outcome of a sweep within the allowance
 unfoldable pub sweptOf : Outcome State → Swept
 sweptOf spent = Over
 sweptOf (left st m) = Done (record {

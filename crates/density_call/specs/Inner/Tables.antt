@@ -1,7 +1,7 @@
--- What only inner contracts cite: the tables of one orientation's wires in the scratch. There are n of them, L, with rising fixed coordinates; a wire is known by its place 0 .. n - 1.
--- Words 0 .. 2 n: the events in order, by number: event j < n is the end of wire j, event n + j its start.
--- From 2 n on, n words each: the keys of the ends, of the starts and of the fixed coordinates, the nets, and of the wires within the cutoff the first place and the one behind the last.
--- Behind these 8 n words stand those that the sweep changes: n counts of close neighbors, and the set of active places as bits.
+-- What only inner contracts cite: the tables of one orientation's wires in the scratch. There are n of them, L, with ascending fixed coordinates; a wire is known by its index 0 .. n - 1.
+-- The first 2 n words: the events in order, by number: event j < n is the end of wire j, event n + j its start.
+-- From 2 n on, n words each: the keys of the ends, of the starts and of the fixed coordinates, the nets, and of the wires within the cutoff the first index and the one after the last.
+-- After these 8 n words come those that the sweep changes: n counts of close neighbors, and the set of active wires as bits.
 use mathlib.Core.Path.{_≡_}
 use mathlib.Core.Bool.{false, _&&_, cond}
 use mathlib.Core.List.{List, map}
@@ -15,7 +15,7 @@ use Rattle.congestion.specs.Wires.{Wire}
 use Rattle.congestion.specs.Walk.{Item, Event, Row, State, numbered, events, inOrder, inRange}
 use Rattle.congestion.specs.Inner.Keys.{Key}
 
--- the wire at a place, with its index, and the event of a number
+-- the wire at an index, and the event of a number
 abbrev pub noWire : Wire
 noWire = record { net = 0; horizontal = false; fixed = 0; start = 0; end = 0 }
 
@@ -25,7 +25,7 @@ itemAt L j = record { wire = getD L j noWire; index = j }
 abbrev pub eventAt : List Wire → ℕ → Event
 eventAt L e = record { ends = ltb e (length L); item = cond (ltb e (length L)) (itemAt L e) (itemAt L (e - length L)) }
 
--- the columns of the ranges tell which wires are within a cutoff of c 64ths
+-- the columns of the ranges give the wires within a cutoff of c 64ths
 pub record Ranged (c : ℕ) (L : List Wire) (s : List ℕ) : Type 0 where
   pub inside : (j : ℕ) → j < length L → getD s (7 * length L + j) 0 ≤ length L
   pub range : (i j : ℕ) → i < length L → j < length L → inRange c (itemAt L j .wire) (itemAt L i .wire) ≡ (leb (getD s (6 * length L + j) 0) i && ltb i (getD s (7 * length L + j) 0))
@@ -40,7 +40,7 @@ pub record Tabled (c : ℕ) (L : List Wire) (s : List ℕ) : Type 0 where
   pub nets : (j : ℕ) → j < length L → getD s (5 * length L + j) 0 ≡ itemAt L j .wire .net
   pub ranges : Ranged c L s
 
--- ---- what the words behind the tables tell of each wire
+-- ---- what the words after the tables hold for each wire
 abbrev pub rowFrom : List Wire → List ℕ → ℕ → Row
 rowFrom L w j = record { item = itemAt L j; active = member (drop (length L) w) j; neighbors = getD w j 0 }
 

@@ -1,16 +1,16 @@
--- What is asked of a summary of the nets that are active on some lines: none, one, or two different ones at least.
+-- What a summary of the nets that are active on some lines answers: it holds none, one, or at least two different ones.
 use mathlib.Core.Bool.{Bool, true, false, not, cond}
 use Prim.Native.Nat.{ℕ, _-_}
 use lib.Dec.{leb, eqb}
 use Rattle.separation.specs.declared.summary.NetSummary.{NetSummary}
 use Rattle.separation.specs.declared.summary.NetSummary.the-variants.{Nothing, One, Two}
 
--- another net than n is among those that are summed up: of two different nets one always is
+-- some net of the summary is not n: of two different nets at least one is not
 unfoldable pub hasOther : NetSummary → ℕ → Bool
 hasOther Nothing n = false
 hasOther (One a) n = not (eqb a n)
 hasOther Two n = true
 
--- a summary as a word: 0, a net and one more, or any greater word for two nets
+-- a summary as a word: 0 is no net, a net plus 1 is that net, any greater word is two nets
 unfoldable pub summaryOfWord : ℕ → NetSummary
 summaryOfWord w = cond (eqb w 0) Nothing (cond (leb w 4294967296) (One (w - 1)) Two)

@@ -1,5 +1,5 @@
 -- What only inner contracts cite: how often each net is active on each line, as words of the scratch.
--- Segments are known by their places 0 .. n - 1 in order. Those of one line and one net share a slot. The words are: for each slot how many of its segments are active; then for each line how many different nets are active on it; then for each line the sum of these nets, which is the net itself where there is one.
+-- A segment is known by its index 0 .. n - 1 in order. Those of one line and one net share a slot. The words are: for each slot how many of its segments are active; then for each line how many different nets are active on it; then for each line the sum of these nets, which is the net itself where there is one.
 use mathlib.Core.Path.{_≡_}
 use mathlib.Core.Bool.{Bool, _&&_, cond}
 use mathlib.Core.List.{List, _∷_}
@@ -19,11 +19,11 @@ use Rattle.separation_call.specs.Inner.ActiveTree.{Decides}
 abbrev pub onLine : List ℕ → ℕ → ℕ → Row → Bool
 onLine ls i m r = eqb (index ls (r .line)) i && eqb (r .net) m
 
--- how many active rows are
+-- the number of active rows that are
 abbrev pub netCount : List ℕ → List Row → ℕ → ℕ → ℕ
 netCount ls active i m = count (onLine ls i m) active
 
--- the different nets that are active on line i: so many, with this sum, and not more than b
+-- the different nets that are active on line i: how many they are, what their sum is, and that there are at most b
 pub record NetsOn (ls : List ℕ) (active : List Row) (b i many total : ℕ) : Type 0 where
   pub nets : List ℕ
   pub different : Different nets
@@ -34,7 +34,7 @@ pub record NetsOn (ls : List ℕ) (active : List Row) (b i many total : ℕ) : T
   pub sum-is : sum (λ m. m) nets ≡ total
   pub few : length nets ≤ b
 
--- the slots of n places, each with its line and its net
+-- the slots of n segments, each with its line and its net
 pub record Slots (n : ℕ) (line net slot : ℕ → ℕ) : Type 0 where
   pub inside : (j : ℕ) → j < n → slot j < n
   pub apart : (i j : ℕ) → i < n → j < n → slot i ≡ slot j → (line i ≡ line j) × (net i ≡ net j)
@@ -47,7 +47,7 @@ pub record Counted (n b : ℕ) (ls : List ℕ) (line net slot : ℕ → ℕ) (ac
   pub lines : (i : ℕ) → i < n → NetsOn ls active b i (getD c (n + i) 0) (getD c (2 * n + i) 0)
   pub few : (i m : ℕ) → netCount ls active i m ≤ b
 
--- words that can take one segment more: nothing goes beyond 64 bits
+-- words that can take one segment more: no count or sum exceeds 64 bits
 pub record Countable (n slot line net : ℕ) (c : List ℕ) : Type 0 where
   pub room : 3 * n ≤ length c
   pub slot-inside : slot < n
@@ -56,7 +56,7 @@ pub record Countable (n slot line net : ℕ) (c : List ℕ) : Type 0 where
   pub many : getD c (n + line) 0 + 1 < 2 ^ 64
   pub total : getD c (2 * n + line) 0 + net < 2 ^ 64
 
--- words that hold the segment that ends: its slot has one at least, and where it has no more, the line's words hold its net
+-- words that hold the segment that ends: its slot counts at least one, and the line's words hold its net
 pub record Endable (n slot line net : ℕ) (c : List ℕ) : Type 0 where
   pub room : 3 * n ≤ length c
   pub slot-inside : slot < n
@@ -65,14 +65,14 @@ pub record Endable (n slot line net : ℕ) (c : List ℕ) : Type 0 where
   pub many : 0 < getD c (n + line) 0
   pub total : net ≤ getD c (2 * n + line) 0
 
--- ---- the summary that a line's words tell: where one net is active, the sum is that net, which has 32 bits
+-- ---- the summary of a line, from its words: where one net is active, the sum is that net, which has 32 bits
 unfoldable pub lineSummary : ℕ → ℕ → NetSummary
 lineSummary many total = cond (eqb many 0) Nothing (cond (eqb many 1) (One (total % 4294967296)) Two)
 
 abbrev pub summaryOfLine : List ℕ → ℕ → ℕ → NetSummary
 summaryOfLine c n i = lineSummary (getD c (n + i) 0) (getD c (2 * n + i) 0)
 
--- ---- a segment starts or ends, whose place has this slot, line and net: the words c become d, and the line's summary r. Whatever rows c counted, d counts them with the segment's row x or without it, and r decides for its line.
+-- ---- a segment with this slot, line and net starts or ends: the words c become d, and the line's summary r. Whatever rows c counted, d counts them with the segment's row x or without it, and r decides for its line.
 abbrev pub Starts : ℕ → ℕ → ℕ → ℕ → List ℕ → List ℕ → NetSummary → Type 0
 Starts n slot line net c d r = (b : ℕ) (ls : List ℕ) (lineOf netOf slotOf : ℕ → ℕ) (active : List Row) (x : Row) (j : ℕ)
     → Counted n b ls lineOf netOf slotOf active c → Slots n lineOf netOf slotOf

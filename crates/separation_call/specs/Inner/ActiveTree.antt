@@ -1,4 +1,4 @@
--- What only inner contracts cite: the tree of active nets as words of the scratch, and what its summaries tell.
+-- What only inner contracts cite: the tree of active nets as words of the scratch, and what its summaries decide.
 -- The tree over 2 to the power H leaves takes twice as many words; node k's summary is word k, word 0 stays unused.
 use mathlib.Core.Path.{_≡_}
 use mathlib.Core.Logic.{_⊎_}
@@ -20,12 +20,12 @@ use Rattle.separation.specs.declared.search.Charge.the-variants.{Paid, Spent as
 abbrev pub summaryAt : List ℕ → ℕ → NetSummary
 summaryAt t k = summaryOfWord (getD t k 0)
 
--- what `has_other_at` within an allowance comes to
+-- the answer of `has_other_at`, by the outcome of its run within an allowance
 unfoldable pub otherNetOf : Outcome Bool → OtherNet
 otherNetOf spent = Spent
 otherNetOf (left b m) = Known b m
 
--- what a `set` within an allowance comes to
+-- the answer of a `set`, by the outcome of its run within an allowance
 unfoldable pub chargeOf : Outcome (Unit {0}) → Charge
 chargeOf spent = Unpaid
 chargeOf (left u m) = Paid m
@@ -35,13 +35,13 @@ pub record NodeAt (H h k s : ℕ) : Type 0 where
   pub number : k * 2 ^ h ≡ 2 ^ H + s
   pub room : s + 2 ^ h ≤ 2 ^ H
 
--- words that hold a tree over so many leaves
+-- words that hold a tree over this number of leaves
 pub record Leaves (t : List ℕ) (leaves : ℕ) : Type 0 where
   pub height : ℕ
   pub count : leaves ≡ 2 ^ height
   pub room : 2 * leaves ≤ length t
 
--- a node of such a tree, with the leaves from start up to end below it
+-- a node of such a tree: the leaves below it are those from `start` on, before `end`
 pub record Below (t : List ℕ) (node start end : ℕ) : Type 0 where
   pub height : ℕ
   pub level : ℕ
@@ -49,7 +49,7 @@ pub record Below (t : List ℕ) (node start end : ℕ) : Type 0 where
   pub to : end ≡ start + 2 ^ level
   pub room : 2 * 2 ^ height ≤ length t
 
--- ---- a summary decides for the leaves from a up to b: for every net it tells whether another one is active there
+-- ---- a summary decides for the leaves from a on, before b: for every net it says whether another one is active there
 abbrev pub Decides : List ℕ → List Row → NetSummary → ℕ → ℕ → Type 0
 Decides ls active s a b = (n : ℕ) → hasOther s n ≡ otherIn ls active n a b
 
@@ -61,10 +61,10 @@ Covers ls active t H = (h k s : ℕ) → NodeAt H h k s → Decides ls active (t
 abbrev pub Outside : ℕ → ℕ → ℕ → Type 0
 Outside i a b = (i < a) ⊎ (b ≤ i)
 
--- what the two lists hold off the line i is the same
+-- off the line i the two lists of rows answer alike
 abbrev pub SameOff : List ℕ → List Row → List Row → ℕ → Type 0
 SameOff ls old new i = (n a b : ℕ) → Outside i a b → otherIn ls old n a b ≡ otherIn ls new n a b
 
--- a leaf's new summary goes into the tree t, which becomes u: where t decided for the old rows and the summary decides for the new ones at leaf i, u decides for the new rows
+-- a leaf's new summary is stored in the tree t, which becomes u: where t decided for the old rows and the summary decides for the new ones at leaf i, u decides for the new rows
 abbrev pub Renewed : List ℕ → List ℕ → ℕ → ℕ → NetSummary → Type 0
 Renewed t u H i summary = (ls : List ℕ) (old new : List Row) → SameOff ls old new i → Covers ls old (summaryAt t) H → Decides ls new summary i (i + 1) → Covers ls new (summaryAt u) H

@@ -31,14 +31,14 @@ pub record LinesNumbered (n : ℕ) (s e : List ℕ) (many : ℕ) : Type 0 where
   pub behind : drop (7 * n) e ≡ drop (7 * n) s
 
 -- ---- the slots
--- line numbers and nets that fit into one word with a place
+-- line numbers and nets that fit into one word with a segment's index
 pub record Slottable (n : ℕ) (s : List ℕ) : Type 0 where
   pub room : 9 * n ≤ length s
   pub few : n ≤ 4096
   pub lines : All (λ i. i < n) (column n 4 s)
   pub nets : All (λ m. m < 2 ^ 32) (column n 5 s)
 
--- the word of place j, which puts the places in order by line and net
+-- the word of segment j: these words, sorted, are in order by line and net
 abbrev pub slotWord : List ℕ → ℕ → ℕ → ℕ
 slotWord s n j = getD s (4 * n + j) 0 * 2 ^ 44 + getD s (5 * n + j) 0 * 2 ^ 12 + j
 
@@ -47,20 +47,20 @@ pub record WordsFilled (n : ℕ) (s e : List ℕ) : Type 0 where
   pub words : (j : ℕ) → j < n → getD e (8 * n + j) 0 ≡ slotWord s n j
   pub behind : drop (9 * n) e ≡ drop (9 * n) s
 
--- the place that a word ends with, and the line and the net that it begins with
+-- the segment's index in the low 12 bits of a word, and its line and net in the bits above
 abbrev pub placeOf : ℕ → ℕ
 placeOf w = w % 4096
 
 abbrev pub groupOf : ℕ → ℕ
 groupOf w = w / 4096
 
--- words in order, each of another place
+-- words in order, each of another segment
 pub record WordsInOrder (n : ℕ) (l : List ℕ) : Type 0 where
   pub sorted : Sorted leb l
   pub inside : (w : ℕ) → Mem w l → placeOf w < n
   pub one : (v w : ℕ) → Mem v l → Mem w l → placeOf v ≡ placeOf w → v ≡ w
 
--- the slot of the k-th word: a group's slot is the place of its first word
+-- the slot of the k-th word: a group's slot is the index of its first word
 unfoldable pub slotOf : ℕ → ℕ → ℕ → ℕ → ℕ
 slotOf k slot last group = cond (eqb group last) slot k
 

@@ -1,6 +1,6 @@
 -- What only inner contracts cite: the tables of one orientation's segments in the scratch. There are n of them, in order: l.
--- Words 0 .. 2 n: the events in order, by number: event j < n is the end of segment j, event n + j its start.
--- From 2 n on, n words each: the keys of the ends, the keys of the starts, the lines, the nets, the different fixed values, the slots.
+-- The first 2 n words: the events in order, by number: event j < n is the end of segment j, event n + j its start.
+-- From 2 n on, n words each: the keys of the ends, the keys of the starts, the lines, the nets, the different fixed values, the slots, and the words by which the slots were assigned.
 use mathlib.Core.Path.{_≡_}
 use mathlib.Core.List.{List, map}
 use Prim.Native.Nat.{ℕ, _+_, _*_, _<_}

@@ -1,5 +1,5 @@
--- What only inner contracts cite: where the sweep stands, and what each of its steps hands on.
--- Behind the tables of one orientation's n segments (9 n words) stand the words that the sweep changes: 3 n that count the active nets, and the tree.
+-- What only inner contracts cite: the state of the sweep, and what each of its steps makes of it.
+-- After the tables of one orientation's n segments (9 n words) come the words that the sweep changes: 3 n that count the active nets, and the tree.
 use mathlib.Core.Path.{_≡_}
 use mathlib.Core.List.{List, [], _∷_}
 use mathlib.Core.Option.{Option}
@@ -34,23 +34,23 @@ abbrev pub Gapped : List ℕ → Type 0
 Gapped ls = (p q : ℕ) → Mem p ls → Mem q ls → Number (gapOf (floatAt p) (floatAt q))
 
 -- ---- a search's answer
--- the line, and the one that a search found, are among n
+-- the line, and the one that a search found, are below n
 pub record WithinLines (search : Search) (line n : ℕ) : Type 0 where
   pub own : line < n
   pub found : (i m : ℕ) → search ≡ Found i m → i < n
 
--- what a search came to, joined to the figures
+-- the outcome of a search, joined to the figures
 abbrev pub joined : List ℕ → ℕ → Figures → Outcome (Option ℕ) → Outcome Figures
 joined ls p f o = onward o (λ found r. left (otherLine ls p found f) r)
 
--- ---- what a start looks at before its `set`
--- the tree and the fixed values can be looked at
+-- ---- what a start searches before its `set`
+-- the tree and the fixed values can be read
 pub record Lookable (t fixed : List ℕ) (leaves line : ℕ) : Type 0 where
   pub tree : Leaves t leaves
   pub inside : line < leaves
   pub values : leaves ≤ length fixed
 
--- the segment x of this net stands on this line of ls, over which the tree has H levels
+-- the segment x of this net is on this line of ls, over which the tree has H levels
 pub record Lined (ls : List ℕ) (H : ℕ) (active : List Row) (x : Row) (line net : ℕ) : Type 0 where
   pub enough : length ls ≤ 2 ^ H
   pub actives : (a : Row) → Mem a active → index ls (a .line) < length ls
@@ -70,7 +70,7 @@ pub record Working (n b : ℕ) (ls : List ℕ) (H : ℕ) (lineOf netOf slotOf : 
   pub counted : Counted n b ls lineOf netOf slotOf active w
   pub covers : Covers ls active (summaryAt (drop (3 * n) w)) H
 
--- place j is that of the segment x
+-- the segment x has the index j
 pub record At (n : ℕ) (ls : List ℕ) (lineOf netOf slotOf : ℕ → ℕ) (x : Row) (j slot line net : ℕ) : Type 0 where
   pub slots : Slots n lineOf netOf slotOf
   pub inside : j < n
@@ -90,7 +90,7 @@ pub record Leavable (n leaves slot line net : ℕ) (w : List ℕ) : Type 0 where
   pub tree : Leaves (drop (3 * n) w) leaves
   pub inside : line < leaves
 
--- a `set` is paid from what is left, and the figures stay
+-- a `set` is paid from the remaining visits, and the figures stay
 abbrev pub Pays : ℕ → Sweeping → Handled → Type 0
 Pays leaves state r = (H : ℕ) → leaves ≡ 2 ^ H → outcomeOf r ≡ onward (within (state .remaining) (setRun H)) (λ done m. left (metBy state) m)
 
@@ -105,7 +105,7 @@ TakenOut n leaves slot line net w v r =
     (b : ℕ) (ls : List ℕ) (H : ℕ) (lineOf netOf slotOf : ℕ → ℕ) (active : List Row) (x : Row) (j : ℕ) (to : Sweeping) → leaves ≡ 2 ^ H → At n ls lineOf netOf slotOf x j slot line net
     → Working n b ls H lineOf netOf slotOf active w → Mem x active → r ≡ Went to → Working n (b + 1) ls H lineOf netOf slotOf (remove x active) v
 
--- ---- the whole scratch after b events: the tables stay as they were made, in F; the words behind them are worked on
+-- ---- the whole scratch after b events: the tables stay as they were made, in F; the sweep changes the words after them
 pub record Ready (l : List Row) (F : List ℕ) (H b : ℕ) (active : List Row) (s : List ℕ) : Type 0 where
   pub front : take (9 * length l) s ≡ take (9 * length l) F
   pub prepared : Prepared l F
@@ -136,7 +136,7 @@ pub record AtEnd (s : List ℕ) (n leaves j : ℕ) : Type 0 where
   pub at : AtStart s n leaves j
   pub there : Mem (rowFrom (at .l) j) (at .active)
 
--- the figures of where a step of the sweep leads
+-- the figures after a step of the sweep
 abbrev pub figuresOf : Outcome Sweep → Outcome Figures
 figuresOf o = onward o (λ t m. left (t .met) m)
 
@@ -153,7 +153,7 @@ Finishes s t n leaves j state r =
     → (outcomeOf r ≡ figuresOf (within (state .remaining) (endsAt H (record { active = active; met = metBy state }) (rowFrom l j))))
     × ((to : Sweeping) → r ≡ Went to → Ready l F H (b + 1) (remove (rowFrom l j) active) t)
 
--- an event of a number below 2 n; a segment that ends is active
+-- an event whose number is below 2 n; a segment that ends is active
 pub record AtEvent (s : List ℕ) (n leaves e : ℕ) : Type 0 where
   pub l : List Row
   pub F : List ℕ
@@ -183,7 +183,7 @@ pub record AtFirst (s : List ℕ) (n leaves : ℕ) : Type 0 where
   pub ready : Ready l F H 0 [] s
   pub proper : (r : Row) → Mem r l → r .start < r .end
 
--- the tables are made, and the words behind them are still to be cleared
+-- the tables are made, and the words after them are still to be cleared
 pub record AtTables (s : List ℕ) (n many : ℕ) : Type 0 where
   pub l : List Row
   pub size : length l ≡ n
@@ -196,7 +196,7 @@ pub record AtTables (s : List ℕ) (n many : ℕ) : Type 0 where
   pub gaps : Gapped (lines l)
   pub room : 20 * n ≤ length s
 
--- the rows are in order, and their tables can be made in front of them
+-- the rows are in order, and there is room for their tables before them
 pub record AtRows (s : List ℕ) (n from table : ℕ) : Type 0 where
   pub l : List Row
   pub size : length l ≡ n
@@ -208,7 +208,7 @@ pub record AtRows (s : List ℕ) (n from table : ℕ) : Type 0 where
   pub apart : n ≤ table
   pub room : from + table + 4 * n ≤ length s
 
--- columns of segments whose rows of one orientation can be swept, with a scratch of so many words
+-- columns of segments whose rows of one orientation can be swept, with a scratch whose length is `words`
 pub record AtColumns (words wanted : ℕ) (c : SegmentColumns) : Type 0 where
   pub agree : SegmentsAgree c
   pub few : length (c .net) ≤ 4096

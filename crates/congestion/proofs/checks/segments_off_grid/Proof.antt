@@ -1,4 +1,4 @@
--- `congestion::checks::segments_off_grid` meets its contract: after i turns the first i segments are on the grid. Assumes nothing.
+-- `congestion::checks::segments_off_grid` meets its contract: after i iterations the first i segments are on the grid. Assumes nothing.
 use mathlib.Core.Path.{sym, _∙_}
 use borrow.Author.Needs.{needs}
 use Prim.Native.Nat.{_-_}

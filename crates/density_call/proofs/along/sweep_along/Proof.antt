@@ -11,7 +11,7 @@ use mathlib.Core.Path.{_≡_, sym}
 use Rattle.density_call.proofs.along.sweep_along.Statement.{statement}
 use Rattle.density_call.proofs.along.sweep_along.Tie as tie
 
--- 0.0 is no 64ths
+-- 0.0 is the float of zero 64ths
 zero-literal : ofBits binary64 0 ≡ ofUnits 0
 unfolding ofBits
 zero-literal = sym zero-units

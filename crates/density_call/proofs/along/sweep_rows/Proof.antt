@@ -1,4 +1,4 @@
--- `density_call::along::sweep_rows` meets its contract: the rows spread, the events in order, the ranges, the words behind them cleared, the sweep. Assumes nothing.
+-- `density_call::along::sweep_rows` meets its contract: the rows spread, the events in order, the ranges, the words after them cleared, the sweep. Assumes nothing.
 use borrow.Author.Needs.{needs}
 use Rattle.density_call.proofs.AlongWires.{rows-rangeable, rows-first}
 use Rattle.density_call.specs.Inner.Sweeping.{sweptOf}

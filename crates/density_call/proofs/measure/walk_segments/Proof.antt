@@ -1,4 +1,4 @@
--- `density_call::measure::walk_segments` meets its contract: too few visits for the segments; else horizontal segments, then vertical ones with what is left. Assumes nothing.
+-- `density_call::measure::walk_segments` meets its contract: a cutoff of 0 or less; too few visits for the segments; else horizontal segments, then vertical ones with the remaining visits. Assumes nothing.
 use mathlib.Core.Path.{_≡_, sym, _∙_, subst}
 use mathlib.Core.Bool.{false}
 use Prim.Native.Nat.{ℕ}
@@ -27,7 +27,7 @@ use Rattle.rows.proofs.segments_to_sweep.Reads as segments-to-sweep-reads
 use Rattle.density_call.proofs.along.sweep_along.Reads as sweep-along-reads
 use Rattle.density_call.proofs.measure.together.Reads as together-reads
 
--- what is known behind the first test: the cutoff is above 0
+-- what is known after the first test: the cutoff is above 0
 module _ (c : lts.Else1 (segments-to-sweep-reads.Asked, segments-to-sweep-reads.Learnt, sweep-along-reads.Asked, sweep-along-reads.Learnt, together-reads.Asked, together-reads.Learnt) reads.Pre reads.Post) where
   abbrev columns : SegmentColumns
   columns = segmentColumns (now (c .before .before .before .before .before .before .before .args .net)) (now (c .before .before .before .before .before .before .before .args .orientation)) (now (c .before .before .before .before .before .before .before .args .fixed)) (now (c .before .before .before .before .before .before .before .args .start)) (now (c .before .before .before .before .before .before .before .args .end))

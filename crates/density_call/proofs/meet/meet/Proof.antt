@@ -1,4 +1,4 @@
--- `density_call::meet::meet` meets its contract: visit by visit, from the greatest place down. Assumes nothing.
+-- `density_call::meet::meet` meets its contract: visit by visit, from the greatest index down. Assumes nothing.
 use borrow.Author.Needs.{needs}
 use mathlib.Core.Path.{refl}
 use Rattle.density_call.proofs.MeetingLoop.{Turn, first-turn, turn-only, turn-ends, turn-falls, turn-stops, turn-visitable, next-turn}

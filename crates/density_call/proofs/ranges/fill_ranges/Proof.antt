@@ -1,4 +1,4 @@
--- `density_call::ranges::fill_ranges` meets its contract: after j turns the first j ranges are written, and the last of them is where the next search begins. Assumes nothing.
+-- `density_call::ranges::fill_ranges` meets its contract: after j iterations the first j ranges are written, and the last of them is where the next search begins. Assumes nothing.
 use Prim.Native.Nat.{_-_}
 use native.Mathlib.Omega.{arith}
 use borrow.Author.Needs.{needs}

@@ -1,4 +1,4 @@
--- `density_call::sweep::activate` meets its contract: the count is written, and the place is put in. Assumes nothing.
+-- `density_call::sweep::activate` meets its contract: the count is written, and the wire is put into the set. Assumes nothing.
 use borrow.Author.Needs.{needs}
 use denote.Ref.{now}
 use Rattle.density_call.proofs.Marking.{set-room, activates, activates-long}

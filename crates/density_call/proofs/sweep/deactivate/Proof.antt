@@ -1,4 +1,4 @@
--- `density_call::sweep::deactivate` meets its contract: the count is cleared, and the place is taken out. Assumes nothing.
+-- `density_call::sweep::deactivate` meets its contract: the count is cleared, and the wire is taken out of the set. Assumes nothing.
 use borrow.Author.Needs.{needs}
 use denote.Ref.{now}
 use Rattle.density_call.proofs.Marking.{set-room, deactivates, deactivates-long}

@@ -1,4 +1,4 @@
--- `separation_call::along::sweep_tables` meets its contract: the words behind the tables are cleared, then the events run. Assumes nothing.
+-- `separation_call::along::sweep_tables` meets its contract: the words after the tables are cleared, then the events run. Assumes nothing.
 use borrow.Author.Needs.{needs}
 use Rattle.separation_call.proofs.TablesMade.{tables-leaves, tables-end, tables-first, tables-swept}
 use denote.Ref.{now}

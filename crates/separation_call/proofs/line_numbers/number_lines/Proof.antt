@@ -1,4 +1,4 @@
--- `separation_call::line_numbers::number_lines` meets its contract: after j turns the first j keys have their numbers. Assumes nothing.
+-- `separation_call::line_numbers::number_lines` meets its contract: after j iterations the first j keys have their numbers. Assumes nothing.
 use Prim.Native.Nat.{_-_}
 use borrow.Author.Needs.{needs}
 use lib.ListN.{length-set}

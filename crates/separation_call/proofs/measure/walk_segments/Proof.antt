@@ -1,4 +1,4 @@
--- `separation_call::measure::walk_segments` meets its contract: too few visits for the segments; else horizontal segments, then vertical ones with what is left. Assumes nothing.
+-- `separation_call::measure::walk_segments` meets its contract: too few visits for the segments; else horizontal segments, then vertical ones with the remaining visits. Assumes nothing.
 use mathlib.Core.Path.{_≡_, sym, subst}
 use Prim.Native.Nat.{ℕ, _<_, _^_}
 use borrow.Author.Needs.{needs}

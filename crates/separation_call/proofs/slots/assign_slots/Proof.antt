@@ -1,4 +1,4 @@
--- `separation_call::slots::assign_slots` meets its contract: the sort keeps the words and puts those of one line and net side by side. Assumes nothing.
+-- `separation_call::slots::assign_slots` meets its contract: the sort keeps the words and makes those of one line and net adjacent. Assumes nothing.
 use borrow.Author.Needs.{needs}
 use Rattle.separation_call.proofs.SlotLaws.{words-in-order, slots-assigned}
 use Rattle.separation_call.proofs.slots.assign_slots.Statement.{statement}

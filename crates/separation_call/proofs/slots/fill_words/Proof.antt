@@ -1,4 +1,4 @@
--- `separation_call::slots::fill_words` meets its contract: after j turns the first j words stand; a line, a net and a place fit into 64 bits. Assumes nothing.
+-- `separation_call::slots::fill_words` meets its contract: after j iterations the first j words are written; a line, a net and an index fit into 64 bits. Assumes nothing.
 use Prim.Native.Nat.{_-_}
 use borrow.Author.Needs.{needs}
 use Rattle.separation_call.proofs.SlotLaws.{Filling, filling-fits, filling-next, filling-end}

@@ -1,4 +1,4 @@
--- `separation_call::slots::hand_out` meets its contract: after k turns the first k words have handed out their slots. Assumes nothing.
+-- `separation_call::slots::hand_out` meets its contract: after k iterations the segments of the first k words have their slots. Assumes nothing.
 use Prim.Native.Nat.{_-_}
 use borrow.Author.Needs.{needs}
 use Rattle.separation_call.proofs.SlotLaws.{Handing, place-inside, handing-next, handing-end}

@@ -1,4 +1,4 @@
--- `separation_call::sweep::leave` meets its contract: the net is taken off and then its line's summary is set. Assumes nothing.
+-- `separation_call::sweep::leave` meets its contract: the net is counted once less and then its line's summary is set. Assumes nothing.
 use borrow.Author.Needs.{needs}
 use Rattle.separation_call.proofs.SweepWork.{leaves-behind, pays, taken-out}
 use denote.Ref.{now}

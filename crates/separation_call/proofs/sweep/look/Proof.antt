@@ -1,4 +1,4 @@
--- `separation_call::sweep::look` meets its contract: the own line, the search below and the search above, each within what the one before it left. Assumes nothing.
+-- `separation_call::sweep::look` meets its contract: the own line, the search below and the search above, each within the visits that the one before it left. Assumes nothing.
 use borrow.Author.Needs.{needs}
 use denote.Ref.{now}
 use Rattle.separation_call.proofs.SweepSteps.{right-within, left-within, look-none, look-stops, look-on}

@@ -1,4 +1,4 @@
--- `separation_call::sweep::start_event` meets its contract: a look, and then the segment is entered. Assumes nothing.
+-- `separation_call::sweep::start_event` meets its contract: the searches, and then the segment is entered. Assumes nothing.
 use borrow.Author.Needs.{needs}
 use Rattle.separation_call.proofs.SweepRun.{start-net-small, start-lookable, start-enterable, begins-not, begins}
 use denote.Ref.{now}

@@ -26,7 +26,7 @@ left-at t = and 1 left-kinds.ps (is 1 left-kinds.ps μ-left t) left.Pre
 abbrev left-below : ℕ → In 1 left-kinds.ps
 left-below t = and 1 left-kinds.ps (falls 1 left-kinds.ps _<_ μ-left t) left.Pre
 
--- what the calls ask and give
+-- what the calls require and give
 abbrev claims : ℕ → left-lts.Claims
 claims t = (other-below-reads.Asked, other-below-reads.Learnt, left-below t, left.Post)
 

@@ -26,7 +26,7 @@ right-at t = and 1 right-kinds.ps (is 1 right-kinds.ps μ-right t) right.Pre
 abbrev right-below : ℕ → In 1 right-kinds.ps
 right-below t = and 1 right-kinds.ps (falls 1 right-kinds.ps _<_ μ-right t) right.Pre
 
--- what the calls ask and give
+-- what the calls require and give
 abbrev claims : ℕ → right-lts.Claims
 claims t = (other-below-reads.Asked, other-below-reads.Learnt, right-below t, right.Post)
 
