@@ -2,7 +2,7 @@
 //! tests.
 //!
 //! READABILITY_LIB names the folder that holds libexports.a; without it that
-//! folder is target/staticlib, where tools/build-port has it made. A library whose
+//! folder is target/staticlib, where tools/build-port makes it. A library whose
 //! major or minor number is not the package's is refused: its functions may take
 //! other arguments, and no linker would notice. READABILITY_RS
 //! names the original; without it the original is looked for beside the project.
@@ -82,7 +82,7 @@ fn version_names(archive: &[u8]) -> BTreeSet<String> {
 fn find_original(root: &Path) {
     println!("cargo:rustc-check-cfg=cfg(original)");
     let original = place(root, "READABILITY_RS", ORIGINAL);
-    // Cargo would build anew each time if it were told to watch a missing file.
+    // Cargo would build anew each time if it had a missing file to watch.
     if let Ok(original) = original.canonicalize() {
         println!("cargo:rerun-if-changed={}", original.display());
         println!("cargo:rustc-cfg=original");

@@ -4,7 +4,7 @@ ghost use mathlib.Core.List.{_++_};
 ghost use lib.ListN.{length, drop};
 ghost use Rattle.printing.specs.Sheet as Sheet;
 
-// The text's length. The text stands at the front of the buffer, and the bytes behind it are untouched.
+// The text's length. The text is at the front of the buffer, and the bytes after it are untouched.
 #[no_mangle]
 pub extern "C" fn readability_sheet(bytes: &[u8], text: &mut [u8; 256]) -> usize
     ensures { λ r. ⌜ r ≡ length (Sheet.sheet (now (bytes .entry))) ⌝ }

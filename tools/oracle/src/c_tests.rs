@@ -33,15 +33,16 @@ fn written(name: &str) -> PathBuf {
 }
 
 /// Compiles C or C++ files, named from the project's root, with the header of a
-/// folder, and links the library.
+/// folder, and links the library. A standard among the flags counts before the
+/// first one.
 fn build(sources: &[PathBuf], flags: &[&str], header: &Path, program: &Path) -> Output {
-    let (compiler, standard) = match sources[0].extension().and_then(|ending| ending.to_str()) {
+    let (compiler, first_standard) = match sources[0].extension().and_then(|end| end.to_str()) {
         Some("cc") => ("c++", "-std=c++11"),
         _ => ("cc", "-std=c99"),
     };
     Command::new(compiler)
         .current_dir(Path::new(env!("CARGO_MANIFEST_DIR")).join("../.."))
-        .arg(standard)
+        .arg(first_standard)
         .args(WARNINGS)
         .args(flags)
         .arg("-I")
@@ -82,8 +83,8 @@ fn the_examples_print_what_they_say() {
     assert_eq!(printed("records.c"), "least separation 4\n");
 }
 
-/// The type as the header writes it. C does not tell arrays of different lengths
-/// apart where they are parameters.
+/// The type as the header writes it. In C, arrays of different lengths are one
+/// type where they are parameters.
 fn type_in_c(rust: &str) -> &'static str {
     match rust {
         "u32" => "uint32_t",
@@ -179,29 +180,31 @@ fn two_files(ending: &str) -> [PathBuf; 2] {
 
 #[test]
 fn a_program_links_only_with_its_headers_version() {
-    let flags: [&[&str]; 3] = [
-        &["-O0"],
-        &["-O3"],
-        &[
-            "-O3",
-            "-ffunction-sections",
-            "-fdata-sections",
-            "-Wl,--gc-sections",
-        ],
+    let sections = [
+        "-O3",
+        "-ffunction-sections",
+        "-fdata-sections",
+        "-Wl,--gc-sections",
+    ];
+    let flags: [(&str, &[&str]); 6] = [
+        ("c", &["-O0"]),
+        ("c", &["-O3", "-std=c11"]),
+        ("c", &sections),
+        ("cc", &["-O0"]),
+        ("cc", &["-O3", "-std=c++20"]),
+        ("cc", &sections),
     ];
     let other = header_of_another_version();
-    for ending in ["c", "cc"] {
+    for (ending, flags) in flags {
         let sources = two_files(ending);
-        for flags in flags {
-            let program = written(&format!("linked_{ending}"));
-            let right = build(&sources, flags, Path::new("include"), &program);
-            assert!(right.status.success(), "{}", said(&right));
-            let run = Command::new(&program).status().expect("the program runs");
-            assert!(run.success(), "{flags:?}");
-            let wrong = build(&sources, flags, &other, &program);
-            assert!(!wrong.status.success(), "{flags:?} link another version");
-            let said = said(&wrong);
-            assert!(said.contains(OTHER_VERSION), "{said}");
-        }
+        let program = written(&format!("linked_{ending}"));
+        let right = build(&sources, flags, Path::new("include"), &program);
+        assert!(right.status.success(), "{}", said(&right));
+        let run = Command::new(&program).status().expect("the program runs");
+        assert!(run.success(), "{flags:?}");
+        let wrong = build(&sources, flags, &other, &program);
+        assert!(!wrong.status.success(), "{flags:?} link another version");
+        let said = said(&wrong);
+        assert!(said.contains(OTHER_VERSION), "{said}");
     }
 }
