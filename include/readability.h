@@ -1,7 +1,14 @@
 /*
  * Readability figures of a routed schematic: the functions that crates/exports
  * exports, for C99 and C++. Link target/staticlib/libexports.a (x86-64; no
- * other library is needed but C's own).
+ * other library is needed but C's own). docs/CALLING.md shows how.
+ *
+ * VERSION. While the major number is 0, the minor number rises whenever a caller
+ * has to change something: a signature, the meaning of a word or of a status. The
+ * patch number rises otherwise. CHANGELOG.md says what to change. A program that
+ * includes this header refers to readability_version_0_2, so that it does not
+ * link with a library of another major or minor number: the linker names that
+ * symbol as undefined.
  *
  * COLUMNS. A list passes by columns of equal length, each as a pointer and its
  * number of entries.
@@ -15,9 +22,9 @@
  *
  * Columns are only read. The order of a list decides nothing in a report.
  *
- * POINTERS. Behind each pointer lie as many entries as its length says, or as
- * the array has. It is aligned for its type and not null, for a length of 0 too,
- * where nothing is read or written through it. What a call writes (scratch, words
+ * POINTERS. A pointer is to as many entries as its length says, or as the array
+ * has. It is aligned for its type and not null, for a length of 0 too, where
+ * nothing is read or written through it. What a call writes (scratch, words
  * of the report, text) overlaps nothing else that it is given; columns may
  * overlap each other. The bool of a record holds 0 or 1, as C keeps it; take care
  * where records are read from a file as bytes. The thread rounds floats as IEEE
@@ -60,8 +67,8 @@
  *   tight_pair                            1 or 0, segment position, node
  *                                         position
  *
- * readability_ratio returns a float and readability_sheet a length; neither has
- * a status or words.
+ * readability_ratio returns a float, readability_sheet a length and
+ * readability_version_0_2 a number; none of them has a status or words.
  *
  * ALLOWANCE. A drawing has one visit count for each measure, which depends
  * neither on the allowance nor on the scratch nor on the order of the lists. An
@@ -72,9 +79,10 @@
  * past the need included, is zero where the status is 0 or 7, and untouched
  * where it is 2 to 6.
  *
- * Nothing is kept from one call to the next, so that threads may call at the
- * same time, each with a scratch of its own. A measure by columns takes less
- * than 64 KiB of stack, one by records less than 512, the sheet less than 256.
+ * THREADS AND STACK. Nothing is kept from one call to the next, so that threads
+ * may call at the same time, each with a scratch of its own. A call takes at most
+ * 64 KiB of stack, one by records 512, the sheet 256 (the macros below). No proof
+ * says so: tools/stack measures each call, and fails where one takes more.
  */
 #ifndef READABILITY_H
 #define READABILITY_H
@@ -88,8 +96,45 @@
 extern "C" {
 #endif
 
+/* The version of this header. */
+#define READABILITY_VERSION_MAJOR 0
+#define READABILITY_VERSION_MINOR 2
+#define READABILITY_VERSION_PATCH 0
+
+/* The same as one number. */
+#define READABILITY_VERSION                                                    \
+    (READABILITY_VERSION_MAJOR * 1000000 + READABILITY_VERSION_MINOR * 1000 +  \
+     READABILITY_VERSION_PATCH)
+
+/* The library's version, as that number; it may differ in the patch alone. */
+uint32_t readability_version_0_2(void);
+
+/*
+ * Makes each file that includes the header refer to the function above. The
+ * compiler keeps the pointer though nothing reads it (used), and the linker's
+ * --gc-sections keeps it too (retain: GCC 11, clang 13).
+ */
+#if defined(__has_attribute)
+#if __has_attribute(retain)
+#define READABILITY_KEPT __attribute__((used, retain))
+#endif
+#endif
+#if !defined(READABILITY_KEPT) && defined(__GNUC__)
+#define READABILITY_KEPT __attribute__((used))
+#elif !defined(READABILITY_KEPT)
+#define READABILITY_KEPT
+#endif
+
+static uint32_t (*const readability_version_needed)(void) READABILITY_KEPT =
+    readability_version_0_2;
+
 /* The most entries that a list may hold. */
 #define READABILITY_MOST_ENTRIES 4096
+
+/* The most bytes of stack that a call takes. */
+#define READABILITY_STACK_BYTES (64 * 1024)
+#define READABILITY_STACK_BYTES_BY_RECORDS (512 * 1024)
+#define READABILITY_STACK_BYTES_OF_SHEET (256 * 1024)
 
 /* What a call returns. */
 enum readability_status {
@@ -230,7 +275,7 @@ uint32_t readability_congestion_profile(
     uint64_t *scratch, size_t scratch_length,
     uint64_t out[READABILITY_CONGESTION_WORDS]);
 
-/* What readability_density_profile gives, with no allowance, so that 7 never comes. */
+/* What readability_density_profile gives, with no allowance, so that 7 is never returned. */
 uint32_t readability_congestion(
     const uint32_t *net, size_t net_length,
     const uint8_t *orientation, size_t orientation_length,
@@ -243,8 +288,8 @@ uint32_t readability_congestion(
 
 /*
  * The same measures of a list of records: each has the words, the checks and the
- * visit count of the call by columns without _by_records, and 2 comes only from
- * the columns of nodes and exemptions. A list above 4,096 records is refused
+ * visit count of the call by columns without _by_records, and 2 is only for the
+ * columns of nodes and exemptions. A list above 4,096 records is refused
  * with 3 as there.
  */
 struct readability_segment {
@@ -328,7 +373,7 @@ uint32_t readability_tight_pair(
 
 /*
  * The sheet of a drawing file: writes its text to the front of the buffer, with
- * no zero byte behind it, and returns the text's length; the rest of the buffer
+ * no zero byte after it, and returns the text's length; the rest of the buffer
  * is untouched. The text has three lines, each closed by a line feed, or the one
  * line 'file refused' with the number 1 or 3.
  *

@@ -110,8 +110,8 @@ pub fn measure_edge_node_clearance_bounded(
         })
 }
 
-/// [`measure_edge_node_clearance_bounded`] with the visits used and with every
-/// refusal told apart.
+/// [`measure_edge_node_clearance_bounded`] with the visits used, and with the
+/// refusal as its error.
 pub fn try_measure_edge_node_clearance_bounded(
     segments: &[EdgeNodeSegment],
     nodes: &[NodeGeometry],

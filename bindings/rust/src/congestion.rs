@@ -97,8 +97,8 @@ pub fn measure_parallel_density_profile_bounded(
         .map(CongestionReport::profile)
 }
 
-/// [`measure_parallel_congestion`] with the least gap, the visits used and every
-/// refusal told apart.
+/// [`measure_parallel_congestion`] with the least gap and the visits used, and
+/// with the refusal as its error.
 pub fn try_measure_parallel_congestion(
     segments: &[ParallelSegment],
     cutoff: f64,
@@ -110,8 +110,8 @@ pub fn try_measure_parallel_congestion(
     )
 }
 
-/// [`measure_parallel_congestion_profile_bounded`] with the visits used and
-/// every refusal told apart.
+/// [`measure_parallel_congestion_profile_bounded`] with the visits used, and
+/// with the refusal as its error.
 pub fn try_measure_parallel_congestion_profile_bounded(
     segments: &[ParallelSegment],
     cutoff: f64,
@@ -125,8 +125,8 @@ pub fn try_measure_parallel_congestion_profile_bounded(
     )
 }
 
-/// [`measure_parallel_density_profile_bounded`] with the visits used and every
-/// refusal told apart.
+/// [`measure_parallel_density_profile_bounded`] with the visits used, and
+/// with the refusal as its error.
 pub fn try_measure_parallel_density_profile_bounded(
     segments: &[ParallelSegment],
     cutoff: f64,

@@ -1,7 +1,6 @@
 //! The functions of the port's library that this package calls.
 //!
-//! They stand for `crates/exports`; nothing holds the two against each other but
-//! tests. A slice passes as a pointer and a length, an array as a pointer.
+//! They say what `crates/exports` exports; only tests compare the two. A slice passes as a pointer and a length, an array as a pointer.
 //!
 //! The program `tools/oracle` takes this file in too, so that its comparison of
 //! the port with the original calls the port by these declarations.
@@ -113,6 +112,8 @@ extern "C" {
     ) -> u32;
 
     pub fn readability_ratio(total: f64, congested: f64) -> f64;
+
+    pub fn readability_version_0_2() -> u32;
 
     pub fn readability_tight_pair(
         net: *const u32,

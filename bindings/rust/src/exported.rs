@@ -13,7 +13,7 @@ use crate::{
     declarations::{
         readability_clearance, readability_congestion, readability_congestion_profile,
         readability_density_profile, readability_ratio, readability_separation, readability_sheet,
-        readability_tight_pair, SHEET_BYTES,
+        readability_tight_pair, readability_version_0_2, SHEET_BYTES,
     },
 };
 
@@ -152,7 +152,13 @@ pub fn ratio(total: f64, congested: f64) -> f64 {
     unsafe { readability_ratio(total, congested) }
 }
 
-/// The length of a sheet's text, and the text with zeros behind it.
+/// The version, as one number.
+pub fn version() -> u32 {
+    // SAFETY: there is no pointer.
+    unsafe { readability_version_0_2() }
+}
+
+/// The length of a sheet's text, and the text with zeros after it.
 pub fn sheet(bytes: &[u8]) -> (usize, [u8; SHEET_BYTES]) {
     let mut text = [0; SHEET_BYTES];
     // SAFETY: see the top of the file.

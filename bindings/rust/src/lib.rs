@@ -4,7 +4,8 @@
 //! The names and types are those of the module `readability.rs` of the drawing
 //! library schemweave; the work is done by the port of that module to Rattle,
 //! in which every function is proved to meet its contract. A program that gets
-//! these names from schemweave gets them from here by changing the `use`:
+//! these names from schemweave gets them from here by changing the `use`, but for
+//! [two things](#what-the-swap-costs), nodes and the grid:
 //!
 //! ```
 //! use readability::{
@@ -21,6 +22,68 @@
 //! let clearance = measured.expect("a fit drawing of two visits at most");
 //! assert_eq!(clearance.minimum_clearance, Some(1.0));
 //! assert_eq!(clearance.violations, 1);
+//! ```
+//!
+//! # What the swap costs
+//!
+//! **Nodes are copied.** [`NodeGeometry`] is this package's own type, and not the
+//! one that schemweave's layouts hold. A program that passes `&layout.nodes` does
+//! not compile after the swap:
+//!
+//! ```compile_fail,E0308
+//! # mod schemweave {
+//! #     pub struct NodeGeometry { pub id: u32, pub x: f64, pub y: f64, pub width: f64, pub height: f64 }
+//! #     pub struct Layout { pub nodes: Vec<NodeGeometry> }
+//! # }
+//! # use readability::{measure_edge_node_clearance_bounded, EdgeNodeClearance, EdgeNodeClearanceError};
+//! fn clearance(layout: &schemweave::Layout) -> Result<EdgeNodeClearance, EdgeNodeClearanceError> {
+//!     measure_edge_node_clearance_bounded(&[], &layout.nodes, &[], 2.0, 1_000)
+//! }
+//! ```
+//!
+//! It copies the nodes first, field by field:
+//!
+//! ```
+//! # mod schemweave {
+//! #     pub struct NodeGeometry { pub id: u32, pub x: f64, pub y: f64, pub width: f64, pub height: f64 }
+//! #     pub struct Layout { pub nodes: Vec<NodeGeometry> }
+//! # }
+//! # use readability::{measure_edge_node_clearance_bounded, EdgeNodeClearance, EdgeNodeClearanceError};
+//! use readability::NodeGeometry;
+//!
+//! fn clearance(layout: &schemweave::Layout) -> Result<EdgeNodeClearance, EdgeNodeClearanceError> {
+//!     let copy = |node: &schemweave::NodeGeometry| NodeGeometry {
+//!         id: node.id,
+//!         x: node.x,
+//!         y: node.y,
+//!         width: node.width,
+//!         height: node.height,
+//!     };
+//!     let nodes: Vec<NodeGeometry> = layout.nodes.iter().map(copy).collect();
+//!     measure_edge_node_clearance_bounded(&[], &nodes, &[], 2.0, 1_000)
+//! }
+//! # assert!(clearance(&schemweave::Layout { nodes: vec![] }).is_ok());
+//! ```
+//!
+//! The type cannot be schemweave's, because the package uses the standard library
+//! alone. For the same reason it lacks serde's two traits.
+//!
+//! **Layouts off the grid get no congestion figure.** Where a coordinate or the
+//! cutoff is no whole multiple of 1/64, as 0.1 is not, both profiles return `None`,
+//! as for a spent allowance, and [`measure_parallel_congestion`] returns
+//! [`ParallelCongestion::REFUSED`]. The module measures such layouts. Clearance
+//! and separation take them here too.
+//!
+//! ```
+//! use readability::{
+//!     measure_parallel_congestion, measure_parallel_congestion_profile_bounded,
+//!     measure_parallel_density_profile_bounded, ParallelCongestion, ParallelSegment,
+//! };
+//!
+//! let wire = ParallelSegment { net: 1, horizontal: true, fixed: 0.1, start: 0.0, end: 10.0 };
+//! assert_eq!(measure_parallel_congestion_profile_bounded(&[wire], 6.0, 1_000), None);
+//! assert_eq!(measure_parallel_density_profile_bounded(&[wire], 6.0, 1_000), None);
+//! assert_eq!(measure_parallel_congestion(&[wire], 6.0), ParallelCongestion::REFUSED);
 //! ```
 //!
 //! # What differs from the module
@@ -45,8 +108,8 @@
 //! |---|---|---|---|
 //! | 3, too many entries | `TooManyEntries` (added) | `None` | [`ParallelCongestion::REFUSED`] |
 //! | 5, unfit | `InvalidInput` | `None` | [`ParallelCongestion::REFUSED`] |
-//! | 6, off the grid | does not come | `None` | [`ParallelCongestion::REFUSED`] |
-//! | 7, allowance spent | `WorkLimitExceeded` | `None` | does not come |
+//! | 6, off the grid | never | `None` | [`ParallelCongestion::REFUSED`] |
+//! | 7, allowance spent | `WorkLimitExceeded` | `None` | never |
 //!
 //! - Both error types of the module are `non_exhaustive`, so that every match on
 //!   them in another crate has an arm for what is added. `TooManyEntries` is
@@ -59,7 +122,7 @@
 //!   refused drawing has the worst figures that there are: its ratio is 1, and
 //!   no measured drawing is worse.
 //!
-//! The functions whose names begin with `try_` tell each [`Refusal`] apart.
+//! The functions whose names begin with `try_` return each [`Refusal`] as itself.
 //!
 //! # What is added
 //!
@@ -67,11 +130,8 @@
 //! report carries the visits used and which returns a [`Refusal`].
 //! [`tight_pair`] finds a pair at the least clearance, and [`sheet()`] gives the
 //! text of a drawing file's sheet. The module [`columns`] has the port's own
-//! calls, which take lists by columns and allocate nothing.
-//!
-//! `NodeGeometry` lacks serde's two traits, since this crate uses the standard
-//! library alone; a program that stores nodes by serde keeps its own record for
-//! that.
+//! calls, which take lists by columns and allocate nothing. [`library_version`]
+//! returns the version of the library that is linked.
 
 #![deny(unsafe_code)]
 #![warn(missing_docs)]
@@ -88,6 +148,12 @@ mod refusal;
 mod separation;
 mod sheet;
 mod unpack;
+mod version;
+
+/// The Rust in docs/CALLING.md is compiled and run with the tests.
+#[cfg(doctest)]
+#[doc = include_str!("../../../docs/CALLING.md")]
+struct Calling;
 
 pub use clearance::{
     measure_edge_node_clearance_bounded, tight_pair, try_measure_edge_node_clearance_bounded,
@@ -106,6 +172,7 @@ pub use separation::{
     ParallelSeparation, ParallelSeparationError, SeparationReport,
 };
 pub use sheet::sheet;
+pub use version::library_version;
 
 /// The number of a node. Several nodes may have one number.
 pub type NodeId = u32;

@@ -74,8 +74,8 @@ pub fn measure_parallel_separation_bounded(
         })
 }
 
-/// [`measure_parallel_separation_bounded`] with the visits used and with every
-/// refusal told apart.
+/// [`measure_parallel_separation_bounded`] with the visits used, and with the
+/// refusal as its error.
 pub fn try_measure_parallel_separation_bounded(
     segments: &[ParallelSegment],
     max_tree_visits: usize,

@@ -6,6 +6,7 @@ pub mod records_export;
 pub mod separation_export;
 pub mod sheet_export;
 pub mod tight_pair_export;
+pub mod version_export;
 
 pub use clearance_export::readability_clearance;
 pub use congestion_export::readability_congestion;
@@ -20,3 +21,4 @@ pub use records_export::readability_separation_by_records;
 pub use separation_export::readability_separation;
 pub use sheet_export::readability_sheet;
 pub use tight_pair_export::readability_tight_pair;
+pub use version_export::readability_version_0_2;

@@ -1,11 +1,12 @@
 //! Tests of what C programs are given: the examples, built with the header and
-//! the library, print what they say, and the header declares each function as
-//! the Rust declarations do, by which the port is compared.
+//! the library, print what they say; the header declares each function as the
+//! Rust declarations do, by which the port is compared; and a program built with
+//! the header of another version does not link.
 
 use std::{
     fs,
     path::{Path, PathBuf},
-    process::Command,
+    process::{Command, Output},
 };
 
 use crate::drawing::SHEET_OF_D;
@@ -16,25 +17,56 @@ const DECLARATIONS: &str = concat!(
     include_str!("port.rs")
 );
 
-/// The program of a C or C++ file, named from the project's root.
-fn program(source: &Path) -> PathBuf {
-    let name = source.file_name().expect("the source is a file");
-    let program = Path::new(env!("OUT_DIR")).join(name).with_extension("out");
-    let (compiler, standard) = match source.extension().and_then(|ending| ending.to_str()) {
+const OTHER_VERSION: &str = "readability_version_of_another_header";
+const WARNINGS: [&str; 6] = [
+    "-pedantic",
+    "-Wall",
+    "-Wextra",
+    "-Wconversion",
+    "-Wsign-conversion",
+    "-Werror",
+];
+
+/// Where the tests write.
+fn written(name: &str) -> PathBuf {
+    Path::new(env!("OUT_DIR")).join(name)
+}
+
+/// Compiles C or C++ files, named from the project's root, with the header of a
+/// folder, and links the library. A standard among the flags counts before the
+/// first one.
+fn build(sources: &[PathBuf], flags: &[&str], header: &Path, program: &Path) -> Output {
+    let (compiler, first_standard) = match sources[0].extension().and_then(|end| end.to_str()) {
         Some("cc") => ("c++", "-std=c++11"),
         _ => ("cc", "-std=c99"),
     };
-    let built = Command::new(compiler)
+    Command::new(compiler)
         .current_dir(Path::new(env!("CARGO_MANIFEST_DIR")).join("../.."))
-        .args([standard, "-pedantic", "-Wall", "-Wextra", "-Werror"])
-        .arg("-Iinclude")
-        .arg(source)
+        .arg(first_standard)
+        .args(WARNINGS)
+        .args(flags)
+        .arg("-I")
+        .arg(header)
+        .args(sources)
         .arg("target/staticlib/libexports.a")
         .arg("-o")
-        .arg(&program)
-        .status()
-        .expect("the compiler is there");
-    assert!(built.success(), "{} is not built", source.display());
+        .arg(program)
+        .output()
+        .expect("the compiler is there")
+}
+
+/// What the compiler and the linker said.
+fn said(built: &Output) -> String {
+    String::from_utf8_lossy(&built.stderr).into_owned()
+}
+
+/// The program of a file.
+fn program(source: &Path) -> PathBuf {
+    let name = source.file_name().expect("the source is a file");
+    let program = written("programs").join(name);
+    fs::create_dir_all(written("programs")).expect("the folder is made");
+    let built = build(&[source.to_path_buf()], &[], Path::new("include"), &program);
+    assert!(built.status.success(), "{}", said(&built));
     program
 }
 
@@ -51,8 +83,8 @@ fn the_examples_print_what_they_say() {
     assert_eq!(printed("records.c"), "least separation 4\n");
 }
 
-/// The type as the header writes it. C does not distinguish arrays of different
-/// lengths where they are parameters.
+/// The type as the header writes it. In C, arrays of different lengths are one
+/// type where they are parameters.
 fn type_in_c(rust: &str) -> &'static str {
     match rust {
         "u32" => "uint32_t",
@@ -80,7 +112,12 @@ fn pointer_in_c(declaration: &str) -> String {
         .filter_map(|parameter| parameter.split_once(": "))
         .map(|(_, rust)| type_in_c(rust.trim()))
         .collect();
-    let (result, types) = (type_in_c(result), types.join(", "));
+    let result = type_in_c(result);
+    let types = if types.is_empty() {
+        "void".to_string()
+    } else {
+        types.join(", ")
+    };
     format!("{result} (*of_{name})({types}) = readability_{name};\n")
 }
 
@@ -105,8 +142,69 @@ fn the_header_declares_what_the_rust_does() {
         pointers.concat()
     );
     for name in ["header.c", "header.cc"] {
-        let source = Path::new(env!("OUT_DIR")).join(name);
+        let source = written(name);
         fs::write(&source, &text).expect("the source is written");
         program(&source);
+    }
+}
+
+/// A folder with a header in which only the name of the version's function is
+/// another.
+fn header_of_another_version() -> PathBuf {
+    let (_, rest) = HEADER
+        .split_once("uint32_t readability_version_")
+        .expect("a version");
+    let (numbers, _) = rest.split_once('(').expect("a function");
+    let other = HEADER.replace(&format!("readability_version_{numbers}"), OTHER_VERSION);
+    let folder = written("another_version");
+    fs::create_dir_all(&folder).expect("the folder is made");
+    fs::write(folder.join("readability.h"), other).expect("the header is written");
+    folder
+}
+
+/// Two files that include the header and call one function, but not the
+/// version's.
+fn two_files(ending: &str) -> [PathBuf; 2] {
+    let texts = [
+        "#include \"readability.h\"\ndouble half(void);\n\
+         int main(void) { return half() == 0.5 ? 0 : 1; }\n",
+        "#include \"readability.h\"\ndouble half(void);\n\
+         double half(void) { return readability_ratio(2, 1); }\n",
+    ];
+    [0, 1].map(|number| {
+        let source = written(&format!("file_{number}.{ending}"));
+        fs::write(&source, texts[number]).expect("the source is written");
+        source
+    })
+}
+
+#[test]
+fn a_program_links_only_with_its_headers_version() {
+    let sections = [
+        "-O3",
+        "-ffunction-sections",
+        "-fdata-sections",
+        "-Wl,--gc-sections",
+    ];
+    let flags: [(&str, &[&str]); 6] = [
+        ("c", &["-O0"]),
+        ("c", &["-O3", "-std=c11"]),
+        ("c", &sections),
+        ("cc", &["-O0"]),
+        ("cc", &["-O3", "-std=c++20"]),
+        ("cc", &sections),
+    ];
+    let other = header_of_another_version();
+    for (ending, flags) in flags {
+        let sources = two_files(ending);
+        let program = written(&format!("linked_{ending}"));
+        let right = build(&sources, flags, Path::new("include"), &program);
+        assert!(right.status.success(), "{}", said(&right));
+        let run = Command::new(&program).status().expect("the program runs");
+        assert!(run.success(), "{flags:?}");
+        let wrong = build(&sources, flags, &other, &program);
+        assert!(!wrong.status.success(), "{flags:?} link another version");
+        let said = said(&wrong);
+        assert!(said.contains(OTHER_VERSION), "{said}");
     }
 }

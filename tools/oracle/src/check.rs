@@ -4,7 +4,7 @@
 use std::thread;
 
 #[cfg(port)]
-use crate::{against_port, port_sheet::Sheets};
+use crate::{against_port, port, port_sheet::Sheets};
 use crate::{
     drawing::{drawing_d, Drawing, SHEET_OF_D},
     examine::{smallest_difference, Examined},
@@ -114,10 +114,6 @@ impl Sheets {
     }
 
     fn join(&mut self, _other: &Self) {}
-
-    fn summary(&self) -> String {
-        "none".to_string()
-    }
 }
 
 /// What a run met.
@@ -214,12 +210,12 @@ impl Tally {
                 self.refused[place]
             );
         }
-        if cfg!(port) {
-            println!("the port: the five calls by columns and by records, the ratio and the tight pair on every drawing");
-            println!("the sheet: {}", self.sheets.summary());
-        } else {
-            println!("the port: not linked");
-        }
+        #[cfg(port)]
+        println!("the port: version {}, the five calls by columns and by records, the ratio and the tight pair on every drawing", port::version());
+        #[cfg(port)]
+        println!("the sheet: {}", self.sheets.summary());
+        #[cfg(not(port))]
+        println!("the port: not linked");
         if let Some((drawing, differences)) = &self.smallest {
             let first: Vec<String> = self
                 .first_to_differ

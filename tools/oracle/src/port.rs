@@ -9,7 +9,7 @@ use crate::{
     declarations::{
         readability_clearance, readability_congestion, readability_congestion_profile,
         readability_density_profile, readability_ratio, readability_separation, readability_sheet,
-        readability_tight_pair, SHEET_BYTES,
+        readability_tight_pair, readability_version_0_2, SHEET_BYTES,
     },
     drawing::Drawing,
     refusals::{scratch_need, Lent},
@@ -453,6 +453,13 @@ pub fn run_tight_pair(columns: &Columns) -> Told {
 /// The ratio of two lengths. It takes and gives numbers only.
 pub fn run_ratio(total: f64, congested: f64) -> f64 {
     unsafe { readability_ratio(total, congested) }
+}
+
+/// The version of the library.
+pub fn version() -> String {
+    let version = unsafe { readability_version_0_2() };
+    let (major, minor) = (version / 1_000_000, version / 1_000 % 1_000);
+    format!("{major}.{minor}.{}", version % 1_000)
 }
 
 /// The sheet of a drawing file: writes its text to the front of the buffer and

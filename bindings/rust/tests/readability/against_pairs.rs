@@ -147,9 +147,9 @@ fn off_the_grid_congestion_is_refused() {
                 .wires
                 .iter()
                 .all(|wire| fine(wire.fixed) && fine(wire.start) && fine(wire.end));
-        let told = try_measure_parallel_congestion(&drawing.wires, drawing.cutoff);
+        let measured = try_measure_parallel_congestion(&drawing.wires, drawing.cutoff);
         assert_eq!(
-            told.err(),
+            measured.err(),
             (!on_grid).then_some(Refusal::OffGrid),
             "{numbers:?} {seed}"
         );

@@ -158,7 +158,7 @@ pub fn reordered(drawing: &Drawing, seed: u64) -> Drawing {
     other
 }
 
-/// Every drawing that the tests take: so many of each kind of numbers.
+/// Every drawing that the tests take: `each` of each kind of numbers.
 pub fn drawings(each: u64) -> impl Iterator<Item = (Numbers, u64, Drawing)> {
     Numbers::ALL
         .into_iter()

@@ -10,6 +10,7 @@ mod pairs;
 mod refusals;
 mod sheet;
 mod swap;
+mod version;
 
 /// What the original module expects to find at its crate's root.
 #[cfg(original)]

@@ -120,9 +120,9 @@ fn drawing_d_has_its_congestion_and_c() {
 
 #[test]
 fn a_one_segment_costs_separation_nothing() {
-    let told = try_measure_parallel_separation_bounded(&[horizontal(1, 0.0, 0.0, 10.0)], 0);
+    let measured = try_measure_parallel_separation_bounded(&[horizontal(1, 0.0, 0.0, 10.0)], 0);
     assert_eq!(
-        told,
+        measured,
         Ok(SeparationReport {
             separation: ParallelSeparation::default(),
             visits: 0
@@ -187,13 +187,13 @@ fn i_no_segments_have_no_clearance() {
 }
 
 /// Two wires of length 10 that are not close to each other.
-fn assert_not_close(told: Result<CongestionReport, Refusal>) {
+fn assert_not_close(measured: Result<CongestionReport, Refusal>) {
     let congestion = ParallelCongestion {
         total_length: 20.0,
         ..ParallelCongestion::default()
     };
     assert_eq!(
-        told,
+        measured,
         Ok(CongestionReport {
             congestion,
             minimum_positive: None,
