@@ -1,0 +1,2 @@
+-- What a reader must believe: the version.
+pub mod Version
