@@ -22,7 +22,7 @@ nodeBox n = fromNode (n .x) (n .y) (n .width) (n .height)
 unfoldable pub segmentBox : Segment → Aabb
 segmentBox s = fromSegment (eqb (s .orientation) 1) (s .fixed) (s .start) (s .end)
 
--- the least box around two. SCOPE 15.8: "`min`, `max`, `abs`: comparisons and negation"
+-- the least box around two. SCOPE 5.3, 15.8: "`min`, `max`, `abs`: comparisons and negation"
 unfoldable pub union : Aabb → Aabb → Aabb
 union p q = record { left = lesserOf (p .left) (q .left); top = lesserOf (p .top) (q .top); right = greaterOf (p .right) (q .right); bottom = greaterOf (p .bottom) (q .bottom) }
 

@@ -25,7 +25,7 @@ accepted g count = Report (reportOf g count)
 unfoldable pub allPairs : List Exemption → (ℕ → Float) → List Segment → List Node → Charged Figures
 allPairs ex threshold ss ns = record { value = figures ex threshold ss ns; cost = visitCount ex threshold ss ns }
 
--- The checks in the order of SCOPE 7; then SCOPE 7.7: "`WorkLimitExceeded`: the visit count exceeds the allowance", else the all-pairs report. The call has one threshold for all nets.
+-- The checks in the order of SCOPE 7.0; then SCOPE 7.7: "`WorkLimitExceeded`: the visit count exceeds the allowance", else the all-pairs report. The call has one threshold for all nets.
 unfoldable pub clearanceAnswer : SegmentColumns → NodeColumns → ExemptionColumns → Float → ℕ → ℕ → ClearanceAnswer
 clearanceAnswer s n e threshold allowance words =
     checked Refused (firstOf (clearanceConditions s n e threshold words))

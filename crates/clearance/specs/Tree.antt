@@ -40,7 +40,7 @@ unfoldable pub hull : Aabb → List IndexedNode → Aabb
 hull b [] = b
 hull b (n ∷ l) = hull (union b (n .bounds)) l
 
--- `bare` is the tree of an empty list, for which the Rust builds none
+-- SCOPE 5.1: `bare` is the tree of an empty list, for which the Rust builds none
 pub data Tree : Type 0 where
   bare : Tree
   leaf : IndexedNode → Tree

@@ -1,4 +1,4 @@
--- What the three congestion calls answer (SCOPE 6.2, 6.3, 7, 8.3): the first refusal that applies, then the all-pairs report where the allowance reaches its visit count.
+-- What the three congestion calls answer (SCOPE 6.2, 6.3, 7.0, 8.3): the first refusal that applies, then the all-pairs report where the allowance reaches its visit count.
 use Prim.Native.Nat.{ℕ}
 use lib.Ieee.{Float}
 use Rattle.laws.specs.Charged.{Charged, settle}

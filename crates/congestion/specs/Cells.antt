@@ -1,4 +1,4 @@
--- A stretch as a run of cells: the cell k is the piece between the coordinates k and k + 1, so of length 1/64 (SCOPE 9.1).
+-- A stretch as a run of cells: the cell k is the piece between the coordinates k and k + 1, so of length 1/64 (SCOPE 3.12, 9.1).
 use mathlib.Core.List.{List, [], _∷_}
 use mathlib.Core.Bool.{Bool, _&&_}
 use Prim.Native.Nat.{ℕ, zero, suc, _-_}

@@ -19,6 +19,7 @@ near c s t = Bool·beq (s .horizontal) (t .horizontal) && ltb (apart (s .fixed) 
 abbrev pub overlaps : Wire → Wire → Bool
 overlaps s t = ltb (max (s .start) (t .start)) (min (s .end) (t .end))
 
+-- SCOPE 3.13, from the larger start to the smaller end
 abbrev pub overlap : Wire → Wire → ℕ
 overlap s t = min (s .end) (t .end) - max (s .start) (t .start)
 

@@ -16,7 +16,7 @@ use Rattle.congestion.specs.Wires.{Wire, wireOf, cutoffOf}
 use Rattle.congestion.specs.Figures.{closeOther, total, congested, pairOverlap, peak}
 use Rattle.congestion.specs.Visits.{visitCount}
 
--- three lengths, given in 64ths, and the peak
+-- SCOPE 9.1: three lengths, given in 64ths, and the peak
 unfoldable pub lengths : ℕ → ℕ → ℕ → ℕ → ParallelCongestion
 lengths t c o p = record { «total_length» = ofUnits t; «congested_length» = ofUnits c; «pair_overlap_length» = ofUnits o; «peak_close_neighbors» = p }
 

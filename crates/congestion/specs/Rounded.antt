@@ -12,7 +12,7 @@ use Rattle.drawing.specs.Entries.{Segment}
 unfoldable pub closeFloats : Float → Segment → Segment → Bool
 closeFloats cutoff s t = eqb (s .orientation) (t .orientation) && lt (gapOf (s .fixed) (t .fixed)) cutoff && lt (greaterOf (s .start) (t .start)) (lesserOf (s .end) (t .end))
 
--- SCOPE 5.12: `Excluded(FloatKey(query.fixed - cutoff)), Excluded(FloatKey(query.fixed + cutoff))`: the Rust's range of lines, each bound one rounded step, compared by totalOrder's keys; zeros are +0 first
+-- SCOPE 5.12, 9.1: `Excluded(FloatKey(query.fixed - cutoff)), Excluded(FloatKey(query.fixed + cutoff))`: the Rust's range of lines, each bound one rounded step, compared by totalOrder's keys; zeros are +0 first
 unfoldable pub inRangeFloats : Float → Segment → Segment → Bool
 inRangeFloats cutoff s t =
     let x = canonicalZero (s .fixed) in

@@ -1,4 +1,4 @@
--- The sums of lengths as the Rust's sweep takes them, with IEEE 754's rounded steps (SCOPE 1.3, 8.2).
+-- The sums of lengths as the Rust's sweep takes them, with IEEE 754's rounded steps (SCOPE 1.3, 5.12, 8.2, 9.1).
 use mathlib.Core.List.{List, [], _∷_, map}
 use mathlib.Core.Bool.{Bool, true, false, _&&_, Bool·beq, cond}
 use Prim.Native.Nat.{ℕ}

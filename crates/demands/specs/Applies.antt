@@ -1,4 +1,4 @@
--- Which refusal applies (SCOPE 7, 8.4): one whose condition as stated holds, not one whose number a call returns; and in which order they are checked.
+-- Which refusal applies (SCOPE 7.0, 8.4): one whose condition as stated holds, not one whose number a call returns; and in which order they are checked.
 use mathlib.Core.Path.{_≡_}
 use mathlib.Core.Bool.{Bool, true, false}
 use mathlib.Core.List.{List, [], _∷_, _++_}
@@ -18,7 +18,7 @@ pub record First (l : List (Bool × Refusal)) (refusal : Refusal) : Type 0 where
   pub it : l ≡ before ++ ((true, refusal) ∷ after)
   pub none-before : NoneApplies before
 
--- SCOPE 7, "Turned down, in checking order": the number of each in that list
+-- SCOPE 7.0, "Turned down, in checking order": the number of each in that list
 unfoldable pub placeOf : Refusal → ℕ
 placeOf MalformedFile = 1
 placeOf ColumnsDiffer = 2

@@ -43,7 +43,7 @@ pub record Checking (l : List (Bool × Refusal)) (answer : Check) : Type 0 where
 
 pub record Demand1 : Type 0 where
   pub of-each : (call : Call) → Refusing (measured call)
-  -- SCOPE 7, "in document 01's list": the conditions of each call are in the order of that list, so the first of them that holds is the first there
+  -- SCOPE 7.0, "in document 01's list": the conditions of each call are in the order of that list, so the first of them that holds is the first there
   pub in-order : (call : Call) (d : measured call .Drawing) (s : measured call .Settings) (words : ℕ) → InOrder 0 (measured call .conditions d s words)
   -- the public checks: the contract of each is that it returns `firstOf` of its conditions
   pub of-checks : (l : List (Bool × Refusal)) (answer : Check) → answer ≡ firstOf l → Checking l answer

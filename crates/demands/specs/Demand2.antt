@@ -23,14 +23,14 @@ use Rattle.demands.specs.Applies.{NoneApplies}
 use Rattle.demands.specs.Measures.{Measure, Run, Reported, resultOfRun, visitCount, earlier, Call, measured, density}
 
 pub record AllPairs (m : Measure) : Type 0 where
-  -- SCOPE 8.3, "bit by bit": every float of the figures has one bit pattern, since none is a NaN
+  -- SCOPE 6.4, 8.3, "bit by bit": every float of the figures has one bit pattern, since none is a NaN
   pub numbers : (r : Run m) → NoneApplies (earlier m r) → All Reported (m .floats (m .figures (r .drawing) (r .settings)))
   -- the figures of the walk, which skips pairs, are the figures over all pairs, bit by bit, and its visits are the count
   pub walk : (r : Run m) → NoneApplies (earlier m r) → m .walk (r .drawing) (r .settings) ≡ record { value = m .figures (r .drawing) (r .settings); cost = visitCount m r }
   -- so an accepted call returns what the walk finds, which is the report over all pairs
   pub returned : (r : Run m) → NoneApplies (earlier m r) → m .reaches (r .allowance) (visitCount m r) ≡ true → resultOfRun m r ≡ m .accepted (m .figures (r .drawing) (r .settings)) (m .walk (r .drawing) (r .settings) .cost)
 
--- SCOPE 9.1: congestion's figures are defined in whole numbers of 1/64. "There every sum and product is exact": the same sums with IEEE 754's rounding at each step are these figures, bit by bit. `roundedTotal` and `roundedOverlap` are over the segments and over all pairs, `roundedSweep` adds in the Rust's order. Two rounded steps, `fixed - cutoff` and `fixed + cutoff`, decide which lines the Rust's sweep visits: for a cutoff above 0 they are those of the sweep in 64ths. All three calls have these figures, the profile's without overlap and peak.
+-- SCOPE 5.12, 9.1: congestion's figures are defined in whole numbers of 1/64. "There every sum and product is exact": the same sums with IEEE 754's rounding at each step are these figures, bit by bit. `roundedTotal` and `roundedOverlap` are over the segments and over all pairs, `roundedSweep` adds in the Rust's order. Two rounded steps, `fixed - cutoff` and `fixed + cutoff`, decide which lines the Rust's sweep visits: for a cutoff above 0 they are those of the sweep in 64ths. All three calls have these figures, the profile's without overlap and peak.
 pub record Exact (s : SegmentColumns) (cutoff : Float) : Type 0 where
   pub total : roundedTotal (segments s) ≡ density .figures s cutoff .0 .«total_length»
   pub overlap : roundedOverlap cutoff (segments s) ≡ density .figures s cutoff .0 .«pair_overlap_length»
@@ -45,7 +45,7 @@ pub record Comparisons : Type 0 where
   pub total-order : (a b : ℕ) → a < 2 ^ 64 → b < 2 ^ 64 → leb (key a) (key b) ≡ totalOrder a b
   -- SCOPE 5.9, 5.12: the Rust orders congestion's events by totalOrder of their coordinates, the sweep by their 64ths: on the grid, zeros taken as +0 (SCOPE 9.2), both orders are the same
   pub grid-order : (x y : Float) → Binary64 x → Binary64 y → onGrid x ≡ true → onGrid y ≡ true → ltb (keyOf (canonicalZero x)) (keyOf (canonicalZero y)) ≡ ltb (unit x) (unit y)
-  -- SCOPE 5.10: the Rust's tree of active nets keeps two different nets for each node; the walk of separation asks whether any other net is active on the node's lines
+  -- SCOPE 5.11: the Rust's tree of active nets keeps two different nets for each node; the walk of separation asks whether any other net is active on the node's lines
   pub two-nets : (ls : List ℕ) (active : List Row) (net h first : ℕ) → hasOther (summaryOver ls active h first) net ≡ otherIn ls active net first (first + 2 ^ h)
 
 pub record Demand2 : Type 0 where

@@ -26,7 +26,7 @@ abbrev pub BothOrNeither : (m : Measure) → ℕ → m .Allowance → m .Allowan
 BothOrNeither m n x y = ((m .reaches x n ≡ true) × (m .reaches y n ≡ true)) ⊎ ((m .reaches x n ≡ false) × (m .reaches y n ≡ false))
 
 pub record Depends (m : Measure) : Type 0 where
-  -- SCOPE 4.1: the drawing has one visit count, whichever order its lists are in
+  -- SCOPE 4.1, 9.4: the drawing has one visit count, whichever order its lists are in
   pub one-count : (a b : Run m) → AnyTwo m a b → visitCount m a ≡ visitCount m b
   -- SCOPE 8.3: "their results are equal, bit by bit, exactly when both allowances reach that drawing's visit count or neither does"
   pub equal : (a b : Run m) → AnyTwo m a b → (resultOfRun m a ≡ resultOfRun m b) ↔ BothOrNeither m (visitCount m a) (a .allowance) (b .allowance)

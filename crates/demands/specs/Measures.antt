@@ -44,19 +44,19 @@ pub record Measure : Type 1 where
   pub Reordered : Drawing → Drawing → Type 0
   -- SCOPE 6.6: "Settings are whatever else it is given to read, allowance and scratch left aside."
   pub Settings : Type 0
-  -- every float that is lent or passed is a value of binary64
+  -- SCOPE 1.3: every float that is lent or passed is a value of binary64
   pub Held : Drawing → Settings → Type 0
   -- SCOPE 2.4: the allowance, and whether it reaches a count
   pub Allowance : Type 0
   pub reaches : Allowance → ℕ → Bool
   -- SCOPE 7.2 to 7.6: the conditions of the refusals before 7, each with its refusal, for a scratch of the given number of words
   pub conditions : Drawing → Settings → ℕ → List (Bool × Refusal)
-  -- SCOPE 3, the figures over all pairs
+  -- SCOPE 3.0, the figures over all pairs
   pub Figures : Type 0
   pub figures : Drawing → Settings → Figures
   -- the floats among them
   pub floats : Figures → List Float
-  -- SCOPE 5: the Rust's walk with no limit: what it finds, at the cost of its visits
+  -- SCOPE 4.2, 5: the Rust's walk with no limit: what it finds, at the cost of its visits
   pub walk : Drawing → Settings → Charged Figures
   -- SCOPE 4.1, the visit count: "That count is defined over lists and settings alone, the walk included, and takes nothing from the allowance, the scratch or the port's own tally."
   pub count : Drawing → Settings → ℕ
@@ -82,7 +82,7 @@ unsigned nan = false
 unsigned (inf s) = not s
 unsigned (fin s m e) = not s
 
--- what a report holds: a value of binary64, not a NaN, not negative and not -0. IEEE 754 leaves the bits of a NaN open; any other value has one bit pattern, so equal ones are equal bit by bit.
+-- SCOPE 6.4, what a report holds: a value of binary64, not a NaN, not negative and not -0. IEEE 754 leaves the bits of a NaN open; any other value has one bit pattern, so equal ones are equal bit by bit.
 abbrev pub Reported : Float → Type 0
 Reported x = Binary64 x × (unsigned x ≡ true)
 

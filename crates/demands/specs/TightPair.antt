@@ -16,7 +16,7 @@ use Rattle.demands.specs.Applies.{First, NoneApplies, InOrder}
 use Rattle.demands.specs.Measures.{clearance}
 
 module _ (s : SegmentColumns) (n : NodeColumns) (e : ExemptionColumns) (r : TightPair) where
-  -- the least clearance: no threshold changes it
+  -- SCOPE 3.5, the least clearance: no threshold changes it
   abbrev leastClearance : Float → Gap
   leastClearance threshold = clearance .figures (record { segments = s; nodes = n; exemptions = e }) threshold .least
 

@@ -1,4 +1,4 @@
--- Conditions of refusals 2 to 5 that the calls share, in checking order (SCOPE 7). The list of each call is in its measure's crate, specs/Conditions; `firstOf` of it is what its checks return. SCOPE 7: "Each call checks only what it is given, a list it does not take counting as 0 entries."
+-- Conditions of refusals 2 to 5 that the calls share, in checking order (SCOPE 7.0). The list of each call is in its measure's crate, specs/Conditions; `firstOf` of it is what its checks return. SCOPE 7: "Each call checks only what it is given, a list it does not take counting as 0 entries."
 use mathlib.Core.Bool.{Bool}
 use mathlib.Core.List.{List, [], _∷_}
 use Prim.Native.Nat.{ℕ}

@@ -8,7 +8,7 @@ use Rattle.drawing.specs.declared.refusal.Refusal.the-variants.{Malforme
 use Rattle.drawing.specs.declared.refusal.Check.{Check}
 use Rattle.drawing.specs.declared.refusal.Check.the-variants.{Passed, Refused}
 
--- SCOPE 7: the number of each refusal, in the order of checking
+-- SCOPE 7.1 to 7.7: the number of each refusal, in the order of checking
 unfoldable pub numberOf : Refusal → ℕ
 numberOf MalformedFile = 1
 numberOf ColumnsDiffer = 2
@@ -23,7 +23,7 @@ unfoldable pub numberOfCheck : Check → ℕ
 numberOfCheck Passed = 0
 numberOfCheck (Refused r) = numberOf r
 
--- conditions with their refusals, in checking order. SCOPE 7, 8.1: "the first refusal that applies"
+-- conditions with their refusals, in checking order. SCOPE 7.0, 8.1: "the first refusal that applies"
 unfoldable pub firstOf : List (Bool × Refusal) → Check
 firstOf [] = Passed
 firstOf (c ∷ l) = let r = firstOf l in cond (c .0) (Refused (c .1)) r

@@ -1,4 +1,4 @@
--- Results in words: how the exported calls write them.
+-- Results in words: how the exported calls write them (SCOPE 6.7).
 use mathlib.Core.Path.{_≡_}
 use mathlib.Core.List.{List, [], _∷_}
 use mathlib.Core.Option.{Option, none, some}
@@ -37,7 +37,7 @@ congestionWords r =
     let c = r .congestion in
     toBits binary64 (c .«total_length») ∷ toBits binary64 (c .«congested_length») ∷ toBits binary64 (c .«pair_overlap_length») ∷ c .«peak_close_neighbors» ∷ presentWord (r .«minimum_positive») ∷ bitsWord (r .«minimum_positive») ∷ r .visits ∷ []
 
--- SCOPE 12.2: the words of a tight pair: whether there is one, and its positions, "by segment and node position"; zeros where it is absent
+-- SCOPE 6.7, 12.2: the words of a tight pair: whether there is one, and its positions, "by segment and node position"; zeros where it is absent
 unfoldable pub pairWords : Option (ℕ × ℕ) → List ℕ
 pairWords none = 0 ∷ 0 ∷ 0 ∷ []
 pairWords (some p) = 1 ∷ p .0 ∷ p .1 ∷ []

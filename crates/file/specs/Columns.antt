@@ -1,4 +1,4 @@
--- What reading a drawing file returns, with the number and values of each case (SCOPE 8.5), and what the lent columns hold then.
+-- What reading a drawing file returns, with the number and values of each case (SCOPE 8.5, 10.3), and what the lent columns hold then.
 use mathlib.Core.List.{List, _++_, map}
 use mathlib.Core.Option.{Option, none, some}
 use Prim.Native.Nat.{ℕ}
@@ -20,7 +20,7 @@ unfoldable pub readingOf : Read Drawing → Reading
 readingOf (got d rest) = answers.Read (headerOf d)
 readingOf (refused r) = answers.Refused r
 
--- each case of the answer by its number, 0 for a file that is read, and its values. SCOPE 6.3: "A refusal returns its number", and there is no header
+-- each case of the answer by its number, 0 for a file that is read, and its values. SCOPE 8.5, 10.3: "A refusal returns its number", and there is no header
 unfoldable pub resultOf : Reading → ℕ × Option Header
 resultOf (answers.Read h) = (0, some h)
 resultOf (answers.Refused w) = (numberOf w, none)
@@ -30,7 +30,7 @@ unfoldable pub fileResult : Read Drawing → ℕ × Option Header
 fileResult (got d rest) = (0, some (headerOf d))
 fileResult (refused w) = (numberOf w, none)
 
--- a lent column: f of each entry of its list, and past these what was there. SCOPE 8.1: a refused file "touches no lent memory"
+-- a lent column: f of each entry of its list, and past these what was there. SCOPE 8.1, 10.3: a refused file "touches no lent memory"
 unfoldable pub columnAfter : {A B : Type 0} → (Drawing → List A) → (A → B) → Read Drawing → List B → List B
 columnAfter list f (got d rest) old = map f (list d) ++ drop (length (list d)) old
 columnAfter list f (refused r) old = old

@@ -27,7 +27,7 @@ bigEndian n (b ∷ l) = bigEndian (256 * n + b) l
 unfoldable pub number : ℕ → List ℕ → Read ℕ
 number k l = cond (leb k (length l)) (got (bigEndian 0 (take k l)) (drop k l)) (refused MalformedFile)
 
--- SCOPE 10.1: "64-bit float bits"; the bits of a NaN are read as a NaN
+-- SCOPE 10.1, 10.3: "64-bit float bits"; the bits of a NaN are read as a NaN
 unfoldable pub float : List ℕ → Read Float
 float l = then (number 8 l) (λ n rest. got (ofBits binary64 n) rest)
 

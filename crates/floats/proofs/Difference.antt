@@ -168,14 +168,6 @@ sub-mono f x y x' y' p q p' q' h k =
     (le-trans (shift-mono f (rank f x) (rank f y) (rank f x') (rank f y') (le→ f x x' (fin-num f x p) (fin-num f x' p') h) (le→ f y' y (fin-num f y' q') (fin-num f y q) k))
     (le-of-eq (sym (sub-rank f x' y' p' q')))))
 
--- ---- different values have a difference that is not zero
-pub sub-pos : (f : Format) (x y : Float) → Fin f x → Fin f y → T (lt x y) → T (lt (fin false 0 (pos 0)) (sub f y x))
-sub-pos f x y p q h =
-    let z = fin false 0 (pos 0) in
-    let a : rank f x < rank f y = lt→ f x y (fin-num f x p) (fin-num f y q) h in
-    let b : 0 < rnd f (rank f y - rank f x) = rnd-pos f (rank f y - rank f x) (omega arith) in
-    →lt f z (sub f y x) (fin-num f z (zero-num f false)) (sub-num f y x q p) (omega (arith, zero-rank f false, sub-rank f y x q p, shift-up f (rank f y) (rank f x) (le-of-lt a)))
-
 -- ---- x - x == 0.0 exactly where x is finite
 pub finite-test : (f : Format) (x : Float) → T (fits f x) → eq (sub f x x) (fin false 0 (pos 0)) ≡ finite x
 unfolding sub eq

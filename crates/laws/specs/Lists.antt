@@ -1,4 +1,4 @@
--- Membership, tests, counts and folds over a list, and the lists of all pairs that the figures of SCOPE 3 are defined over.
+-- Membership, tests, counts and folds over a list, and the lists of all pairs that the figures of SCOPE 3.0 are defined over.
 use mathlib.Core.Path.{_≡_}
 use mathlib.Core.Logic.{_⊎_}
 use mathlib.Core.List.{List, [], _∷_, _++_}

@@ -54,7 +54,7 @@ congestionLine (ofCongestion.Report r) =
     congestionWord ++ fields (float (c .«total_length») ∷ float (c .«congested_length») ∷ float (c .«pair_overlap_length») ∷ decimal (c .«peak_close_neighbors») ∷ gap (r .«minimum_positive») ∷ decimal (r .visits) ∷ [])
 congestionLine (ofCongestion.Refused r) = refusal congestionWord r
 
--- the words of scratch that the program lends to each call. SCOPE 2.7: "32 times (segments + nodes) plus 64 words" for 120 segments and 120 nodes
+-- the words of scratch that the program lends to each call. SCOPE 2.7, 11.6: "32 times (segments + nodes) plus 64 words" for 120 segments and 120 nodes
 unfoldable pub scratchWords : ℕ
 scratchWords = 7744
 
@@ -72,6 +72,6 @@ unfoldable pub printed : Read Drawing → List ℕ
 printed (got d rest) = lines d
 printed (refused r) = refusal fileWord r
 
--- SCOPE 11.1: "reads it from standard input and writes three lines"
+-- SCOPE 11.1, 11.6: "reads it from standard input and writes three lines"
 unfoldable pub sheet : List ℕ → List ℕ
 sheet bytes = printed (read bytes)

@@ -1,4 +1,4 @@
--- The answer of the call (SCOPE 6.3, 7, 8.3): the first refusal that applies; else the all-pairs report where the allowance reaches the visit count, and refusal 7 where it does not.
+-- The answer of the call (SCOPE 6.3, 7.0, 8.3): the first refusal that applies; else the all-pairs report where the allowance reaches the visit count, and refusal 7 where it does not.
 use mathlib.Core.List.{List}
 use Prim.Native.Nat.{ℕ}
 use Rattle.laws.specs.Charged.{Charged, settle}
@@ -24,7 +24,7 @@ accepted f n = Report (reportOf f n)
 unfoldable pub allPairs : List Segment → Charged Figures
 allPairs l = record { value = figures l; cost = visitCount l }
 
--- SCOPE 7, 8.3: the answer of a call, by its columns, its allowance and the length of its scratch
+-- SCOPE 7.0, 8.3: the answer of a call, by its columns, its allowance and the length of its scratch
 unfoldable pub separationAnswer : SegmentColumns → ℕ → ℕ → SeparationAnswer
 separationAnswer s allowance words =
     let settled = settle accepted (Refused WorkLimitExceeded) allowance (allPairs (segments s)) in

@@ -10,7 +10,7 @@ use Rattle.laws.specs.Charged.{Charged, free, visit, after}
 use Rattle.rows.specs.Rows.{Row}
 use Rattle.separation.specs.Lines.{index}
 
--- some active segment of another net than n is on a line whose index is at least a and below b: what the Rust's summaries decide (`two-nets-decide` in proofs/TwoNets.antt)
+-- SCOPE 5.11: some active segment of another net than n is on a line whose index is at least a and below b: what the Rust's summaries decide (`two-nets-decide` in proofs/TwoNets.antt)
 unfoldable pub otherIn : List ℕ → List Row → ℕ → ℕ → ℕ → Bool
 otherIn ls active n a b = some-of (λ r. not (eqb (r .net) n) && (leb a (index ls (r .line)) && ltb (index ls (r .line)) b)) active
 
@@ -29,7 +29,7 @@ abbrev pub node : Bool → Charged (Option ℕ) → Charged (Option ℕ) → Cha
 node true one two = visit (after one (λ r. orElse r two))
 node false one two = visit (free none)
 
--- SCOPE 5.10: `search_rightmost` from node k, the last leaf below q for which `has` holds. `has` takes a node's number, which only the tree in the scratch needs, its first leaf and its end.
+-- SCOPE 5.10, 5.11: `search_rightmost` from node k, the last leaf below q for which `has` holds. `has` takes a node's number, which only the tree in the scratch needs, its first leaf and its end.
 unfoldable pub rightmost : (ℕ → ℕ → ℕ → Bool) → ℕ → ℕ → ℕ → ℕ → Charged (Option ℕ)
 rightmost has q zero k s = leaf (ltb s q && has k s (s + 1)) s
 rightmost has q (suc h) k s =
@@ -37,7 +37,7 @@ rightmost has q (suc h) k s =
     let low = rightmost has q h (2 * k) s in
     node (ltb s q && has k s (s + 2 ^ suc h)) high low
 
--- SCOPE 5.10: `search_leftmost` from node k, the first leaf from q on for which `has` holds
+-- SCOPE 5.10, 5.11: `search_leftmost` from node k, the first leaf from q on for which `has` holds
 unfoldable pub leftmost : (ℕ → ℕ → ℕ → Bool) → ℕ → ℕ → ℕ → ℕ → Charged (Option ℕ)
 leftmost has q zero k s = leaf (ltb q (s + 1) && has k s (s + 1)) s
 leftmost has q (suc h) k s =

@@ -1,4 +1,4 @@
--- The Rust's own summary of the nets that are active on some lines, function by function: the first two different ones that it meets. The port stores less (Inner/Summaries.antt). By `two-nets-decide` in proofs/TwoNets.antt the Rust's tree answers what the walk asks of it.
+-- SCOPE 5.11: the Rust's own summary of the nets that are active on some lines, function by function: the first two different ones that it meets. The port stores less (Inner/Summaries.antt). By `two-nets-decide` in proofs/TwoNets.antt the Rust's tree answers what the walk asks of it.
 use mathlib.Core.Bool.{Bool, false, not, _||_, cond}
 use mathlib.Core.List.{List, [], _∷_}
 use mathlib.Core.Option.{Option, none, some}

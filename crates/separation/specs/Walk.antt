@@ -71,7 +71,7 @@ unfoldable pub step : List ℕ → ℕ → Sweep → Event → Charged Sweep
 step ls h s (ends i x) = endsAt h s x
 step ls h s (starts i x) = startsAt ls h s x
 
--- SCOPE 5.9: the sweep over one orientation's segments in order, from no active segment and absent figures
+-- SCOPE 5.9, 5.10: the sweep over one orientation's segments in order, from no active segment and absent figures
 unfoldable pub sweep : List Row → Charged Figures
 sweep l =
     let ls = lines l in

@@ -40,7 +40,7 @@ pub record Answered (s : SegmentColumns) (n : NodeColumns) (e : ExemptionColumns
   pub is : r ≡ answer s n e choice
   pub tight : (i j : ℕ) → r ≡ Pair i j → Tight (exemptions e) (segments s) (nodes n) i j
 
--- SCOPE 6.3, 12.1: "A refusal returns its number and ..; for the tight pair, an absent pair.": each case by its number, 0 where nothing was refused, and its pair
+-- SCOPE 6.3, 12.1, 12.2: "A refusal returns its number and ..; for the tight pair, an absent pair.": each case by its number, 0 where nothing was refused, and its pair
 unfoldable pub resultOf : TightPair → ℕ × Option (ℕ × ℕ)
 resultOf (Pair i j) = (0, some (i, j))
 resultOf Absent = (0, none)
