@@ -13,8 +13,8 @@ use lib.Ieee.{Float, nan, inf, fin, Format, low, up, down, round, sum, neg, add,
 use lib.Ieee.Fits.{down-pos}
 use lib.Ieee.Scale.{round-same, finite, overflow}
 use Rattle.laws.proofs.Tests.{is-true, is-false, cond-true, cond-false, le-or-lt}
-use Rattle.floats.proofs.Rank.{mag, sgn, at, distance, rank, rank-is, Num, Fin, ltb-scaled, mag-lt, mag-le, cross-l, cross-r, fin-num, at-zero, zero-num, zero-rank, lt→, →lt, le→, →le, →eq}
-use Rattle.floats.proofs.Rounding.{round-shape, round-num, rnd, rnd-mono, rnd-zero, rnd-pos}
+use Rattle.floats.proofs.Rank.{mag, sgn, at, distance, rank, rank-is, Num, Fin, ltb-scaled, mag-lt, mag-le, cross-l, cross-r, fin-num, at-zero, zero-num, zero-rank, le→, →le, →eq}
+use Rattle.floats.proofs.Rounding.{round-shape, round-num, rnd, rnd-mono, rnd-zero}
 
 -- ---- a sum depends only on the values of its two fractions
 sub-mul : (a b k : ℕ) → (a - b) * k ≡ a * k - b * k
