@@ -17,7 +17,7 @@ use Rattle.drawing.specs.Held.{SegmentHeld, NodeHeld}
 use Rattle.drawing.proofs.ListOrders.{segments-one-order, nodes-one-order}
 use Rattle.boxes.specs.Boxes.{segmentBox, distance}
 use Rattle.clearance.specs.Figures.{Figures, exempt, figures}
-use Rattle.clearance.specs.Tree.{Tree, bare, leaf, branch, boundsOf, indexed, build, treeOf}
+use Rattle.clearance.specs.Tree.{Tree, empty, leaf, branch, boundsOf, indexed, build, treeOf}
 use Rattle.clearance.specs.Walk.{contributes, withPair, walk, noFigures, walkAll, visitCount}
 use Rattle.clearance.specs.Answer.{allPairs}
 use Rattle.drawing.proofs.Fit.{FitSegment, FitNode}
@@ -27,7 +27,7 @@ use Rattle.clearance.proofs.Violations.{violations-perm}
 -- the walk uses exemptions only through `exempt`
 walk-exempt : (ex ey : List Exemption) → ((net id : ℕ) → exempt ex net id ≡ exempt ey net id) → (t : Float) (s : Segment) (tree : Tree) (g : Figures) → walk ex t s tree g ≡ walk ey t s tree g
 unfolding walk
-walk-exempt ex ey e t s bare g = refl
+walk-exempt ex ey e t s empty g = refl
 walk-exempt ex ey e t s (leaf n) g = let d = distance (segmentBox s) (n .bounds) in λ i. cond (contributes d t (g .least)) (visit (free (withPair (e (s .net) (n .id) i) t d g))) (free g)
 walk-exempt ex ey e t s (branch b l r) g =
     let p = segmentBox s in

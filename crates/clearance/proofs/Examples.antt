@@ -16,7 +16,7 @@ use Rattle.drawing.specs.Entries.{SegmentColumns, NodeColumns, ExemptionColumns
 use Rattle.drawing.specs.Gaps.{gapFrom, leastGap, lesserGap}
 use Rattle.drawing.specs.Orders.{segmentRow, nodeRow, segmentsInOrder, nodesInOrder}
 use Rattle.drawing.specs.Refusals.{numberOf, firstOf}
-use Rattle.drawing.specs.Conditions.{differ, tooMany, shortScratch, unfitLine, unfitSegment, unfitExtent, unfitBox, unfitNode, unfitThreshold}
+use Rattle.drawing.specs.Conditions.{differ, tooMany, shortScratch, unfitFields, unfitSegment, unfitExtent, unfitBox, unfitNode, unfitThreshold}
 use Rattle.drawing.specs.Checks.{segmentsDiffer, nodesDiffer, exemptionsDiffer, listConditions, entryConditions}
 use Rattle.boxes.specs.Boxes.{fromNode, fromSegment, nodeBox, segmentBox, union, axisGap, distance}
 use Rattle.clearance.specs.Conditions.{clearanceConditions}
@@ -90,5 +90,5 @@ pub record Marked : Type 0 where
   pub i : measured (segmentColumns [] [] [] [] []) d-nodes d-exemptions zero 0 ≡ report Absent 0 0
 
 pub marked : Marked
-unfolding ofBits toBits add sub lt some-of chosen fold cross rowLe insertBy sortBy lesser least runs settle key keyOf lesserOf greaterOf segmentsOf nodesOf exemptionsOf gapFrom leastGap lesserGap segmentRow nodeRow segmentsInOrder nodesInOrder numberOf firstOf differ tooMany shortScratch unfitLine unfitSegment unfitExtent unfitBox unfitNode unfitThreshold segmentsDiffer nodesDiffer exemptionsDiffer listConditions entryConditions clearanceConditions fromNode fromSegment nodeBox segmentBox union axisGap distance exempt distances violates figures indexed indexedRow indexedInOrder horizontalWider hull boundsOf build treeOf contributes withPair walk walkAll visitCount accepted allPairs clearanceAnswer resultOf
+unfolding ofBits toBits add sub lt some-of chosen fold cross rowLe insertBy sortBy lesser least runs settle key keyOf lesserOf greaterOf segmentsOf nodesOf exemptionsOf gapFrom leastGap lesserGap segmentRow nodeRow segmentsInOrder nodesInOrder numberOf firstOf differ tooMany shortScratch unfitFields unfitSegment unfitExtent unfitBox unfitNode unfitThreshold segmentsDiffer nodesDiffer exemptionsDiffer listConditions entryConditions clearanceConditions fromNode fromSegment nodeBox segmentBox union axisGap distance exempt distances violates figures indexed indexedRow indexedInOrder horizontalWider hull boundsOf build treeOf contributes withPair walk walkAll visitCount accepted allPairs clearanceAnswer resultOf
 marked = record { d = refl; d-sheet = refl; d-at-2 = refl; d-at-1 = refl; pruned = refl; g = refl; h = refl; i = refl }

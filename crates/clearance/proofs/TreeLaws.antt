@@ -19,7 +19,7 @@ use Rattle.drawing.specs.Orders.{nodesInOrder}
 use Rattle.drawing.proofs.ListOrders.{nodes-in-order-perm}
 use Rattle.boxes.specs.declared.aabb.Aabb.{Aabb}
 use Rattle.boxes.specs.Boxes.{union}
-use Rattle.clearance.specs.Tree.{IndexedNode, indexed, indexedRow, indexedInOrder, horizontalWider, hull, Tree, bare, leaf, branch, boundsOf, build, treeOf}
+use Rattle.clearance.specs.Tree.{IndexedNode, indexed, indexedRow, indexedInOrder, horizontalWider, hull, Tree, empty, leaf, branch, boundsOf, build, treeOf}
 use Rattle.drawing.proofs.Fit.{FitNode}
 use Rattle.boxes.specs.Inner.Fitting.{Span, FitBox, Within}
 use Rattle.boxes.proofs.BoxLaws.{le-self, within-self, within-trans, fit-node, fit-union, union-first, union-second, union-least, Alike}
@@ -28,7 +28,7 @@ abbrev pub FitIndexed : IndexedNode → Type 0
 FitIndexed n = FitBox (n .bounds)
 
 unfoldable pub leaves : Tree → List IndexedNode
-leaves bare = []
+leaves empty = []
 leaves (leaf n) = n ∷ []
 leaves (branch b l r) = leaves l ++ leaves r
 
@@ -127,13 +127,13 @@ build-leaves (suc k) (n ∷ m ∷ l) h =
 
 -- ---- the box of every branch holds the nodes below it
 abbrev pub Sound : Tree → Type 0
-Sound bare = Unit {0}
+Sound empty = Unit {0}
 Sound (leaf n) = FitIndexed n
 Sound (branch b l r) = FitBox b × All (In b) (leaves l ++ leaves r) × Sound l × Sound r
 
 pub sound-box : (tree : Tree) → Sound tree → FitBox (boundsOf tree)
 unfolding boundsOf
-sound-box bare h = record { across = nothing; down = nothing }
+sound-box empty h = record { across = nothing; down = nothing }
   where
     nothing : Span plusZero plusZero
     nothing = let z : Fin binary64 plusZero = zero-num binary64 _ in record { low = z; high = z; rising = le-self plusZero z }
@@ -142,7 +142,7 @@ sound-box (branch b l r) h = h .0
 
 pub sound-in : (tree : Tree) → Sound tree → All (In (boundsOf tree)) (leaves tree)
 unfolding boundsOf leaves
-sound-in bare h = tt
+sound-in empty h = tt
 sound-in (leaf n) h = (record { fit = h; within = within-self (n .bounds) h }, tt)
 sound-in (branch b l r) h = h .1
 

@@ -16,7 +16,7 @@ use Rattle.drawing.specs.Orders.{segmentsInOrder, nodesInOrder}
 use Rattle.drawing.proofs.ListOrders.{segments-in-order-perm}
 use Rattle.boxes.specs.Boxes.{segmentBox, union}
 use Rattle.clearance.specs.Figures.{Figures}
-use Rattle.clearance.specs.Tree.{IndexedNode, indexed, Tree, bare, leaf, branch, boundsOf, build, treeOf}
+use Rattle.clearance.specs.Tree.{IndexedNode, indexed, Tree, empty, leaf, branch, boundsOf, build, treeOf}
 use Rattle.clearance.specs.Walk.{contributes, walk, noFigures, walkAll}
 use Rattle.drawing.proofs.Fit.{FitSegment, FitNode}
 use Rattle.boxes.proofs.BoxLaws.{fit-segment, distance-alike}
@@ -29,7 +29,7 @@ joined l r = branch (union (boundsOf l) (boundsOf r)) l r
 
 -- a tree with the box of every branch replaced by the union of its children's boxes: what the code stores
 unfoldable pub rejoined : Tree → Tree
-rejoined bare = bare
+rejoined empty = empty
 rejoined (leaf n) = leaf n
 rejoined (branch b l r) = joined (rejoined l) (rejoined r)
 

@@ -28,14 +28,14 @@ use Rattle.drawing.specs.Gaps.{gapFrom, leastGap, lesserGap}
 use Rattle.drawing.proofs.GapLaws.{gaps-ranked, least-one, least-join, least-gap-perm}
 use Rattle.boxes.specs.Boxes.{segmentBox, distance}
 use Rattle.clearance.specs.Figures.{Figures, exempt}
-use Rattle.clearance.specs.Tree.{Tree, bare, leaf, branch, boundsOf}
+use Rattle.clearance.specs.Tree.{Tree, empty, leaf, branch, boundsOf}
 use Rattle.clearance.specs.Walk.{contributes, withPair, walk}
 use Rattle.drawing.proofs.Fit.{FitSegment}
 use Rattle.boxes.proofs.BoxLaws.{not-below, fit-segment, distance-good, distance-within}
 use Rattle.clearance.proofs.TreeLaws.{leaves, In, Sound, sound-box, sound-in, sound-fit}
 use Rattle.clearance.proofs.Distances.{all-distances, distancesOf, good-distances}
 use Rattle.clearance.proofs.Violations.{under}
-use Rattle.clearance.proofs.WalkSteps.{lower, walk-bare, walk-pruned, walk-leaf, walk-left-first, walk-right-first}
+use Rattle.clearance.proofs.WalkSteps.{lower, walk-empty, walk-pruned, walk-leaf, walk-left-first, walk-right-first}
 
 -- the figures after the distances `seen` and v violations
 abbrev pub sofar : List Float → ℕ → Figures
@@ -119,7 +119,7 @@ module _ (ex : List Exemption) (t : Float) (s : Segment) (q : Num binary64 t) (p
 
   pub walk-figures : (tree : Tree) → Sound tree → (seen : List Float) → All Good seen → (v : ℕ) → walk ex t s tree (sofar seen v) .value ≡ onwards t seen v (distancesOf ex s (leaves tree))
   unfolding leaves chosen boundsOf
-  walk-figures bare h seen k v = ap (λ (c : Charged Figures). c .value) (walk-bare ex t s (sofar seen v)) ∙ sym (onwards-none t seen v)
+  walk-figures empty h seen k v = ap (λ (c : Charged Figures). c .value) (walk-empty ex t s (sofar seen v)) ∙ sym (onwards-none t seen v)
   walk-figures (leaf n) h seen k v = elim (decide (contributes (lower s (leaf n)) t (leastGap seen))) [
     | inr e ↦ walk-stays (leaf n) h seen k v e
     | inl e ↦ ap (λ (c : Charged Figures). c .value) (walk-leaf ex t s n (sofar seen v) e)

@@ -12,7 +12,7 @@ use Rattle.drawing.specs.Entries.{Segment, Exemption}
 use Rattle.boxes.specs.declared.aabb.Aabb.{Aabb}
 use Rattle.boxes.specs.Boxes.{segmentBox, distance}
 use Rattle.clearance.specs.Figures.{Figures, exempt}
-use Rattle.clearance.specs.Tree.{IndexedNode, Tree, bare, leaf, branch, boundsOf}
+use Rattle.clearance.specs.Tree.{IndexedNode, Tree, empty, leaf, branch, boundsOf}
 use Rattle.clearance.specs.Walk.{contributes, withPair, walk}
 
 -- the distance of a segment to a tree's box
@@ -20,13 +20,13 @@ abbrev pub lower : Segment → Tree → Float
 lower s tree = distance (segmentBox s) (boundsOf tree)
 
 module _ (ex : List Exemption) (t : Float) (s : Segment) where
-  pub walk-bare : (g : Figures) → walk ex t s bare g ≡ free g
+  pub walk-empty : (g : Figures) → walk ex t s empty g ≡ free g
   unfolding walk
-  walk-bare g = refl
+  walk-empty g = refl
 
   pub walk-pruned : (tree : Tree) (g : Figures) → contributes (lower s tree) t (g .least) ≡ false → walk ex t s tree g ≡ free g
   unfolding walk boundsOf
-  walk-pruned bare g e = refl
+  walk-pruned empty g e = refl
   walk-pruned (leaf n) g e = rw e
   walk-pruned (branch b l r) g e = rw e
 
@@ -53,7 +53,7 @@ module _ (ex : List Exemption) (t : Float) (s : Segment) where
       (right-first : (b : Aabb) (l r : Tree) (g : Figures) → P r g (walk ex t s r g) → P l (walk ex t s r g .value) (walk ex t s l (walk ex t s r g .value)) → P (branch b l r) g (after (walk ex t s r g) (λ h. walk ex t s l h)))
     where
       pub by-cases : (tree : Tree) (g : Figures) → P tree g (walk ex t s tree g)
-      by-cases bare g = rw (walk-bare g) (pruned bare g)
+      by-cases empty g = rw (walk-empty g) (pruned empty g)
       by-cases (leaf n) g = elim (decide (contributes (lower s (leaf n)) t (g .least))) [
         | inr e ↦ rw (walk-pruned (leaf n) g e) (pruned (leaf n) g)
         | inl e ↦ rw (walk-leaf n g e) (visited n g)

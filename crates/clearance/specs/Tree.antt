@@ -40,15 +40,15 @@ unfoldable pub hull : Aabb → List IndexedNode → Aabb
 hull b [] = b
 hull b (n ∷ l) = hull (union b (n .bounds)) l
 
--- SCOPE 5.1: `bare` is the tree of an empty list, for which the Rust builds none
+-- SCOPE 5.1: `empty` is the tree of an empty list, for which the Rust builds none
 pub data Tree : Type 0 where
-  bare : Tree
+  empty : Tree
   leaf : IndexedNode → Tree
   branch : Aabb → Tree → Tree → Tree
 
--- the box around a tree's nodes; a bare tree has none
+-- the box around a tree's nodes; an empty tree has none
 unfoldable pub boundsOf : Tree → Aabb
-boundsOf bare = record { left = plusZero; top = plusZero; right = plusZero; bottom = plusZero }
+boundsOf empty = record { left = plusZero; top = plusZero; right = plusZero; bottom = plusZero }
 boundsOf (leaf n) = n .bounds
 boundsOf (branch b l r) = b
 
@@ -56,8 +56,8 @@ boundsOf (branch b l r) = b
 -- SCOPE 5.3: the box of a branch is the Rust's `bounds`, the boxes of the list as it arrives, before it is put in order, folded by `union` from the first node's on.
 -- The number bounds the depth: the length of the list is enough.
 unfoldable pub build : ℕ → List IndexedNode → Tree
-build zero l = bare
-build (suc k) [] = bare
+build zero l = empty
+build (suc k) [] = empty
 build (suc k) (n ∷ []) = leaf n
 build (suc k) (n ∷ m ∷ l) =
     let box = hull (n .bounds) (m ∷ l) in

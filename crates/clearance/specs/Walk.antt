@@ -14,7 +14,7 @@ use Rattle.drawing.specs.Gaps.{lesserGap}
 use Rattle.drawing.specs.Orders.{segmentsInOrder}
 use Rattle.boxes.specs.Boxes.{segmentBox, distance}
 use Rattle.clearance.specs.Figures.{Figures, exempt}
-use Rattle.clearance.specs.Tree.{Tree, bare, leaf, branch, boundsOf, treeOf}
+use Rattle.clearance.specs.Tree.{Tree, empty, leaf, branch, boundsOf, treeOf}
 
 -- SCOPE 5.5: `clearance_subtree_can_contribute`: a part whose box is at this distance may still change the figures
 unfoldable pub contributes : Float → Float → Gap → Bool
@@ -30,7 +30,7 @@ withPair false threshold d g = record { least = lesserGap (g .least) (Present d)
 -- SCOPE 5.7: "A leaf costs one visit when reached and not pruned, exempt pairs included."
 -- SCOPE 5.6: "The nearer child is walked first, the left one on a tie": the distances by totalOrder, as the Rust compares them.
 unfoldable pub walk : List Exemption → Float → Segment → Tree → Figures → Charged Figures
-walk ex threshold s bare g = free g
+walk ex threshold s empty g = free g
 walk ex threshold s (leaf n) g =
     let d = distance (segmentBox s) (n .bounds) in
     let visited = visit (free (withPair (exempt ex (s .net) (n .id)) threshold d g)) in

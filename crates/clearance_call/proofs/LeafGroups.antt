@@ -14,8 +14,8 @@ use Rattle.laws.proofs.Parts.{drop-past}
 use Rattle.sorting.specs.Inner.Sorted.{sorted}
 use Rattle.sorting.proofs.Entries.{sorted-perm, sorted-rest, sorted-length}
 use Rattle.clearance_call.specs.Inner.Stored.{leafAt}
-use Rattle.exemptions.specs.Inner.Exempting.{wordAt, Rising, Bound}
-use Rattle.clearance_call.specs.Inner.Marks.{TreeBehind, IdsSorted, LeavesGrouped}
+use Rattle.exemptions.specs.Inner.Exempting.{wordAt, Rising, LowerBound}
+use Rattle.clearance_call.specs.Inner.Marks.{TreeAtEnd, IdsSorted, LeavesGrouped}
 use Rattle.exemptions.proofs.ExemptLaws.{words-sortable, words-rising}
 
 -- the id of leaf j, in the tree that follows 11 words for each of m leaves
@@ -31,12 +31,12 @@ id-read s s₀ m j e =
 -- ---- the ids are written one by one, and put in order
 module _ (s₀ : List ℕ) (m : ℕ) where
   pub record Copying (s : List ℕ) (j : ℕ) : Type 0 where
-    pub lists : TreeBehind s₀ m
+    pub lists : TreeAtEnd s₀ m
     pub same : length s ≡ length s₀
     pub written : (q : ℕ) → q < j → getD s q 0 ≡ idOf s₀ m q
     pub behind : drop m s ≡ drop m s₀
 
-  pub copying-start : TreeBehind s₀ m → Copying s₀ 0
+  pub copying-start : TreeAtEnd s₀ m → Copying s₀ 0
   copying-start h = record { lists = h; same = refl; written = λ q g. absurd (omega arith); behind = refl }
 
   module _ (s : List ℕ) (j : ℕ) (u : Copying s j) where
@@ -72,7 +72,7 @@ module _ (s₀ : List ℕ) (m : ℕ) where
             (z .0, less, sym (getD-take m t (z .0) 0 less) ∙ sym (z .2) ∙ getD-take m s i 0 g ∙ u .written i (omega arith))
 
 -- ---- the groups are found one by one
-bound-keys : (key other : ℕ → ℕ) (a b v r : ℕ) → ((i : ℕ) → i < b → other i ≡ key i) → Bound key a b v r → Bound other a b v r
+bound-keys : (key other : ℕ → ℕ) (a b v r : ℕ) → ((i : ℕ) → i < b → other i ≡ key i) → LowerBound key a b v r → LowerBound other a b v r
 bound-keys key other a b v r same x = record {
   from = x .from;
   to = x .to;
@@ -88,9 +88,9 @@ module _ (s₀ : List ℕ) (m : ℕ) where
     pub rising : Rising s m
     pub tree : drop (11 * m) s ≡ drop (11 * m) s₀
     pub every : (i : ℕ) → i < m → (q : ℕ) × (q < m) × (wordAt s q ≡ idOf s₀ m i)
-    pub written : (i : ℕ) → i < j → Bound (wordAt s) 0 m (idOf s₀ m i) (getD s (m + i) 0)
+    pub written : (i : ℕ) → i < j → LowerBound (wordAt s) 0 m (idOf s₀ m i) (getD s (m + i) 0)
 
-  pub grouping-start : (b : List ℕ) → TreeBehind b m → IdsSorted b s₀ m → length s₀ ≡ length b → Grouping s₀ 0
+  pub grouping-start : (b : List ℕ) → TreeAtEnd b m → IdsSorted b s₀ m → length s₀ ≡ length b → Grouping s₀ 0
   grouping-start b lists ids same = record {
     whole = same ∙ lists .whole;
     few = lists .few;
@@ -101,7 +101,7 @@ module _ (s₀ : List ℕ) (m : ℕ) where
   }
 
   module _ (s : List ℕ) (j : ℕ) (u : Grouping s j) where
-    pub grouping-next : j < m → (v : ℕ) → v ≡ getD s (11 * m + 9 * j + 8) 0 → (g : ℕ) → Bound (wordAt s) 0 m v g → Grouping (set s (m + j) g) (j + 1)
+    pub grouping-next : j < m → (v : ℕ) → v ≡ getD s (11 * m + 9 * j + 8) 0 → (g : ℕ) → LowerBound (wordAt s) 0 m v g → Grouping (set s (m + j) g) (j + 1)
     grouping-next h v e g b = record {
       whole = length-set s (m + j) g ∙ u .whole;
       few = u .few;
@@ -111,9 +111,9 @@ module _ (s₀ : List ℕ) (m : ℕ) where
       written = λ i k. elim (le-or-lt j i) [
         | inl z ↦
             let here : i ≡ j = omega arith in
-            subst (λ (x : ℕ). Bound (wordAt (set s (m + j) g)) 0 m (idOf s₀ m x) (getD (set s (m + j) g) (m + x) 0)) (sym here)
+            subst (λ (x : ℕ). LowerBound (wordAt (set s (m + j) g)) 0 m (idOf s₀ m x) (getD (set s (m + j) g) (m + x) 0)) (sym here)
             (rw (getD-set-same s (m + j) g 0 (omega (arith, u .whole)))
-            (bound-keys (wordAt s) (wordAt (set s (m + j) g)) 0 m (idOf s₀ m j) g keys (subst (λ (x : ℕ). Bound (wordAt s) 0 m x g) (e ∙ id-read s s₀ m j (u .tree)) b)))
+            (bound-keys (wordAt s) (wordAt (set s (m + j) g)) 0 m (idOf s₀ m j) g keys (subst (λ (x : ℕ). LowerBound (wordAt s) 0 m x g) (e ∙ id-read s s₀ m j (u .tree)) b)))
         | inr z ↦
             rw (getD-set-other s (m + j) (m + i) g 0 (λ f. omega arith))
             (bound-keys (wordAt s) (wordAt (set s (m + j) g)) 0 m (idOf s₀ m i) (getD s (m + i) 0) keys (u .written i z))
@@ -124,7 +124,7 @@ module _ (s₀ : List ℕ) (m : ℕ) where
         keys i k = getD-set-other s (m + j) i g 0 (λ f. omega arith)
 
     -- the first index whose word is not below an id that occurs there has that id
-    there : (i v g : ℕ) → Bound (wordAt s) 0 m v g → ((q : ℕ) × (q < m) × (wordAt s q ≡ v)) → (g < m) × (wordAt s g ≡ v)
+    there : (i v g : ℕ) → LowerBound (wordAt s) 0 m v g → ((q : ℕ) × (q < m) × (wordAt s q ≡ v)) → (g < m) × (wordAt s g ≡ v)
     there i v g b z = elim (le-or-lt g (z .0)) [
       | inl h ↦ let less : g < m = omega (arith, z .1) in (less, omega (arith, b .above g (omega arith) less, u .rising .order g (z .0) (omega arith) h (z .1), z .2))
       | inr h ↦ absurd (omega (arith, b .below (z .0) (omega arith) h, z .2))

@@ -20,13 +20,13 @@ use Rattle.laws.proofs.Perms.{perm-length, perm-all, perm-sym, perm-eq, perm-bo
 use Rattle.laws.proofs.Sorting.{sort-perm}
 use Rattle.laws.proofs.Places.{first-at}
 use Rattle.laws.proofs.Parts.{tail-lent, tail-back, drop-past}
-use Rattle.sorting.specs.Inner.Sorted.{before, within, sortable, sorted}
+use Rattle.sorting.specs.Inner.Sorted.{before, hasRow, sortable, sorted}
 use Rattle.sorting.proofs.Entries.{sorted-is}
 use Rattle.drawing.specs.Entries.{NodeColumns}
 use Rattle.boxes.specs.declared.aabb.Aabb.{Aabb}
 use Rattle.boxes.specs.Boxes.{union}
 use Rattle.clearance.specs.Tree.{hull, horizontalWider}
-use Rattle.clearance_call.specs.Inner.LeafOrder.{indexedAt, boxFrom, horizontalPart, along, leafOrder, Places, Buildable}
+use Rattle.clearance_call.specs.Inner.LeafOrder.{indexedAt, boxFrom, horizontalPart, inAxisOrder, leafOrder, Places, Buildable}
 
 -- ---- the box around the nodes at the indices
 pub place-small : (s : List ℕ) (n : ℕ) (c : NodeColumns) → Places s n c → (k : ℕ) → k < n → getD s k 0 < length (c .id)
@@ -62,12 +62,12 @@ order-short zero c kx ky l h = refl
 order-short (suc k) c kx ky l h = rw (lt-ltb (length l) 2 h)
 
 pub order-long : (k : ℕ) (c : NodeColumns) (kx ky l : List ℕ) → 2 ≤ length l
-    → leafOrder (suc k) c kx ky l ≡ leafOrder k c kx ky (take (length l / 2) (along c kx ky l)) ++ leafOrder k c kx ky (drop (length l / 2) (along c kx ky l))
+    → leafOrder (suc k) c kx ky l ≡ leafOrder k c kx ky (take (length l / 2) (inAxisOrder c kx ky l)) ++ leafOrder k c kx ky (drop (length l / 2) (inAxisOrder c kx ky l))
 unfolding leafOrder
 order-long k c kx ky l h = rw (le-ltb (length l) 2 h)
 
-pub along-perm : (c : NodeColumns) (kx ky l : List ℕ) → Perm (along c kx ky l) l
-unfolding along
+pub along-perm : (c : NodeColumns) (kx ky l : List ℕ) → Perm (inAxisOrder c kx ky l) l
+unfolding inAxisOrder
 along-perm c kx ky l = sort-perm (before (cond (horizontalPart c l) kx ky) 5) l
 
 pub order-perm : (k : ℕ) (c : NodeColumns) (kx ky l : List ℕ) → Perm (leafOrder k c kx ky l) l
@@ -75,7 +75,7 @@ order-perm zero c kx ky l = perm-eq (unfold leafOrder in refl)
 order-perm (suc k) c kx ky l = elim (decide (ltb (length l) 2)) [
   | inl t ↦ perm-eq (order-short (suc k) c kx ky l (ltb-true (length l) 2 t))
   | inr f ↦
-      let row = along c kx ky l in
+      let row = inAxisOrder c kx ky l in
       let half = length l / 2 in
       via (perm-eq (order-long k c kx ky l (ltb-false (length l) 2 f)))
       (via (perm-both (order-perm k c kx ky (take half row)) (order-perm k c kx ky (drop half row))) (via (perm-eq (take-append-drop half row)) (along-perm c kx ky l)))
@@ -90,7 +90,7 @@ all-drop P n l h = all-second P (take n l) (drop n l) (subst (All P) (sym (take-
 
 -- the first n words in order along the wider axis
 abbrev pub inLine : List ℕ → ℕ → ℕ → NodeColumns → List ℕ
-inLine s n t c = along c (drop t s) (drop (t + 5 * length (c .id)) s) (take n s)
+inLine s n t c = inAxisOrder c (drop t s) (drop (t + 5 * length (c .id)) s) (take n s)
 
 -- s with its first n words in leaf order
 abbrev pub ordered : ℕ → NodeColumns → ℕ → ℕ → List ℕ → List ℕ
@@ -124,7 +124,7 @@ table-fits h s n t c b = go (cond h t (t + 5 * length (c .id))) (lo h) (hi h)
     go : (table : ℕ) → t ≤ table → table ≤ t + 5 * length (c .id) → sortable s n table 5 ≡ true
     go table f g = unfold sortable in and-both (leb n table) _ (le-leb n table (omega (arith, b .apart)))
         (and-both (leb table (length s)) _ (le-leb table (length s) (omega (arith, b .room)))
-        (all-every (within (drop table s) 5) (take n s) (all-map (λ i q. has-row table i g q) (take n s) (b .places .small))))
+        (all-every (hasRow (drop table s) 5) (take n s) (all-map (λ i q. has-row table i g q) (take n s) (b .places .small))))
 
 module _ (s : List ℕ) (n t : ℕ) (c : NodeColumns) (b : Buildable s n t c) (two : 2 ≤ n) where
   -- which axis is wider follows from the box around the part
@@ -137,7 +137,7 @@ module _ (s : List ℕ) (n t : ℕ) (c : NodeColumns) (b : Buildable s n t c) (t
 
   -- so the sort by that table puts the part in order along it
   pub sorted-part : (s₁ : List ℕ) (box : Aabb) (table : ℕ) → box ≡ boxFrom c (getD s 0 0) (drop 1 (take n s)) → table ≡ cond (horizontalWider box) t (t + 5 * length (c .id)) → s₁ ≡ sorted s n table 5 → s₁ ≡ inLine s n t c ++ drop n s
-  unfolding along
+  unfolding inAxisOrder
   sorted-part s₁ box table x e g =
       let h = horizontalPart c (take n s) in
       g ∙ ap (λ (z : ℕ). sorted s n z 5) (e ∙ ap (λ (z : Bool). cond z t (t + 5 * length (c .id))) (wider-part box x)) ∙ sorted-is s n (cond h t (t + 5 * length (c .id))) 5 (table-fits h s n t c b)

@@ -25,7 +25,7 @@ use Rattle.clearance.specs.Figures.{Figures, exempt}
 use Rattle.clearance.specs.Tree.{boundsOf}
 use Rattle.clearance_call.specs.Inner.Stored.{boxAt, leafAt, storedTree, leavesFrom}
 use Rattle.clearance.specs.Walk.{withPair}
-use Rattle.clearance_call.specs.Inner.Marks.{Marked}
+use Rattle.clearance_call.specs.Inner.Marks.{MarksOf}
 use Rattle.clearance.specs.Inner.State.{soFar, outcomeOf, edgesBelow}
 use Rattle.clearance_call.specs.Inner.Nested.{Nested, TreeBelow, leafVisit}
 use Rattle.clearance_call.specs.Inner.Walking.{Part, Near, NetMarks, Walks}
@@ -36,7 +36,7 @@ use Rattle.clearance_call.proofs.Unpruned.{NumberGap, walk-unpruned}
 use Rattle.clearance_call.proofs.StoredWalk.{near-good, visited-room}
 
 -- ---- a visit by the marks of a net is the visit by its exemptions
-pub by-mark : (marks groups w : List ℕ) (ex : List Exemption) (net : ℕ) → Marked marks groups w ex net → (j : ℕ) → 9 * (j + 1) ≤ length w → (t d : Float) (m : ℕ) (g : Figures) (o : Outcome Figures)
+pub by-mark : (marks groups w : List ℕ) (ex : List Exemption) (net : ℕ) → MarksOf marks groups w ex net → (j : ℕ) → 9 * (j + 1) ≤ length w → (t d : Float) (m : ℕ) (g : Figures) (o : Outcome Figures)
     → o ≡ within m (visit (free (withPair (member marks (getD groups j 0)) t d g))) → o ≡ within m (visit (free (withPair (exempt ex net (leafAt w j .id)) t d g)))
 by-mark marks groups w ex net l j inside t d m g o h = h ∙ ap (λ (b : Bool). within m (visit (free (withPair b t d g)))) (l .leaf j inside)
 
@@ -51,7 +51,7 @@ module _ (t : Float) (w : List ℕ) (i n : ℕ) (p : Aabb) (marks groups : List 
     pub begun : i ≤ j
     pub below : j ≤ i + n
     pub room : state .violations + state .remaining < 2 ^ 64
-    pub onwards : (ex : List Exemption) (net : ℕ) → Marked marks groups w ex net → ComesTo (leafVisit ex t net p) (whole ex net) (leavesFrom w j (i + n - j)) (soFar state) (state .remaining)
+    pub onwards : (ex : List Exemption) (net : ℕ) → MarksOf marks groups w ex net → ComesTo (leafVisit ex t net p) (whole ex net) (leavesFrom w j (i + n - j)) (soFar state) (state .remaining)
 
   pub visiting-none : Part w i n → from .violations + from .remaining < 2 ^ 64 → Visiting from i
   visiting-none part room = record {
@@ -64,7 +64,7 @@ module _ (t : Float) (w : List ℕ) (i n : ℕ) (p : Aabb) (marks groups : List 
 
   module _ (state : Walking) (j : ℕ) (u : Visiting state j) (less : j < i + n) (b : Aabb) (box : b ≡ boxAt w (9 * j)) (d : Float) (e : d ≡ distance p b) (r : Walked)
       (h : outcomeOf r ≡ within (state .remaining) (visit (free (withPair (member marks (getD groups j 0)) t d (soFar state))))) where
-    now-visited : (ex : List Exemption) (net : ℕ) → Marked marks groups w ex net → outcomeOf r ≡ within (state .remaining) (leafVisit ex t net p (soFar state) (leafAt w j))
+    now-visited : (ex : List Exemption) (net : ℕ) → MarksOf marks groups w ex net → outcomeOf r ≡ within (state .remaining) (leafVisit ex t net p (soFar state) (leafAt w j))
     now-visited ex net l = by-mark marks groups w ex net l j (omega (arith, u .part .inside)) t d (state .remaining) (soFar state) (outcomeOf r) h ∙ ap (λ (z : Float). within (state .remaining) (visit (free (withPair (exempt ex net (leafAt w j .id)) t z (soFar state))))) (e ∙ ap (distance p) box)
 
     next : leavesFrom w j (i + n - j) ≡ leafAt w j ∷ leavesFrom w (j + 1) (i + n - (j + 1))
@@ -74,7 +74,7 @@ module _ (t : Float) (w : List ℕ) (i n : ℕ) (p : Aabb) (marks groups : List 
         let place : suc j ≡ j + 1 = omega arith in
         ap (leavesFrom w j) more ∙ ap (λ (z : ℕ). leafAt w j ∷ leavesFrom w z (i + n - (j + 1))) place
 
-    pub visiting-stopped : r ≡ Spent → (ex : List Exemption) (net : ℕ) → Marked marks groups w ex net → outcomeOf Spent ≡ whole ex net
+    pub visiting-stopped : r ≡ Spent → (ex : List Exemption) (net : ℕ) → MarksOf marks groups w ex net → outcomeOf Spent ≡ whole ex net
     unfolding outcomeOf
     visiting-stopped x ex net l = sym (loop-stops (u .onwards ex net l) next (sym (ap outcomeOf (sym x) ∙ now-visited ex net l)))
 
@@ -88,7 +88,7 @@ module _ (t : Float) (w : List ℕ) (i n : ℕ) (p : Aabb) (marks groups : List 
       onwards = λ ex net l. loop-next (u .onwards ex net l) next (sym (ap outcomeOf (sym x) ∙ now-visited ex net l));
     }
 
-  pub visiting-all : (state : Walking) (j : ℕ) → Visiting state j → i + n ≤ j → (ex : List Exemption) (net : ℕ) → Marked marks groups w ex net → outcomeOf (Went state) ≡ whole ex net
+  pub visiting-all : (state : Walking) (j : ℕ) → Visiting state j → i + n ≤ j → (ex : List Exemption) (net : ℕ) → MarksOf marks groups w ex net → outcomeOf (Went state) ≡ whole ex net
   unfolding outcomeOf leavesFrom
   visiting-all state j u h ex net l = let e : i + n - j ≡ 0 = omega arith in sym (loop-ends (u .onwards ex net l) (ap (leavesFrom w j) e))
 

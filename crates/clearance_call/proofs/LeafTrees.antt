@@ -13,7 +13,7 @@ use Rattle.laws.proofs.Perms.{perm-length, perm-all, perm-sym, perm-map}
 use Rattle.sorting.proofs.Entries.{sorted-entries}
 use Rattle.drawing.specs.Entries.{NodeColumns}
 use Rattle.clearance.specs.Tree.{IndexedNode, indexedRow, indexedInOrder, Tree, build}
-use Rattle.clearance_call.specs.Inner.LeafOrder.{indexedAt, boxFrom, horizontalPart, along, leafOrder, treeOver}
+use Rattle.clearance_call.specs.Inner.LeafOrder.{indexedAt, boxFrom, horizontalPart, inAxisOrder, leafOrder, treeOver}
 use Rattle.clearance.proofs.TreeLaws.{FitIndexed}
 use Rattle.clearance.proofs.UnionTrees.{joined, rejoined}
 use Rattle.clearance_call.proofs.LeafOrders.{order-short, order-long, order-perm, along-perm}
@@ -64,8 +64,8 @@ module _ (c : NodeColumns) (kx ky : List ℕ) (tabled : Tabled c kx ky) where
   table-row true i p = tabled .across i p
   table-row false i p = tabled .down i p
 
-  along-nodes : (l : List ℕ) → Small l → Fitting l → map (indexedAt c) (along c kx ky l) ≡ indexedInOrder (horizontalPart c l) (map (indexedAt c) l)
-  unfolding along indexedInOrder
+  along-nodes : (l : List ℕ) → Small l → Fitting l → map (indexedAt c) (inAxisOrder c kx ky l) ≡ indexedInOrder (horizontalPart c l) (map (indexedAt c) l)
+  unfolding inAxisOrder indexedInOrder
   along-nodes l p q =
       let h = horizontalPart c l in
       sorted-entries (cond h kx ky) 5 l (indexedAt c) (indexedRow h) (node-wide h) (λ i m. table-row h i (all-mem (λ i. i < length (c .id)) l p i m)) FitIndexed (row-one h) q
@@ -73,7 +73,7 @@ module _ (c : NodeColumns) (kx ky : List ℕ) (tabled : Tabled c kx ky) where
   -- the halves of a list of indices, as nodes
   module _ (l : List ℕ) (p : Small l) (q : Fitting l) where
     abbrev line : List ℕ
-    line = along c kx ky l
+    line = inAxisOrder c kx ky l
 
     line-small : Small line
     line-small = perm-all (λ i. i < length (c .id)) (perm-sym (along-perm c kx ky l)) p
@@ -105,7 +105,7 @@ module _ (c : NodeColumns) (kx ky : List ℕ) (tabled : Tabled c kx ky) where
     whole = i ∷ j ∷ l
 
     abbrev inLine : List ℕ
-    inLine = along c kx ky whole
+    inLine = inAxisOrder c kx ky whole
 
     abbrev half : ℕ
     half = length whole / 2
@@ -138,7 +138,7 @@ module _ (c : NodeColumns) (kx ky : List ℕ) (tabled : Tabled c kx ky) where
   build-over (suc k) (i ∷ []) h p q = ap (λ (z : List ℕ). treeOver (suc k) (map (indexedAt c) z)) (sym (order-short (suc k) c kx ky (i ∷ []) (omega arith)))
   build-over (suc k) (i ∷ j ∷ l) h p q =
       let w = i ∷ j ∷ l in
-      let A = along c kx ky w in
+      let A = inAxisOrder c kx ky w in
       let n = length w / 2 in
       let len = length-line w p q in
       halves k i j l p q

@@ -14,18 +14,18 @@ use Rattle.drawing.specs.Entries.{Exemption}
 use Rattle.exemptions.specs.declared.Range.{Range}
 use Rattle.clearance.specs.Figures.{exempt}
 use Rattle.clearance_call.specs.Inner.Stored.{leafAt}
-use Rattle.exemptions.specs.Inner.Exempting.{wordAt, nodeOf, Holds, Bound, Own, Listed}
-use Rattle.clearance_call.specs.Inner.Marks.{Grouped, Added, Marked, MarkedFor}
+use Rattle.exemptions.specs.Inner.Exempting.{wordAt, nodeOf, Holds, LowerBound, Own, Listed}
+use Rattle.clearance_call.specs.Inner.Marks.{Grouped, Added, MarksOf, MarksOfWord}
 use Rattle.exemptions.proofs.ExemptLaws.{listed-of, listed, unlisted, none-there}
 
 -- ---- one id: the index that is found is its group, or no leaf has it
-bound-same : {key : ℕ → ℕ} {a b v r s : ℕ} → Bound key a b v r → Bound key a b v s → r ≡ s
+bound-same : {key : ℕ → ℕ} {a b v r s : ℕ} → LowerBound key a b v r → LowerBound key a b v s → r ≡ s
 bound-same {r = r} {s = s} x y = elim (le-or-lt r s) [
   | inl h ↦ elim (le-or-lt s r) [ inl k ↦ omega arith | inr k ↦ absurd (omega (arith, x .above r (omega arith) (omega (arith, y .to)), y .below r (x .from) k)) ]
   | inr h ↦ absurd (omega (arith, y .above s (omega arith) (omega (arith, x .to)), x .below s (y .from) h))
 ]
 
-module _ (ids : List ℕ) (m id g : ℕ) (b : Bound (wordAt ids) 0 m id g) (marks : List ℕ) where
+module _ (ids : List ℕ) (m id g : ℕ) (b : LowerBound (wordAt ids) 0 m id g) (marks : List ℕ) where
   pub added-none : (g < m → wordAt ids g ≡ id → ⊥) → Added ids m id marks marks
   added-none none = record {
     same = refl;
@@ -49,7 +49,7 @@ module _ (packed ids : List ℕ) (m from to : ℕ) where
     pub room : length marks ≡ 64
     pub begun : from ≤ i
     pub end : i ≤ to
-    pub every : (p : ℕ) → from ≤ p → p < i → (g : ℕ) → Bound (wordAt ids) 0 m (nodeOf packed p) g → g < m → wordAt ids g ≡ nodeOf packed p → g / 64 < 64 → member marks g ≡ true
+    pub every : (p : ℕ) → from ≤ p → p < i → (g : ℕ) → LowerBound (wordAt ids) 0 m (nodeOf packed p) g → g < m → wordAt ids g ≡ nodeOf packed p → g / 64 < 64 → member marks g ≡ true
     pub only : (g : ℕ) → member marks g ≡ true → (p : ℕ) × (from ≤ p) × (p < i) × (wordAt ids g ≡ nodeOf packed p)
 
   pub net-marking-start : (marks : List ℕ) (n : ℕ) → n ≡ 64 → marks ≡ replicate n 0 → from ≤ to → NetMarking marks from
@@ -68,7 +68,7 @@ module _ (packed ids : List ℕ) (m from to : ℕ) where
     begun = omega (arith, u .begun);
     end = omega arith;
     every = λ p h k g b z e f. elim (le-or-lt i p) [
-      | inl y ↦ let here : p ≡ i = omega arith in a .every g (subst (λ (x : ℕ). Bound (wordAt ids) 0 m (nodeOf packed x) g) here b) z (e ∙ ap (nodeOf packed) here) (omega (arith, u .room))
+      | inl y ↦ let here : p ≡ i = omega arith in a .every g (subst (λ (x : ℕ). LowerBound (wordAt ids) 0 m (nodeOf packed x) g) here b) z (e ∙ ap (nodeOf packed) here) (omega (arith, u .room))
       | inr y ↦ a .kept g (u .every p h y g b z e f)
     ];
     only = λ g h. elim (a .only g h) [ inl k ↦ (let o = u .only g k in (o .0, o .1, omega (arith, o .2), o .3)) | inr k ↦ (i, u .begun, omega arith, k) ];
@@ -95,18 +95,18 @@ module _ (packed ids : List ℕ) (m : ℕ) (r : Range) (marks : List ℕ) (i : �
     not-exempt-else f = unlisted packed ex net r l (leafAt w j .id) (λ p h a e.
         let z = l .places .others p h a in
         let y = b .there j less in
-        clash (member marks g) (u .every p (z .0) (omega arith) g (subst (λ (x : ℕ). Bound (wordAt ids) 0 m x g) (sym e) (b .first j less)) (y .0) (y .1 ∙ sym e) (omega (arith, y .0, b .few))) f)
+        clash (member marks g) (u .every p (z .0) (omega arith) g (subst (λ (x : ℕ). LowerBound (wordAt ids) 0 m x g) (sym e) (b .first j less)) (y .0) (y .1 ∙ sym e) (omega (arith, y .0, b .few))) f)
 
     leaf-marked : member marks g ≡ exempt ex net (leafAt w j .id)
     leaf-marked = elim (decide (member marks g)) [ inl t ↦ t ∙ exempt-where-marked t | inr f ↦ f ∙ not-exempt-else f ]
 
-  pub net-marked : Marked (take 64 marks) groups w ex net
+  pub net-marked : MarksOf (take 64 marks) groups w ex net
   net-marked = record { leaf = λ j h. ap (λ (s : List ℕ). member s (getD groups j 0)) (take-all 64 marks (omega (arith, u .room))) ∙ leaf-marked j (omega (arith, b .whole)) }
 
 -- ---- no group is marked: the net has no exemptions
-pub none-marked : (packed : List ℕ) (k net : ℕ) (r : Range) → Own packed k net r → r .from ≡ r .to → (groups w : List ℕ) (ex : List Exemption) → Holds packed ex → length ex ≡ k → Marked [] groups w ex net
+pub none-marked : (packed : List ℕ) (k net : ℕ) (r : Range) → Own packed k net r → r .from ≡ r .to → (groups w : List ℕ) (ex : List Exemption) → Holds packed ex → length ex ≡ k → MarksOf [] groups w ex net
 none-marked packed k net r own empty groups w ex holds count = record { leaf = λ j inside. member-beyond [] (getD groups j 0) (omega arith) ∙ none-there packed ex net r (listed-of packed k net r own ex holds count) (leafAt w j .id) (omega arith) }
 
 -- ---- the net is the same as before
-pub still-marked : (marks groups w : List ℕ) (ex : List Exemption) (before net : ℕ) → MarkedFor marks groups w ex before → before ≡ net → net < 4294967296 → Marked marks groups w ex net
-still-marked marks groups w ex before net stand e h = subst (Marked marks groups w ex) e (stand (omega arith))
+pub still-marked : (marks groups w : List ℕ) (ex : List Exemption) (before net : ℕ) → MarksOfWord marks groups w ex before → before ≡ net → net < 4294967296 → MarksOf marks groups w ex net
+still-marked marks groups w ex before net stand e h = subst (MarksOf marks groups w ex) e (stand (omega arith))

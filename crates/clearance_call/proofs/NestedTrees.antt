@@ -19,7 +19,7 @@ use Rattle.drawing.proofs.Fit.{FitNode}
 use Rattle.boxes.specs.declared.aabb.Aabb.{Aabb}
 use Rattle.boxes.specs.Inner.Fitting.{FitBox, Within}
 use Rattle.boxes.proofs.BoxLaws.{within-trans, fit-union, union-first, union-second}
-use Rattle.clearance.specs.Tree.{IndexedNode, indexed, Tree, bare, leaf, branch, boundsOf, build, treeOf}
+use Rattle.clearance.specs.Tree.{IndexedNode, indexed, Tree, empty, leaf, branch, boundsOf, build, treeOf}
 use Rattle.clearance_call.specs.Inner.Stored.{boxAt, splitAt, storedTree, leavesFrom}
 use Rattle.clearance.specs.Inner.State.{edgesBelow}
 use Rattle.clearance_call.specs.Inner.Nested.{Nested, TreeBelow}
@@ -93,7 +93,7 @@ module _ (w : List ℕ) (i n : ℕ) (more : 2 ≤ n) (h : Nested (storedTree n w
 -- ---- the tree over fit nodes is such a tree
 pub nested-box : (tree : Tree) → Nested tree → FitBox (boundsOf tree)
 unfolding boundsOf
-nested-box bare h = absurd h
+nested-box empty h = absurd h
 nested-box (leaf n) h = h
 nested-box (branch b l r) h = h .0
 
@@ -120,7 +120,7 @@ nested-tree ns some f = let e = length-map (nodesInOrder ns) indexed ∙ perm-le
 module _ (p q : Aabb) (t : Float) (fp : FitBox p) (fq : FitBox q) (n : Num binary64 t) (z : lt plusZero t ≡ true) (e : edgesBelow p q t ≡ true) where
   pub nested-below : (tree : Tree) → Nested tree → Within (boundsOf tree) q → TreeBelow p t tree
   unfolding boundsOf
-  nested-below bare h w = absurd h
+  nested-below empty h w = absurd h
   nested-below (leaf m) h w = below-within p (m .bounds) q t fp h fq n z w e
   nested-below (branch b l r) h w = (
     below-within p b q t fp (h .0) fq n z w e,

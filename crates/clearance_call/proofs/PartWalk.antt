@@ -29,7 +29,7 @@ use Rattle.clearance.specs.Figures.{Figures}
 use Rattle.clearance.specs.Tree.{Tree}
 use Rattle.clearance_call.specs.Inner.Stored.{storedTree}
 use Rattle.clearance.specs.Walk.{contributes, walk}
-use Rattle.clearance_call.specs.Inner.Marks.{Marked}
+use Rattle.clearance_call.specs.Inner.Marks.{MarksOf}
 use Rattle.clearance_call.specs.Inner.Nested.{Nested}
 use Rattle.clearance.specs.Inner.State.{soFar, outcomeOf}
 use Rattle.clearance_call.specs.Inner.Walking.{Part, Near, Walkable, Halved, NetMarks, Walks, stepOf, Steps}
@@ -126,7 +126,7 @@ module _ (t : Float) (w : List ℕ) (p : Aabb) where
       pub low : top ≤ 12
       pub long : length l ≡ 12
       pub waits : (j : ℕ) → j < top → Waits (getD l j noPart) j
-      pub onwards : (ex : List Exemption) (s : Segment) → Marked marks groups w ex (s .net) → segmentBox s ≡ p → within (state .remaining) (after (walk ex t s (tree part) (soFar state)) (λ f. restWalk ex s l top f)) ≡ within (from .remaining) (walk ex t s (tree whole) (soFar from))
+      pub onwards : (ex : List Exemption) (s : Segment) → MarksOf marks groups w ex (s .net) → segmentBox s ≡ p → within (state .remaining) (after (walk ex t s (tree part) (soFar state)) (λ f. restWalk ex s l top f)) ≡ within (from .remaining) (walk ex t s (tree whole) (soFar from))
 
     pub underway-start : (l : List Subtree) → Walkable w (whole .first) (whole .count) (whole .lower) p from → whole .count ≤ 4096 → length l ≡ 12 → Underway whole from l 0
     unfolding restWalk
@@ -140,24 +140,24 @@ module _ (t : Float) (w : List ℕ) (p : Aabb) where
     }
 
     -- what the whole walk returns, for every bound of the tree's depth
-    answers : (r : Walked) → ((ex : List Exemption) (s : Segment) → Marked marks groups w ex (s .net) → segmentBox s ≡ p → outcomeOf r ≡ within (from .remaining) (walk ex t s (tree whole) (soFar from)))
-        → (ex : List Exemption) (net : ℕ) → Marked marks groups w ex net → Walks ex t w (whole .first) (whole .count) p net from r
+    answers : (r : Walked) → ((ex : List Exemption) (s : Segment) → MarksOf marks groups w ex (s .net) → segmentBox s ≡ p → outcomeOf r ≡ within (from .remaining) (walk ex t s (tree whole) (soFar from)))
+        → (ex : List Exemption) (net : ℕ) → MarksOf marks groups w ex net → Walks ex t w (whole .first) (whole .count) p net from r
     answers r h ex net l s on of k q = h ex s (rw of l) on ∙ ap (λ (z : Tree). within (from .remaining) (walk ex t s z (soFar from))) (stored-same (whole .count) k w (whole .first) (whole .count) (le-refl (whole .count)) q)
 
-    module _ (part : Subtree) (state : Walking) (l : List Subtree) (top : ℕ) (u : Underway part state l top) (q : Step) (h : (ex : List Exemption) (net : ℕ) → Marked marks groups w ex net → Steps ex t w p net part state q) where
+    module _ (part : Subtree) (state : Walking) (l : List Subtree) (top : ℕ) (u : Underway part state l top) (q : Step) (h : (ex : List Exemption) (net : ℕ) → MarksOf marks groups w ex net → Steps ex t w p net part state q) where
       -- the walk of the part, and then those of the others
-      onward-rest-walk : (ex : List Exemption) (s : Segment) → Marked marks groups w ex (s .net) → segmentBox s ≡ p
+      onward-rest-walk : (ex : List Exemption) (s : Segment) → MarksOf marks groups w ex (s .net) → segmentBox s ≡ p
           → onward (within (state .remaining) (walk ex t s (tree part) (soFar state))) (λ g m. within m (restWalk ex s l top g)) ≡ within (from .remaining) (walk ex t s (tree whole) (soFar from))
       onward-rest-walk ex s k on = sym (within-after (state .remaining) (walk ex t s (tree part) (soFar state)) (λ f. restWalk ex s l top f)) ∙ u .onwards ex s k on
 
-      pub underway-stopped : q ≡ Stopped → (ex : List Exemption) (net : ℕ) → Marked marks groups w ex net → Walks ex t w (whole .first) (whole .count) p net from Spent
+      pub underway-stopped : q ≡ Stopped → (ex : List Exemption) (net : ℕ) → MarksOf marks groups w ex net → Walks ex t w (whole .first) (whole .count) p net from Spent
       underway-stopped e = answers Spent (λ ex s k on. onward-stopped _ _ Spent refl ((rw e at h ex (s .net) k) s on refl (part .count) (le-refl (part .count))) ∙ onward-rest-walk ex s k on)
 
       module _ (v : Walking) (e : q ≡ Done v) where
-        went : (ex : List Exemption) (s : Segment) → Marked marks groups w ex (s .net) → segmentBox s ≡ p → within (v .remaining) (restWalk ex s l top (soFar v)) ≡ within (from .remaining) (walk ex t s (tree whole) (soFar from))
+        went : (ex : List Exemption) (s : Segment) → MarksOf marks groups w ex (s .net) → segmentBox s ≡ p → within (v .remaining) (restWalk ex s l top (soFar v)) ≡ within (from .remaining) (walk ex t s (tree whole) (soFar from))
         went ex s k on = onward-went _ (λ g m. within m (restWalk ex s l top g)) (Went v) v refl ((rw e at h ex (s .net) k) s on refl (part .count) (le-refl (part .count))) ∙ onward-rest-walk ex s k on
 
-        pub underway-done : top ≡ 0 → (ex : List Exemption) (net : ℕ) → Marked marks groups w ex net → Walks ex t w (whole .first) (whole .count) p net from (Went v)
+        pub underway-done : top ≡ 0 → (ex : List Exemption) (net : ℕ) → MarksOf marks groups w ex net → Walks ex t w (whole .first) (whole .count) p net from (Went v)
         unfolding restWalk outcomeOf
         underway-done z = answers (Went v) (λ ex s k on. sym (ap (λ (y : ℕ). within (v .remaining) (restWalk ex s l y (soFar v))) z ∙ within-free (v .remaining) (soFar v)) ∙ went ex s k on)
 

@@ -18,8 +18,8 @@ use Rattle.boxes.specs.declared.aabb.Aabb.{Aabb}
 use Rattle.clearance.specs.Tree.{IndexedNode}
 use Rattle.clearance_call.specs.Inner.LeafOrder.{indexedAt, leafOrder, treeOver, Places, Buildable}
 use Rattle.clearance_call.specs.Inner.Tables.{NodesFilled}
-use Rattle.clearance_call.specs.Inner.Stored.{boxAt, leafFrom, leafAt, storedTree, leavesFrom, LeavesPut, SplitsPut, Grown}
-use Rattle.clearance_call.specs.Inner.Marks.{TreeBehind}
+use Rattle.clearance_call.specs.Inner.Stored.{boxAt, leafFrom, leafAt, storedTree, leavesFrom, LeavesPut, SplitsPut, TreeStored}
+use Rattle.clearance_call.specs.Inner.Marks.{TreeAtEnd}
 use Rattle.clearance_call.proofs.LeafOrders.{ordered, order-perm}
 use Rattle.clearance_call.proofs.TableLaws.{all-places}
 
@@ -112,14 +112,14 @@ module _ (c : NodeColumns) (agree : NodesAgree c) where
           back : drop (11 * m) s₅ ≡ e
           back = ap (drop (11 * m)) joined ∙ drop-at (take (11 * m) s₄) e (11 * m) front-long
 
-          pub lists : length (c .id) ≤ 4096 → TreeBehind (putMid (11 * length (c .id)) (length s₄ - 11 * length (c .id)) s₄ e) (length (c .id))
+          pub lists : length (c .id) ≤ 4096 → TreeAtEnd (putMid (11 * length (c .id)) (length s₄ - 11 * length (c .id)) s₄ e) (length (c .id))
           lists few = record {
             whole = ap length joined ∙ length-append (take (11 * m) s₄) e ∙ (let f = splits .len ∙ ap length (tail-lent (11 * m) s₄) ∙ length-drop (11 * m) s₄ in omega (arith, front-long, put .len, filled .same));
             few = few;
           }
 
           -- the tree is unchanged where the words before it become the ids in order and the leaves' groups
-          pub grown : (s₆ : List ℕ) → drop (11 * length (c .id)) s₆ ≡ drop (11 * length (c .id)) (putMid (11 * length (c .id)) (length s₄ - 11 * length (c .id)) s₄ e) → Grown c s₆
+          pub grown : (s₆ : List ℕ) → drop (11 * length (c .id)) s₆ ≡ drop (11 * length (c .id)) (putMid (11 * length (c .id)) (length s₄ - 11 * length (c .id)) s₄ e) → TreeStored c s₆
           grown s₆ same = record {
             tableAcross = drop m s₂;
             tableDown = drop (m + 5 * m) s₂;

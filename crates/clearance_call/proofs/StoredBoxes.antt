@@ -15,7 +15,7 @@ use Rattle.laws.proofs.Tests.{le-or-lt, same-or-not}
 use Rattle.floats.proofs.Rank.{Fin, fin-num}
 use Rattle.boxes.specs.declared.aabb.Aabb.{Aabb}
 use Rattle.boxes.specs.Boxes.{union}
-use Rattle.clearance.specs.Tree.{IndexedNode, bare, leaf, branch, boundsOf}
+use Rattle.clearance.specs.Tree.{IndexedNode, empty, leaf, branch, boundsOf}
 use Rattle.clearance_call.specs.Inner.LeafOrder.{treeOver}
 use Rattle.clearance.proofs.UnionTrees.{joined}
 use Rattle.clearance_call.proofs.LeafTrees.{over, tree-two}
@@ -126,7 +126,7 @@ box-same s r p h =
 leaf-same : (s r : List ℕ) (j : ℕ) → ((q : ℕ) → 9 * j ≤ q → q < 9 * j + 4 → getD r q 0 ≡ getD s q 0) → getD r (9 * j + 8) 0 ≡ getD s (9 * j + 8) 0 → leafAt r j ≡ leafAt s j
 leaf-same s r j h e = let b = box-same s r (9 * j) h in λ i. record { id = e i; bounds = b i }
 
-pub stored-none : (k : ℕ) (w : List ℕ) (i n : ℕ) → n ≡ 0 → storedTree k w i n ≡ bare
+pub stored-none : (k : ℕ) (w : List ℕ) (i n : ℕ) → n ≡ 0 → storedTree k w i n ≡ empty
 unfolding storedTree
 stored-none zero w i n e = refl
 stored-none (suc k) w i n e = rw (eq-eqb n 0 e)

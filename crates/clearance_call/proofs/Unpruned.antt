@@ -27,11 +27,11 @@ use Rattle.boxes.specs.declared.aabb.Aabb.{Aabb}
 use Rattle.boxes.specs.Boxes.{segmentBox, distance}
 use Rattle.boxes.proofs.AnyBoxes.{any-distance-good}
 use Rattle.clearance.specs.Figures.{Figures, exempt}
-use Rattle.clearance.specs.Tree.{IndexedNode, Tree, bare, leaf, branch, boundsOf}
+use Rattle.clearance.specs.Tree.{IndexedNode, Tree, empty, leaf, branch, boundsOf}
 use Rattle.clearance.specs.Walk.{contributes, withPair, walk}
 use Rattle.clearance_call.specs.Inner.Nested.{TreeBelow, leafVisit}
 use Rattle.clearance.proofs.TreeLaws.{leaves}
-use Rattle.clearance.proofs.WalkSteps.{lower, walk-bare, walk-leaf, walk-left-first, walk-right-first}
+use Rattle.clearance.proofs.WalkSteps.{lower, walk-empty, walk-leaf, walk-left-first, walk-right-first}
 
 -- ---- the lesser of a number and two distances, in either order
 module _ (x a b : Float) (p : Num binary64 x) (q : Good a) (r : Good b) where
@@ -133,7 +133,7 @@ module _ (ex : List Exemption) (t : Float) (s : Segment) where
 
   pub walk-unpruned : (tree : Tree) → TreeBelow (segmentBox s) t tree → (g : Figures) → NumberGap (g .least) → walk ex t s tree g ≡ runs (leafVisit ex t (s .net) (segmentBox s)) g (leaves tree)
   unfolding leaves runs boundsOf
-  walk-unpruned bare h g n = walk-bare ex t s g
+  walk-unpruned empty h g n = walk-empty ex t s g
   walk-unpruned (leaf m) h g n = walk-leaf ex t s m g (below-contributes _ t (g .least) h)
   walk-unpruned (branch b l r) h g n =
       let here = below-contributes (distance (segmentBox s) b) t (g .least) (h .0) in

@@ -24,25 +24,25 @@ use Rattle.clearance.specs.Tree.{boundsOf}
 use Rattle.clearance_call.specs.Inner.Stored.{storedTree}
 use Rattle.clearance.specs.Walk.{walk}
 use Rattle.exemptions.specs.Inner.Exempting.{Rising, Holds}
-use Rattle.clearance_call.specs.Inner.Marks.{Marked, MarkedFor}
+use Rattle.clearance_call.specs.Inner.Marks.{MarksOf, MarksOfWord}
 use Rattle.clearance_call.specs.Inner.Nested.{Nested}
 use Rattle.clearance.specs.Inner.State.{soFar, outcomeOf}
-use Rattle.clearance_call.specs.Inner.Walking.{Part, Walkable, Held, InTurns, allWalks}
+use Rattle.clearance_call.specs.Inner.Walking.{Part, Walkable, HoldsCount, SegmentPlaces, allWalks}
 use Rattle.clearance_call.proofs.StoredWalk.{near-box, walk-room}
 
-pub rising-of : (packed : List ℕ) (k : ℕ) → Held packed k → Rising packed k
+pub rising-of : (packed : List ℕ) (k : ℕ) → HoldsCount packed k → Rising packed k
 rising-of packed k h = subst (Rising packed) (h .count) (h .holds .rising)
 
 -- the marks that count, as they are lent
-pub marks-lent : (marks : List ℕ) (n : ℕ) (groups w : List ℕ) (ex : List Exemption) (net : ℕ) → Marked (take n marks) groups w ex net → Marked (midOf 0 (n - 0) marks) groups w ex net
-marks-lent marks n groups w ex net h = let e : n ≡ n - 0 = omega arith in subst (λ (x : ℕ). Marked (take x marks) groups w ex net) e h
+pub marks-lent : (marks : List ℕ) (n : ℕ) (groups w : List ℕ) (ex : List Exemption) (net : ℕ) → MarksOf (take n marks) groups w ex net → MarksOf (midOf 0 (n - 0) marks) groups w ex net
+marks-lent marks n groups w ex net h = let e : n ≡ n - 0 = omega arith in subst (λ (x : ℕ). MarksOf (take x marks) groups w ex net) e h
 
 -- one segment may be walked over the whole tree
 pub walkable-whole : (s : Segment) (w : List ℕ) (m : ℕ) (d : Float) (p b : Aabb) (st : Walking) → Part w 0 m → p ≡ segmentBox s → ((k : ℕ) → m ≤ k → b ≡ boundsOf (storedTree k w 0 m)) → d ≡ distance p b → st .violations + st .remaining < 2 ^ 64
     → FitBox (segmentBox s) → Nested (storedTree m w 0 m) → Walkable w 0 m d p st
 walkable-whole s w m d p b st part box bounds e room fit nested = record { part = part; near = near-box d p b w 0 m e bounds; room = room; segment = s; box = sym box; fit = subst FitBox (sym box) fit; nested = nested }
 
-pub turn-small : (order : List ℕ) (c : SegmentColumns) → InTurns order c → (q : ℕ) → q < length (c .net) → getD order q 0 < length (c .net)
+pub turn-small : (order : List ℕ) (c : SegmentColumns) → SegmentPlaces order c → (q : ℕ) → q < length (c .net) → getD order q 0 < length (c .net)
 turn-small order c p q h = first-at (λ i. i < length (c .net)) 0 (length (c .net)) order (p .inside) (p .small) q h
 
 module _ (t : ℕ → Float) (w : List ℕ) (m : ℕ) (order packed groups : List ℕ) (k : ℕ) (c : SegmentColumns) (allowance : ℕ) where
@@ -54,15 +54,15 @@ module _ (t : ℕ → Float) (w : List ℕ) (m : ℕ) (order packed groups : Lis
 
   -- q segments have been walked: the walks of the others, from this state, have the outcome of all walks
   pub record Turned (state : Walking) (marks : List ℕ) (used marked q : ℕ) : Type 0 where
-    pub turns : InTurns order c
+    pub turns : SegmentPlaces order c
     pub room : state .violations + state .remaining < 2 ^ 64
     pub below : q ≤ length (c .net)
     pub long : length marks ≡ 64
     pub low : used ≤ 64
-    pub stand : (ex : List Exemption) → Holds packed ex → length ex ≡ k → MarkedFor (take used marks) groups w ex marked
+    pub stand : (ex : List Exemption) → Holds packed ex → length ex ≡ k → MarksOfWord (take used marks) groups w ex marked
     pub onwards : (ex : List Exemption) → Holds packed ex → length ex ≡ k → ComesTo (step ex) (within allowance (allWalks ex t w m order c)) (rest q) (soFar state) (state .remaining)
 
-  pub turned-none : InTurns order c → allowance < 2 ^ 64 → (state : Walking) → state .least ≡ nan → state .violations ≡ 0 → state .remaining ≡ allowance → (marks : List ℕ) → length marks ≡ 64 → Turned state marks 0 4294967296 0
+  pub turned-none : SegmentPlaces order c → allowance < 2 ^ 64 → (state : Walking) → state .least ≡ nan → state .violations ≡ 0 → state .remaining ≡ allowance → (marks : List ℕ) → length marks ≡ 64 → Turned state marks 0 4294967296 0
   unfolding gapOfFloat
   turned-none p h state e v l marks long = record { turns = p; room = omega arith; below = omega arith; long = long; low = omega arith; stand = λ ex a b h. absurd (omega arith); onwards = λ ex a b. record { come = λ i. within (l i) (runs (step ex) (record { least = gapOfFloat (e i); violations = v i }) (rest 0)) } }
 
@@ -75,7 +75,7 @@ module _ (t : ℕ → Float) (w : List ℕ) (m : ℕ) (order packed groups : Lis
     unfolding outcomeOf
     turned-stopped x ex a b = sym (loop-stops (u .onwards ex a b) next (sym (ap outcomeOf (sym x) ∙ e ex a b)))
 
-    pub turned-next : Held packed k → (after : List ℕ) (n net : ℕ) → length after ≡ 64 → n ≤ 64 → ((ex : List Exemption) → Holds packed ex → length ex ≡ k → Marked (take n after) groups w ex net) → (v : Walking) → r ≡ Went v → Turned v after n net (q + 1)
+    pub turned-next : HoldsCount packed k → (after : List ℕ) (n net : ℕ) → length after ≡ 64 → n ≤ 64 → ((ex : List Exemption) → Holds packed ex → length ex ≡ k → MarksOf (take n after) groups w ex net) → (v : Walking) → r ≡ Went v → Turned v after n net (q + 1)
     unfolding outcomeOf
     turned-next held after n net long low fresh v x = record {
       turns = u .turns;

@@ -41,16 +41,16 @@ use Rattle.clearance.specs.declared.report.ClearanceAnswer.{ClearanceAnswer}
 use Rattle.clearance.specs.declared.report.ClearanceAnswer.the-variants.{Refused}
 use Rattle.clearance.specs.Conditions.{clearanceConditions}
 use Rattle.clearance.specs.Figures.{Figures}
-use Rattle.clearance.specs.Tree.{indexed, Tree, bare, build, treeOf}
+use Rattle.clearance.specs.Tree.{indexed, Tree, empty, build, treeOf}
 use Rattle.clearance.specs.Walk.{walk, noFigures, walkAll}
 use Rattle.clearance_call.specs.Inner.LeafOrder.{indexedAt}
 use Rattle.clearance_call.specs.Inner.Tables.{SegmentsOrdered}
-use Rattle.clearance_call.specs.Inner.Stored.{storedTree, Grown}
+use Rattle.clearance_call.specs.Inner.Stored.{storedTree, TreeStored}
 use Rattle.clearance_call.specs.Inner.Nested.{Nested}
 use Rattle.exemptions.specs.Inner.Exempting.{Holds, Gathered}
 use Rattle.clearance_call.specs.Inner.Marks.{Grouped}
 use Rattle.clearance.specs.Inner.State.{outcomeOf, atStart, Answers}
-use Rattle.clearance_call.specs.Inner.Walking.{Part, Held, InTurns, allWalks}
+use Rattle.clearance_call.specs.Inner.Walking.{Part, HoldsCount, SegmentPlaces, allWalks}
 use Rattle.clearance.specs.Answer.{accepted, clearanceAnswer}
 use Rattle.drawing.proofs.Fit.{FitSegment, FitNode}
 use Rattle.drawing.specs.Inner.LeastFloats.{gapOfFloat}
@@ -59,7 +59,7 @@ use Rattle.clearance.proofs.Answers.{Lent, passes, fit-call}
 use Rattle.clearance.proofs.WithinAllowance.{reply-within}
 use Rattle.clearance.proofs.TreeLaws.{FitIndexed, indexed-fit}
 use Rattle.exemptions.proofs.ExemptLaws.{exemptions-agree}
-use Rattle.clearance.proofs.WalkSteps.{walk-bare}
+use Rattle.clearance.proofs.WalkSteps.{walk-empty}
 use Rattle.clearance.proofs.UnionTrees.{rejoined, walk-all-rejoined}
 use Rattle.clearance_call.proofs.LeafTrees.{build-over}
 use Rattle.clearance.proofs.NodeOrder.{tree-any-nodes}
@@ -96,14 +96,14 @@ pub nodes-held : (c : NodeColumns) → NodesAgree c → ((i : ℕ) → T (fits b
 nodes-held c a x y w h = all-placed (nodes c) (nodeAt c) (length (c .id)) (length-nodes c a) (nodes-at c a (nodeAt c 0)) NodeHeld (λ i. record { x = x i; y = y i; width = w i; height = h i })
 
 -- ---- no nodes: no tree to walk
-runs-bare : (ex : List Exemption) (t : ℕ → Float) (g : Figures) (ss : List Segment) → runs (λ h s. walk ex (t (s .net)) s bare h) g ss ≡ free g
+runs-empty : (ex : List Exemption) (t : ℕ → Float) (g : Figures) (ss : List Segment) → runs (λ h s. walk ex (t (s .net)) s empty h) g ss ≡ free g
 unfolding runs
-runs-bare ex t g [] = refl
-runs-bare ex t g (s ∷ ss) =
-    let rest = runs-bare ex t g ss in
-    (λ i. after (walk-bare ex (t (s .net)) s g i) (λ h. runs (λ f r. walk ex (t (r .net)) r bare f) h ss)) ∙ (λ i. record { value = rest i .value; cost = 0 + rest i .cost })
+runs-empty ex t g [] = refl
+runs-empty ex t g (s ∷ ss) =
+    let rest = runs-empty ex t g ss in
+    (λ i. after (walk-empty ex (t (s .net)) s g i) (λ h. runs (λ f r. walk ex (t (r .net)) r empty f) h ss)) ∙ (λ i. record { value = rest i .value; cost = 0 + rest i .cost })
 
-no-tree : (ns : List Node) → length ns ≡ 0 → treeOf ns ≡ bare
+no-tree : (ns : List Node) → length ns ≡ 0 → treeOf ns ≡ empty
 unfolding treeOf build
 no-tree ns h = ap (λ (k : ℕ). build k (map indexed (nodesInOrder ns))) h
 
@@ -112,7 +112,7 @@ pub walked-none : (ex : List Exemption) (t : ℕ → Float) (ss : List Segment) 
 unfolding gapOfFloat outcomeOf walkAll
 walked-none ex t ss n a h allowance state e =
     let tree = no-tree (nodes n) (length-nodes n a ∙ h) in
-    rw e (sym (ap (within allowance) (ap (λ (z : Tree). runs (λ g s. walk ex (t (s .net)) s z g) noFigures (segmentsInOrder ss)) tree ∙ runs-bare ex t noFigures (segmentsInOrder ss)) ∙ within-free allowance noFigures))
+    rw e (sym (ap (within allowance) (ap (λ (z : Tree). runs (λ g s. walk ex (t (s .net)) s z g) noFigures (segmentsInOrder ss)) tree ∙ runs-empty ex t noFigures (segmentsInOrder ss)) ∙ within-free allowance noFigures))
 
 -- ---- no segments: nothing to walk
 no-entries : {A : Type 0} (l : List A) → length l ≡ 0 → l ≡ []
@@ -130,7 +130,7 @@ walked-no-segment ex t s ns a h allowance state e =
 nodes-placed : (n : NodeColumns) → NodesAgree n → map (indexedAt n) (upTo (length (n .id))) ≡ map indexed (nodes n)
 nodes-placed n a = sym (map-map indexed (nodeAt n) (upTo (length (n .id)))) ∙ ap (map indexed) (upTo-placed (nodes n) (nodeAt n) (length (n .id)) (length-nodes n a) (nodes-at n a (nodeAt n 0)))
 
-pub grown-tree : (n : NodeColumns) (g : List ℕ) → NodesAgree n → All FitNode (nodes n) → Grown n g → storedTree (length (n .id)) (drop (11 * length (n .id)) g) 0 (length (n .id)) ≡ rejoined (treeOf (nodes n))
+pub grown-tree : (n : NodeColumns) (g : List ℕ) → NodesAgree n → All FitNode (nodes n) → TreeStored n g → storedTree (length (n .id)) (drop (11 * length (n .id)) g) 0 (length (n .id)) ≡ rejoined (treeOf (nodes n))
 grown-tree n g a f w =
     let m = length (n .id) in
     let fitting : All FitIndexed (map (indexedAt n) (upTo m)) = subst (All FitIndexed) (sym (nodes-placed n a)) (indexed-fit (nodes n) f) in
@@ -208,7 +208,7 @@ module _ (s : SegmentColumns) (n : NodeColumns) (e : ExemptionColumns) (words : 
         ∙ ap (take (length (s .net))) (take-put first (last - first) s₁ g (omega (arith, inside)))
         ∙ take-take (length (s .net)) first s₁ (omega arith)
 
-    pub in-turns : All FitSegment (segments s) → InTurns (midOf 0 (length s₂ - 0) s₂) s
+    pub in-turns : All FitSegment (segments s) → SegmentPlaces (midOf 0 (length s₂ - 0) s₂) s
     in-turns fs = record {
       agree = z .segments;
       inside = rw (tail-lent 0 s₂) (let a = all-long in omega (arith, z .room));
@@ -217,12 +217,12 @@ module _ (s : SegmentColumns) (n : NodeColumns) (e : ExemptionColumns) (words : 
     }
 
     -- the box of a branch holds the boxes below it
-    pub tree-nested : All FitNode (nodes n) → Grown n g → 1 ≤ m → Nested (storedTree m tree 0 m)
+    pub tree-nested : All FitNode (nodes n) → TreeStored n g → 1 ≤ m → Nested (storedTree m tree 0 m)
     tree-nested f w h =
         let e = length-nodes n (z .nodes) in
         subst Nested (sym (ap (λ (l : List ℕ). storedTree m l 0 m) tree-words ∙ grown-tree n g (z .nodes) f w)) (nested-tree (nodes n) (omega arith) f)
 
-    pub walked-all : (t : ℕ → Float) (packed p₀ : List ℕ) → Gathered e p₀ packed → All FitSegment (segments s) → All FitNode (nodes n) → Grown n g → (allowance : ℕ) (r : Walked)
+    pub walked-all : (t : ℕ → Float) (packed p₀ : List ℕ) → Gathered e p₀ packed → All FitSegment (segments s) → All FitNode (nodes n) → TreeStored n g → (allowance : ℕ) (r : Walked)
         → ((ex : List Exemption) → Holds packed ex → length ex ≡ length (e .net) → outcomeOf r ≡ within allowance (allWalks ex t tree m (midOf 0 (length s₂ - 0) s₂) s))
         → outcomeOf r ≡ within allowance (walkAll (exemptions e) t (segments s) (nodes n))
     walked-all t packed p₀ gathered fs f w allowance r h =
@@ -233,7 +233,7 @@ module _ (s : SegmentColumns) (n : NodeColumns) (e : ExemptionColumns) (words : 
         ∙ (λ i. within allowance (runs (λ a b. walk ex (t (b .net)) b (grown i) a) noFigures (line i)))
         ∙ ap (within allowance) (walk-all-rejoined ex t (nodes n) f (segments s) fs)
 
-pub held-of : (e : ExemptionColumns) (p₀ packed : List ℕ) → Gathered e p₀ packed → Held packed (length (e .net))
+pub held-of : (e : ExemptionColumns) (p₀ packed : List ℕ) → Gathered e p₀ packed → HoldsCount packed (length (e .net))
 held-of e p₀ packed g = record { ex = exemptions e; holds = g .holds; count = g .count }
 
 -- ---- the call

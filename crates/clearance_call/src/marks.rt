@@ -7,13 +7,13 @@ ghost use lib.ListN.{length, getD, take};
 ghost use Rattle.bitset.specs.Inner.Members.{member};
 ghost use Rattle.drawing.specs.Entries.{Exemption};
 ghost use Rattle.exemptions.specs.Inner.Exempting.{Rising, Holds};
-ghost use Rattle.clearance_call.specs.Inner.Marks.{TreeBehind, IdsSorted, LeavesGrouped, Grouped, Added, Marked, MarkedFor};
+ghost use Rattle.clearance_call.specs.Inner.Marks.{TreeAtEnd, IdsSorted, LeavesGrouped, Grouped, Added, MarksOf, MarksOfWord};
 use bitset::contains;
 use bitset::insert;
 use drawing::clear;
 use exemptions::HALF;
 use exemptions::first_at_least;
-use exemptions::range_of;
+use exemptions::net_range;
 use sorting::sort_indices;
 
 // Words of marks, for 4,096 leaves.
@@ -21,7 +21,7 @@ pub(crate) const MARK_WORDS: usize = 64;
 
 // Puts the ids of the m leaves in ascending order, in the first words of s. The tree follows 11 words for each leaf.
 fn sort_ids(s: &mut [u64], m: usize)
-    requires { ⌜ TreeBehind (now s) m ⌝ }
+    requires { ⌜ TreeAtEnd (now s) m ⌝ }
     ensures { λ _. ⌜ IdsSorted (now (s .entry)) (now (s .exit)) m ⌝ }
 {
     let mut j = 0;
@@ -34,7 +34,7 @@ fn sort_ids(s: &mut [u64], m: usize)
 
 // Puts the ids in order and, after them, the groups of the leaves. Without exemptions nothing is marked, and neither is needed.
 pub(crate) fn group_leaves(s: &mut [u64], m: usize, exemptions: usize)
-    requires { ⌜ TreeBehind (now s) m ⌝ }
+    requires { ⌜ TreeAtEnd (now s) m ⌝ }
     ensures { λ _. ⌜ LeavesGrouped (now (s .entry)) (now (s .exit)) m exemptions ⌝ }
 {
     if exemptions == 0 {
@@ -67,9 +67,9 @@ fn mark_id(marks: &mut [u64], ids: &[u64], m: usize, id: u32)
 // Makes the marks of a net, and returns how many words of them count. Where the net has no exemptions none do, so no word is cleared, and the walk reads none. The first k words of `packed` are the exemptions.
 fn mark_net(marks: &mut [u64], net: u32, packed: &[u64], k: usize, ids: &[u64], m: usize) -> usize
     requires { ⌜ (length (now marks) ≡ 64) × Rising (now packed) k × (0 < k → Rising (now ids) m) ⌝ }
-    ensures { λ r. ⌜ (r ≤ 64) × ((ex : List Exemption) (groups w : List ℕ) → Holds (now (packed .entry)) ex → length ex ≡ k → (0 < k → Grouped (now (ids .entry)) groups w m) → Marked (take r (now (marks .exit))) groups w ex net) ⌝ }
+    ensures { λ r. ⌜ (r ≤ 64) × ((ex : List Exemption) (groups w : List ℕ) → Holds (now (packed .entry)) ex → length ex ≡ k → (0 < k → Grouped (now (ids .entry)) groups w m) → MarksOf (take r (now (marks .exit))) groups w ex net) ⌝ }
 {
-    let range = range_of(packed, k, net);
+    let range = net_range(packed, k, net);
     let from = range.from;
     let to = range.to;
     if from == to {
@@ -97,7 +97,7 @@ pub(crate) fn renew_marks(
 ) -> usize
     requires { ⌜ (length (now marks) ≡ 64) × Rising (now packed) k × (0 < k → Rising (now ids) m) ⌝ }
     requires { ⌜ used ≤ 64 ⌝ }
-    ensures { λ r. ⌜ (r ≤ 64) × ((ex : List Exemption) (groups w : List ℕ) → Holds (now (packed .entry)) ex → length ex ≡ k → (0 < k → Grouped (now (ids .entry)) groups w m) → MarkedFor (take used (now (marks .entry))) groups w ex marked → Marked (take r (now (marks .exit))) groups w ex net) ⌝ }
+    ensures { λ r. ⌜ (r ≤ 64) × ((ex : List Exemption) (groups w : List ℕ) → Holds (now (packed .entry)) ex → length ex ≡ k → (0 < k → Grouped (now (ids .entry)) groups w m) → MarksOfWord (take used (now (marks .entry))) groups w ex marked → MarksOf (take r (now (marks .exit))) groups w ex net) ⌝ }
 {
     if marked == net as u64 {
         return used;

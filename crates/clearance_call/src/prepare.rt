@@ -4,7 +4,7 @@ ghost use Prim.Native.Nat.{_*_, _≤_, _<_};
 ghost use lib.ListN.{length, drop};
 ghost use Rattle.drawing.specs.Entries.{nodeColumns};
 ghost use Rattle.drawing.specs.Inner.Lengths.{NodesAgree};
-ghost use Rattle.clearance_call.specs.Inner.Stored.{Grown};
+ghost use Rattle.clearance_call.specs.Inner.Stored.{TreeStored};
 ghost use Rattle.clearance_call.specs.Inner.Marks.{Grouped};
 use crate::marks::group_leaves;
 use crate::order::build_clearance_bvh;
@@ -23,7 +23,7 @@ pub(crate) fn prepare_nodes(
     exemptions: usize,
 )
     requires { ⌜ NodesAgree (nodeColumns (now id) (now x) (now y) (now width) (now height)) × (1 ≤ length (now id)) × (length (now id) ≤ 4096) × (length (now s) ≡ 20 * length (now id)) ⌝ }
-    ensures { λ _. ⌜ Grown (nodeColumns (now (id .entry)) (now (x .entry)) (now (y .entry)) (now (width .entry)) (now (height .entry))) (now (s .exit)) ⌝ }
+    ensures { λ _. ⌜ TreeStored (nodeColumns (now (id .entry)) (now (x .entry)) (now (y .entry)) (now (width .entry)) (now (height .entry))) (now (s .exit)) ⌝ }
     ensures { λ _. ⌜ (0 < exemptions → Grouped (now (s .exit)) (drop (length (now (id .entry))) (now (s .exit))) (drop (11 * length (now (id .entry))) (now (s .exit))) (length (now (id .entry)))) ⌝ }
 {
     let m = id.len();

@@ -16,7 +16,7 @@ ghost use Rattle.clearance.specs.Walk.{withPair};
 ghost use Rattle.clearance.specs.Inner.State.{soFar, outcomeOf};
 ghost use Rattle.clearance_call.specs.Inner.Nested.{Nested, TreeBelow, leafVisit};
 ghost use Rattle.clearance_call.specs.Inner.Walking.{Part, Near, Walkable, Halved, NetMarks, Walks, stepOf, Steps};
-ghost use Rattle.clearance_call.specs.Inner.Marks.{Marked};
+ghost use Rattle.clearance_call.specs.Inner.Marks.{MarksOf};
 use crate::marks::is_marked;
 use crate::stored::fit_box_from;
 use boxes::Aabb;
@@ -83,7 +83,7 @@ fn halve(words: &[u64], i: usize, n: usize, bounds: Aabb) -> Halves
 }
 
 // A part with fewer leaves is halved without a test of its farthest edges: it has few branches whose distances could be spared.
-const FEW: usize = 8;
+const EDGE_TEST_LEAVES: usize = 8;
 
 // Whether the n leaves from leaf i on, whose box is at distance `lower`, are known to be nearer than the threshold, by the farthest edges of that box. Then nothing of the part can be pruned, and the distances of its branches need not be computed.
 fn part_below(words: &[u64], i: usize, n: usize, lower: f64, bounds: Aabb, threshold: f64) -> bool
@@ -92,7 +92,7 @@ fn part_below(words: &[u64], i: usize, n: usize, lower: f64, bounds: Aabb, thres
     requires { ⌜ FitBox bounds × Nested (storedTree n (now words) i n) ⌝ }
     ensures { λ r. ⌜ (r ≡ true → (k : ℕ) → n ≤ k → TreeBelow bounds threshold (storedTree k (now (words .entry)) i n)) ⌝ }
 {
-    if n < FEW {
+    if n < EDGE_TEST_LEAVES {
         return false;
     }
     // The box itself is not nearer. After this test the threshold is above a distance, and so above 0, without which `edges_below` implies nothing of the boxes in a part.
@@ -117,7 +117,7 @@ fn visit_leaves(
     requires { ⌜ NetMarks (now marks) (now groups) (now words) ⌝ }
     requires { ⌜ start .violations + start .remaining < 2 ^ 64 ⌝ }
     requires { ⌜ Nested (storedTree n (now words) i n) ⌝ }
-    ensures { λ r. ⌜ ((ex : List Exemption) (net : ℕ) → Marked (now (marks .entry)) (now (groups .entry)) (now (words .entry)) ex net → outcomeOf r ≡ within (start .remaining) (runs (leafVisit ex threshold net bounds) (soFar start) (leavesFrom (now (words .entry)) i n))) ⌝ }
+    ensures { λ r. ⌜ ((ex : List Exemption) (net : ℕ) → MarksOf (now (marks .entry)) (now (groups .entry)) (now (words .entry)) ex net → outcomeOf r ≡ within (start .remaining) (runs (leafVisit ex threshold net bounds) (soFar start) (leavesFrom (now (words .entry)) i n))) ⌝ }
 {
     let mut state = start;
     let mut j = i;
@@ -164,7 +164,7 @@ fn look_at_part(
 ) -> Step
     requires { ⌜ Walkable (now words) (part .first) (part .count) (part .lower) bounds (record { violations = violations; least = least; remaining = remaining }) ⌝ }
     requires { ⌜ NetMarks (now marks) (now groups) (now words) ⌝ }
-    ensures { λ r. ⌜ ((ex : List Exemption) (net : ℕ) → Marked (now (marks .entry)) (now (groups .entry)) (now (words .entry)) ex net → Steps ex threshold (now (words .entry)) bounds net part (record { violations = violations; least = least; remaining = remaining }) r) ⌝ }
+    ensures { λ r. ⌜ ((ex : List Exemption) (net : ℕ) → MarksOf (now (marks .entry)) (now (groups .entry)) (now (words .entry)) ex net → Steps ex threshold (now (words .entry)) bounds net part (record { violations = violations; least = least; remaining = remaining }) r) ⌝ }
 {
     let i = part.first;
     let n = part.count;
@@ -201,7 +201,7 @@ pub(crate) fn visit_segment_candidates(
 ) -> Walked
     requires { ⌜ Walkable (now words) (whole .first) (whole .count) (whole .lower) bounds start × (whole .count ≤ 4096) ⌝ }
     requires { ⌜ NetMarks (now marks) (now groups) (now words) ⌝ }
-    ensures { λ r. ⌜ ((ex : List Exemption) (net : ℕ) → Marked (now (marks .entry)) (now (groups .entry)) (now (words .entry)) ex net → Walks ex threshold (now (words .entry)) (whole .first) (whole .count) bounds net start r) ⌝ }
+    ensures { λ r. ⌜ ((ex : List Exemption) (net : ℕ) → MarksOf (now (marks .entry)) (now (groups .entry)) (now (words .entry)) ex net → Walks ex threshold (now (words .entry)) (whole .first) (whole .count) bounds net start r) ⌝ }
 {
     let mut part = whole;
     let mut state = start;

@@ -11,9 +11,9 @@ ghost use Rattle.clearance_call.specs.Inner.Stored.{storedTree};
 ghost use Rattle.clearance_call.specs.Inner.Nested.{Nested};
 ghost use Rattle.clearance.specs.Walk.{walk};
 ghost use Rattle.exemptions.specs.Inner.Exempting.{Holds};
-ghost use Rattle.clearance_call.specs.Inner.Marks.{Grouped, Marked};
+ghost use Rattle.clearance_call.specs.Inner.Marks.{Grouped, MarksOf};
 ghost use Rattle.clearance.specs.Inner.State.{soFar, outcomeOf};
-ghost use Rattle.clearance_call.specs.Inner.Walking.{Part, NetMarks, Held, InTurns, allWalks};
+ghost use Rattle.clearance_call.specs.Inner.Walking.{Part, NetMarks, HoldsCount, SegmentPlaces, allWalks};
 use crate::marks::MARK_WORDS;
 use crate::marks::renew_marks;
 use crate::walk::bounds_of;
@@ -42,7 +42,7 @@ fn walk_segment(
     requires { ⌜ NetMarks (now marks) (now groups) (now tree) ⌝ }
     requires { ⌜ state .violations + state .remaining < 2 ^ 64 ⌝ }
     requires { ⌜ FitBox (segmentBox (record { net = net; orientation = orientation; fixed = fixed; start = start; end = end })) × Nested (storedTree m (now tree) 0 m) ⌝ }
-    ensures { λ r. ⌜ ((ex : List Exemption) → Marked (now (marks .entry)) (now (groups .entry)) (now (tree .entry)) ex net → outcomeOf r ≡ within (state .remaining) (walk ex threshold (record { net = net; orientation = orientation; fixed = fixed; start = start; end = end }) (storedTree m (now (tree .entry)) 0 m) (soFar state))) ⌝ }
+    ensures { λ r. ⌜ ((ex : List Exemption) → MarksOf (now (marks .entry)) (now (groups .entry)) (now (tree .entry)) ex net → outcomeOf r ≡ within (state .remaining) (walk ex threshold (record { net = net; orientation = orientation; fixed = fixed; start = start; end = end }) (storedTree m (now (tree .entry)) 0 m) (soFar state))) ⌝ }
 {
     let bounds = Aabb::from_segment(orientation == 1, fixed, start, end);
     let whole = Subtree {
@@ -74,8 +74,8 @@ pub(crate) fn walk_all(
     allowance: usize,
 ) -> Walked
     requires { ⌜ Part (now tree) 0 m × (m ≤ 4096) ⌝ }
-    requires { ⌜ InTurns (now order) (segmentColumns (now net) (now orientation) (now fixed) (now start) (now end)) ⌝ }
-    requires { ⌜ Held (now packed) k × (0 < k → Grouped (now ids) (now groups) (now tree) m) × (length (now tree) ≤ 9 * length (now groups)) ⌝ }
+    requires { ⌜ SegmentPlaces (now order) (segmentColumns (now net) (now orientation) (now fixed) (now start) (now end)) ⌝ }
+    requires { ⌜ HoldsCount (now packed) k × (0 < k → Grouped (now ids) (now groups) (now tree) m) × (length (now tree) ≤ 9 * length (now groups)) ⌝ }
     requires { ⌜ Nested (storedTree m (now tree) 0 m) ⌝ }
     ensures { λ r. ⌜ ((ex : List Exemption) → Holds (now (packed .entry)) ex → length ex ≡ k → outcomeOf r ≡ within allowance (allWalks ex (λ _. threshold) (now (tree .entry)) m (now (order .entry)) (segmentColumns (now (net .entry)) (now (orientation .entry)) (now (fixed .entry)) (now (start .entry)) (now (end .entry))))) ⌝ }
 {

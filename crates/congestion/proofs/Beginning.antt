@@ -14,7 +14,7 @@ use Rattle.laws.specs.Inner.Lists.{Pairwise}
 use Rattle.laws.proofs.Perms.{perm-sym, perm-mem}
 use Rattle.laws.proofs.Folds.{Monoid, fold-perm}
 use Rattle.congestion.specs.Wires.{Wire}
-use Rattle.congestion.specs.Walk.{Item, Event, numbered, at, events, inOrder, firstAt, begin}
+use Rattle.congestion.specs.Walk.{Item, WireEvent, numbered, at, wireEvents, inOrder, firstAt, begin}
 use Rattle.congestion.proofs.Sets.{Rising, neighborsIn, congested-same, pairs-same, none-congested, none-paired}
 use Rattle.congestion.proofs.Tracking.{facing, row, rowIn, Tracks}
 use Rattle.congestion.proofs.Moments.{Fit, Pending, event, startKey, endKey, key, activeAt, at-order, head-first}
@@ -51,35 +51,35 @@ fit-numbered l v = record {
 }
 
 -- ---- its events
-has-start : (l : List Item) (i : Item) → Mem i l → Mem (event false i) (events l)
+has-start : (l : List Item) (i : Item) → Mem i l → Mem (event false i) (wireEvents l)
 has-start (x ∷ l) i (inl p) = inr (inl (ap (event false) p))
 has-start (x ∷ l) i (inr m) = inr (inr (has-start l i m))
 
-has-end : (l : List Item) (i : Item) → Mem i l → Mem (event true i) (events l)
+has-end : (l : List Item) (i : Item) → Mem i l → Mem (event true i) (wireEvents l)
 has-end (x ∷ l) i (inl p) = inl (ap (event true) p)
 has-end (x ∷ l) i (inr m) = inr (inr (has-end l i m))
 
 -- a fold over the events in order is one over the items
-pub fold-events : {M : Type 0} {_⊕_ : M → M → M} {u : M} (L : Monoid _⊕_ u) (f : Event → M) (l : List Item) → fold _⊕_ u f (inOrder (events l)) ≡ fold _⊕_ u (λ i. _⊕_ (f (event true i)) (f (event false i))) l
+pub fold-events : {M : Type 0} {_⊕_ : M → M → M} {u : M} (L : Monoid _⊕_ u) (f : WireEvent → M) (l : List Item) → fold _⊕_ u f (inOrder (wireEvents l)) ≡ fold _⊕_ u (λ i. _⊕_ (f (event true i)) (f (event false i))) l
 unfolding fold
-fold-events {_⊕_ = _⊕_} {u = u} L f l = fold-perm L f (in-order-perm (events l)) ∙ go l
+fold-events {_⊕_ = _⊕_} {u = u} L f l = fold-perm L f (in-order-perm (wireEvents l)) ∙ go l
   where
-    go : (l : List Item) → fold _⊕_ u f (events l) ≡ fold _⊕_ u (λ i. _⊕_ (f (event true i)) (f (event false i))) l
+    go : (l : List Item) → fold _⊕_ u f (wireEvents l) ≡ fold _⊕_ u (λ i. _⊕_ (f (event true i)) (f (event false i))) l
     go [] = refl
     go (i ∷ l) = ap (λ z. _⊕_ (f (event true i)) (_⊕_ (f (event false i)) z)) (go l) ∙ sym (L .assoc (f (event true i)) (f (event false i)) (fold _⊕_ u (λ i. _⊕_ (f (event true i)) (f (event false i))) l))
 
 module _ (c : ℕ) (l : List Item) (fit : Fit l) where
-  first-least : (q : List Event) → Pairwise (λ x y. key x < key y) q → ((e : Event) → Mem e q → Mem (e .item) l) → (e : Event) → Mem e q → firstAt q ≤ at e
+  first-least : (q : List WireEvent) → Pairwise (λ x y. key x < key y) q → ((e : WireEvent) → Mem e q → Mem (e .item) l) → (e : WireEvent) → Mem e q → firstAt q ≤ at e
   first-least (x ∷ q) u h e m = at-order x e (fit .small (e .item) (h e m)) (head-first x e q u m)
 
-  listed : (e : Event) → Mem e (events l) → Mem e (inOrder (events l))
-  listed e m = perm-mem e (perm-sym (in-order-perm (events l))) m
+  listed : (e : WireEvent) → Mem e (wireEvents l) → Mem e (inOrder (wireEvents l))
+  listed e m = perm-mem e (perm-sym (in-order-perm (wireEvents l))) m
 
-  pub pending : Pending l 0 (begin l .previous) (inOrder (events l))
+  pub pending : Pending l 0 (begin l .previous) (inOrder (wireEvents l))
   pending = record {
     rising = rising-events l fit;
     from = λ e m. zero-le;
-    past = first-least (inOrder (events l)) (rising-events l fit) (in-list l fit);
+    past = first-least (inOrder (wireEvents l)) (rising-events l fit) (in-list l fit);
     inside = in-list l fit;
     starts = λ i m. inr (listed (event false i) (has-start l i m));
     stops = λ i m. inr (listed (event true i) (has-end l i m));
@@ -105,7 +105,7 @@ module _ (c : ℕ) (l : List Item) (fit : Fit l) where
   pub from-first : (i : Item) → Mem i l → begin l .previous ≤ i .wire .start
   from-first i m = pending .past (event false i) (listed (event false i) (has-start l i m))
 
-  pub at-bound : (hi : ℕ) → ((i : Item) → Mem i l → i .wire .end ≤ hi) → (e : Event) → Mem e (inOrder (events l)) → at e ≤ hi
+  pub at-bound : (hi : ℕ) → ((i : Item) → Mem i l → i .wire .end ≤ hi) → (e : WireEvent) → Mem e (inOrder (wireEvents l)) → at e ≤ hi
   at-bound hi h e m = go (e .ends) (e .item) (in-list l fit e m)
     where
       go : (b : Bool) (i : Item) → Mem i l → at (event b i) ≤ hi

@@ -17,7 +17,7 @@ use Rattle.laws.proofs.Tests.{le-or-lt}
 use Rattle.laws.proofs.Perms.{perm-sym, perm-mem, perm-pairwise}
 use Rattle.laws.proofs.RowLaws.{row-less, row-more, row-next, by-rows}
 use Rattle.laws.proofs.Sorting.{sort-perm, sort-sorted}
-use Rattle.congestion.specs.Walk.{Item, Event, at, eventRow, events, inOrder}
+use Rattle.congestion.specs.Walk.{Item, WireEvent, at, eventRow, wireEvents, inOrder}
 use Rattle.congestion.proofs.Moments.{Fit, event, key, starts-differ, ends-differ, kinds-differ}
 
 -- ---- "(coordinate, 0 for an end and 1 for a start, index)" as one number
@@ -44,10 +44,10 @@ row-number a k n b m p hk hm hn hp = word 8192 a (k * 4096 + n) b (m * 4096 + p)
     alone : (n : ℕ) → n * 1 + 0 ≡ n
     alone n = omega arith
 
-pub key-order : (x y : Event) → x .item .index < 4096 → y .item .index < 4096 → rowLe (eventRow x) (eventRow y) ≡ leb (key x) (key y)
+pub key-order : (x y : WireEvent) → x .item .index < 4096 → y .item .index < 4096 → rowLe (eventRow x) (eventRow y) ≡ leb (key x) (key y)
 key-order x y hx hy = row-number (at x) (kind x) (x .item .index) (at y) (kind y) (y .item .index) (small (x .ends)) (small (y .ends)) hx hy ∙ ap₂ leb (split (x .ends) (x .item)) (split (y .ends) (y .item))
   where
-    kind : Event → ℕ
+    kind : WireEvent → ℕ
     kind e = cond (e .ends) 0 1
 
     small : (b : Bool) → cond b 0 1 ≤ 1
@@ -59,9 +59,9 @@ key-order x y hx hy = row-number (at x) (kind x) (x .item .index) (at y) (kind y
     split false i = omega arith
 
 -- ---- no two events have one key
-pub events-inside : (l : List Item) (e : Event) → Mem e (events l) → Mem (e .item) l
-events-inside (i ∷ l) e (inl p) = inl (ap (λ (z : Event). z .item) p)
-events-inside (i ∷ l) e (inr (inl p)) = inl (ap (λ (z : Event). z .item) p)
+pub events-inside : (l : List Item) (e : WireEvent) → Mem e (wireEvents l) → Mem (e .item) l
+events-inside (i ∷ l) e (inl p) = inl (ap (λ (z : WireEvent). z .item) p)
+events-inside (i ∷ l) e (inr (inl p)) = inl (ap (λ (z : WireEvent). z .item) p)
 events-inside (i ∷ l) e (inr (inr m)) = inr (events-inside l e m)
 
 keys-differ : (b c : Bool) (i j : Item) → i .index < 4096 → j .index < 4096 → i .index < j .index → key (event b i) ≡ key (event c j) → ⊥
@@ -70,27 +70,27 @@ keys-differ true false i j p q r e = kinds-differ (i .wire .end) (i .index) (j .
 keys-differ false true i j p q r e = kinds-differ (j .wire .end) (j .index) (i .wire .start) (i .index) q p (sym e)
 keys-differ false false i j p q r e = starts-differ (i .wire .start) (i .index) (j .wire .start) (j .index) p q (λ z. omega arith) e
 
-distinct : (l : List Item) → Fit l → Pairwise (λ x y. key x ≡ key y → ⊥) (events l)
+distinct : (l : List Item) → Fit l → Pairwise (λ x y. key x ≡ key y → ⊥) (wireEvents l)
 distinct [] f = tt
 distinct (i ∷ l) f = (ends-first, (later false, distinct l (record { rise = f .rise .1; small = λ j m. f .small j (inr m); long = λ j m. f .long j (inr m) })))
   where
-    later : (b : Bool) (y : Event) → Mem y (events l) → key (event b i) ≡ key y → ⊥
+    later : (b : Bool) (y : WireEvent) → Mem y (wireEvents l) → key (event b i) ≡ key y → ⊥
     later b y m = let n = events-inside l y m in keys-differ b (y .ends) i (y .item) (f .small i (inl refl)) (f .small (y .item) (inr n)) (f .rise .0 (y .item) n)
 
-    ends-first : (y : Event) → Mem y (event false i ∷ events l) → key (event true i) ≡ key y → ⊥
+    ends-first : (y : WireEvent) → Mem y (event false i ∷ wireEvents l) → key (event true i) ≡ key y → ⊥
     ends-first y (inl p) e = kinds-differ (i .wire .end) (i .index) (i .wire .start) (i .index) (f .small i (inl refl)) (f .small i (inl refl)) (e ∙ ap key p)
     ends-first y (inr m) e = later true y m e
 
 -- ---- so they come in rising order
-pub in-order-perm : (l : List Event) → Perm (inOrder l) l
+pub in-order-perm : (l : List WireEvent) → Perm (inOrder l) l
 unfolding inOrder
 in-order-perm l = sort-perm (λ a b. rowLe (eventRow a) (eventRow b)) l
 
-pub in-order-sorted : (l : List Event) → Sorted (λ a b. rowLe (eventRow a) (eventRow b)) (inOrder l)
+pub in-order-sorted : (l : List WireEvent) → Sorted (λ a b. rowLe (eventRow a) (eventRow b)) (inOrder l)
 unfolding inOrder
 in-order-sorted l = sort-sorted (λ a b. rowLe (eventRow a) (eventRow b)) (by-rows eventRow) l
 
-rising-of : (q : List Event) → ((e : Event) → Mem e q → e .item .index < 4096) → Sorted (λ a b. rowLe (eventRow a) (eventRow b)) q → Pairwise (λ x y. key x ≡ key y → ⊥) q → Pairwise (λ x y. key x < key y) q
+rising-of : (q : List WireEvent) → ((e : WireEvent) → Mem e q → e .item .index < 4096) → Sorted (λ a b. rowLe (eventRow a) (eventRow b)) q → Pairwise (λ x y. key x ≡ key y → ⊥) q → Pairwise (λ x y. key x < key y) q
 rising-of [] s o d = tt
 rising-of (x ∷ q) s o d = (
   λ y m. strict (key x) (key y) (leb-true (key x) (key y) (sym (key-order x y (s x (inl refl)) (s y (inr m))) ∙ o .0 y m)) (d .0 y m),
@@ -101,8 +101,8 @@ rising-of (x ∷ q) s o d = (
     strict a b h k = omega arith
 
 module _ (l : List Item) (fit : Fit l) where
-  pub in-list : (e : Event) → Mem e (inOrder (events l)) → Mem (e .item) l
-  in-list e m = events-inside l e (perm-mem e (in-order-perm (events l)) m)
+  pub in-list : (e : WireEvent) → Mem e (inOrder (wireEvents l)) → Mem (e .item) l
+  in-list e m = events-inside l e (perm-mem e (in-order-perm (wireEvents l)) m)
 
-  pub rising-events : Pairwise (λ x y. key x < key y) (inOrder (events l))
-  rising-events = rising-of (inOrder (events l)) (λ e m. fit .small (e .item) (in-list e m)) (in-order-sorted (events l)) (perm-pairwise (λ x y h e. h (sym e)) (perm-sym (in-order-perm (events l))) (distinct l fit))
+  pub rising-events : Pairwise (λ x y. key x < key y) (inOrder (wireEvents l))
+  rising-events = rising-of (inOrder (wireEvents l)) (λ e m. fit .small (e .item) (in-list e m)) (in-order-sorted (wireEvents l)) (perm-pairwise (λ x y h e. h (sym e)) (perm-sym (in-order-perm (wireEvents l))) (distinct l fit))

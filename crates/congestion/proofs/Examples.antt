@@ -16,7 +16,7 @@ use Rattle.floats.specs.Grid.{onGrid, steps, unit, ofUnits}
 use Rattle.drawing.specs.Entries.{SegmentColumns, segmentColumns, segmentsOf, segments}
 use Rattle.drawing.specs.Orders.{segmentRow, segmentsInOrder}
 use Rattle.drawing.specs.Refusals.{numberOf, firstOf}
-use Rattle.drawing.specs.Conditions.{differ, tooMany, shortScratch, unfitLine, unfitSegment, unfitCutoff, offGridLine, offGridSegment, offGridCutoff}
+use Rattle.drawing.specs.Conditions.{differ, tooMany, shortScratch, unfitFields, unfitSegment, unfitCutoff, offGridFields, offGridSegment, offGridCutoff}
 use Rattle.drawing.specs.Checks.{segmentsDiffer, segmentConditions}
 use Rattle.drawing.specs.Gaps.{gapFrom, leastGap}
 use Rattle.drawing.specs.declared.gap.Gap.{Gap}
@@ -30,7 +30,7 @@ use Rattle.congestion.specs.Cells.{cellsFrom}
 use Rattle.congestion.specs.Figures.{total, stretches, congested, closeOtherPairs, pairOverlap, peak}
 use Rattle.congestion.specs.Rounded.{closeFloats}
 use Rattle.congestion.specs.Visits.{visitCount}
-use Rattle.congestion.specs.Profile.{lengths, leastNonzero, allPairs}
+use Rattle.congestion.specs.AllPairs.{lengths, leastNonzero, allPairs}
 use Rattle.congestion.specs.Walk.{inOrder, sweep, along, sweepWires, walkAll}
 use Rattle.congestion.specs.Answer.{settled, densityAnswer, profileAnswer, congestionAnswer, zeros, resultOf}
 use Rattle.congestion.specs.Ratio.{clamp, ratio}
@@ -126,5 +126,5 @@ pub record Marked : Type 0 where
   pub one-net : found 384 (flat 1 0 0 320 ∷ flat 1 64 0 320 ∷ []) ≡ gathered 640 0 0 0 none 4
 
 pub marked : Marked
-unfolding ofBits toBits round sub div lt some-of chosen fold pairs rowLe insertBy sortBy lesser least runs settle key keyOf lesserOf greaterOf gapOf absOf onGrid steps unit ofUnits segmentsOf segmentRow segmentsInOrder numberOf firstOf differ tooMany shortScratch unfitLine unfitSegment unfitCutoff offGridLine offGridSegment offGridCutoff segmentsDiffer congestionConditions gapFrom leastGap cutoffOf cellsFrom total stretches congested closeOtherPairs pairOverlap peak lengths leastNonzero closeFloats visitCount allPairs inOrder sweep along sweepWires walkAll settled densityAnswer profileAnswer congestionAnswer resultOf clamp ratio closePairs visits segmentConditions
+unfolding ofBits toBits round sub div lt some-of chosen fold pairs rowLe insertBy sortBy lesser least runs settle key keyOf lesserOf greaterOf gapOf absOf onGrid steps unit ofUnits segmentsOf segmentRow segmentsInOrder numberOf firstOf differ tooMany shortScratch unfitFields unfitSegment unfitCutoff offGridFields offGridSegment offGridCutoff segmentsDiffer congestionConditions gapFrom leastGap cutoffOf cellsFrom total stretches congested closeOtherPairs pairOverlap peak lengths leastNonzero closeFloats visitCount allPairs inOrder sweep along sweepWires walkAll settled densityAnswer profileAnswer congestionAnswer resultOf clamp ratio closePairs visits segmentConditions
 marked = record { D-at-4 = refl; D-at-3 = refl; D-sheet = refl; D-spent = refl; D-profile = refl; D-congestion = refl; D-sweep = refl; D-ratio = refl; gap-equals-cutoff = refl; on-the-grid = refl; off-the-grid = refl; minus-zero = refl; cutoff-zero = refl; cutoff-minus-zero = refl; cutoff-below-zero = refl; empty-list = refl; fork-figures = refl; fork-sweep = refl; stack-figures = refl; stack-sweep = refl; one-net = refl }

@@ -16,7 +16,7 @@ use Rattle.floats.specs.Grid.{onGrid, steps, unit}
 use Rattle.floats.proofs.Units.{lt-units}
 use Rattle.drawing.specs.Entries.{Segment, SegmentColumns, segments}
 use Rattle.drawing.specs.Refusals.{firstOf}
-use Rattle.drawing.specs.Conditions.{unfitSegment, unfitCutoff, offGridLine, offGridSegment, offGridCutoff}
+use Rattle.drawing.specs.Conditions.{unfitSegment, unfitCutoff, offGridFields, offGridSegment, offGridCutoff}
 use Rattle.drawing.specs.Checks.{segmentConditions}
 use Rattle.drawing.specs.Inner.Lengths.{SegmentsAgree}
 use Rattle.drawing.specs.declared.refusal.Refusal.the-variants.{InvalidInput, OffGrid}
@@ -59,7 +59,7 @@ sound-wires l f = record {
 
 -- ---- a drawing that meets no refusal before 7
 fit-segment : (s : Segment) → unfitSegment s ≡ false → offGridSegment s ≡ false → GridSegment s
-unfolding offGridSegment offGridLine
+unfolding offGridSegment offGridFields
 fit-segment s e g =
     let p = not (onGrid (s .fixed)) in
     let q = not (onGrid (s .start)) in

@@ -22,13 +22,13 @@ use Rattle.drawing.specs.Gaps.{gapFrom, leastGap, lesserGap}
 use Rattle.drawing.proofs.GapLaws.{gap-from-lesser}
 use Rattle.congestion.specs.Wires.{Wire, wireOf}
 use Rattle.congestion.specs.Figures.{apart, closeOther}
-use Rattle.congestion.specs.Profile.{gapped, leastNonzero}
-use Rattle.congestion.specs.Walk.{nonzero, gap, gapOfUnits}
-use Rattle.congestion.specs.Inner.Keys.{Held}
+use Rattle.congestion.specs.AllPairs.{gapped, leastNonzero}
+use Rattle.congestion.specs.Walk.{gapUnlessZero, gap, gapOfUnits}
+use Rattle.congestion.specs.Inner.Keys.{Representable}
 use Rattle.congestion.proofs.FoldLaws.{fewest}
 use Rattle.congestion.proofs.Oriented.{leastUnits}
 
-pub held-lesser : (a b : Option ℕ) → Held a → Held b → Held (lesser ltb a b)
+pub held-lesser : (a b : Option ℕ) → Representable a → Representable b → Representable (lesser ltb a b)
 unfolding lesser
 held-lesser none b p q = q
 held-lesser (some a) none p q = p
@@ -38,7 +38,7 @@ held-lesser (some a) (some b) p q = pick (ltb b a)
     pick true = q
     pick false = p
 
-pub held-fold : {A : Type 0} (f : A → Option ℕ) (l : List A) → ((x : A) → Mem x l → Held (f x)) → Held (fold (lesser ltb) none f l)
+pub held-fold : {A : Type 0} (f : A → Option ℕ) (l : List A) → ((x : A) → Mem x l → Representable (f x)) → Representable (fold (lesser ltb) none f l)
 unfolding fold
 held-fold f [] h = tt
 held-fold f (x ∷ l) h = held-lesser (f x) (fold (lesser ltb) none f l) (h x (inl refl)) (held-fold f l (λ y m. h y (inr m)))
@@ -52,7 +52,7 @@ pub lt-units : (a b : ℕ) → a < 2 ^ 53 → b < 2 ^ 53 → lt (ofUnits a) (ofU
 unfolding ofUnits
 lt-units a b p q = lt-lengths (ofUnits a) (ofUnits b) a b (of-units-value false a p) (of-units-value false b q)
 
-lesser-units : (a b : Option ℕ) → Held a → Held b → lesser lt (asFloat a) (asFloat b) ≡ asFloat (lesser ltb a b)
+lesser-units : (a b : Option ℕ) → Representable a → Representable b → lesser lt (asFloat a) (asFloat b) ≡ asFloat (lesser ltb a b)
 unfolding lesser
 lesser-units none b p q = refl
 lesser-units (some a) none p q = refl
@@ -67,7 +67,7 @@ unfolding gapFrom
 present none = refl
 present (some n) = refl
 
-pub lesser-gap : (a b : Option ℕ) → Held a → Held b → lesserGap (gapOfUnits a) (gapOfUnits b) ≡ gapOfUnits (lesser ltb a b)
+pub lesser-gap : (a b : Option ℕ) → Representable a → Representable b → lesserGap (gapOfUnits a) (gapOfUnits b) ≡ gapOfUnits (lesser ltb a b)
 lesser-gap a b p q = sym (ap₂ lesserGap (present a) (present b)) ∙ sym (gap-from-lesser (asFloat a) (asFloat b)) ∙ ap gapFrom (lesser-units a b p q) ∙ present (lesser ltb a b)
 
 -- ---- the least of chosen gaps that are whole numbers of 64ths
@@ -75,10 +75,10 @@ module _ {A : Type 0} (p : A → Bool) (g : A → Float) (n : A → ℕ) where
   abbrev number : A → Option ℕ
   number x = cond (p x) (some (n x)) none
 
-  held-number : (x : A) → n x < 2 ^ 53 → Held (number x)
+  held-number : (x : A) → n x < 2 ^ 53 → Representable (number x)
   held-number x h = go (p x)
     where
-      go : (b : Bool) → Held (cond b (some (n x)) none)
+      go : (b : Bool) → Representable (cond b (some (n x)) none)
       go true = h
       go false = tt
 
@@ -87,7 +87,7 @@ module _ {A : Type 0} (p : A → Bool) (g : A → Float) (n : A → ℕ) where
   least-chosen [] h = refl
   least-chosen (x ∷ l) h = go (p x) (h x (inl refl)) (least-chosen l (λ y m. h y (inr m))) (held-fold number l (λ y m. held-number y (h y (inr m) .1)))
     where
-      go : (b : Bool) → (g x ≡ ofUnits (n x)) × (n x < 2 ^ 53) → least lt (chosen p g l) ≡ asFloat (fold (lesser ltb) none number l) → Held (fold (lesser ltb) none number l)
+      go : (b : Bool) → (g x ≡ ofUnits (n x)) × (n x < 2 ^ 53) → least lt (chosen p g l) ≡ asFloat (fold (lesser ltb) none number l) → Representable (fold (lesser ltb) none number l)
           → least lt (put b (g x) (chosen p g l)) ≡ asFloat (lesser ltb (cond b (some (n x)) none) (fold (lesser ltb) none number l))
       go true e i k = ap₂ (λ (y : Float) (o : Option Float). lesser lt (some y) o) (e .0) i ∙ lesser-units (some (n x)) (fold (lesser ltb) none number l) (e .1) k
       go false e i k = i ∙ ap asFloat (sym (fewest .idl (fold (lesser ltb) none number l)))
@@ -109,18 +109,18 @@ above-zero a b h = lt-lengths plusZero (ofUnits (apart a b)) 0 (apart a b) (refl
 ]
 
 -- a gap that is ignored where it is zero
-pub nonzero-one : (r z : Bool) (n : ℕ) → cond (r && not z) (some n) none ≡ cond r (nonzero z n) none
+pub nonzero-one : (r z : Bool) (n : ℕ) → cond (r && not z) (some n) none ≡ cond r (gapUnlessZero z n) none
 nonzero-one true true n = refl
 nonzero-one true false n = refl
 nonzero-one false z n = refl
 
-pub held-gap : (b z : Bool) (n : ℕ) → n < 2 ^ 53 → Held (cond b (nonzero z n) none)
+pub held-gap : (b z : Bool) (n : ℕ) → n < 2 ^ 53 → Representable (cond b (gapUnlessZero z n) none)
 held-gap true true n h = tt
 held-gap true false n h = h
 held-gap false z n h = tt
 
 -- the gaps of wires on the grid are numbers that floats hold
-pub held-least : (c : ℕ) (l : List Wire) → ((w : Wire) → Mem w l → w .fixed ≤ 134217728) → Held (leastUnits c l)
+pub held-least : (c : ℕ) (l : List Wire) → ((w : Wire) → Mem w l → w .fixed ≤ 134217728) → Representable (leastUnits c l)
 held-least c l low = held-fold (λ p. cond (closeOther c (p .0) (p .1)) (gap (p .0) (p .1)) none) (pairs l) (λ p m. let h = mem-pairs p l m in let a = low (p .0) (h .0) in let b = low (p .1) (h .1) in held-gap (closeOther c (p .0) (p .1)) (eqb (p .0 .fixed) (p .1 .fixed)) (apart (p .0 .fixed) (p .1 .fixed)) (omega arith))
 
 -- ---- the least nonzero gap of a drawing

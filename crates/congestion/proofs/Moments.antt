@@ -13,7 +13,7 @@ use Rattle.laws.specs.Lists.{Mem}
 use Rattle.laws.specs.Inner.Lists.{Pairwise}
 use Rattle.laws.proofs.Tests.{same-test, le-or-lt, or-false}
 use Rattle.congestion.specs.Cells.{covers}
-use Rattle.congestion.specs.Walk.{Item, State, Event, at, same, step}
+use Rattle.congestion.specs.Walk.{Item, State, WireEvent, at, same, step}
 use Rattle.congestion.proofs.Sets.{Rising, same-is}
 use Rattle.congestion.proofs.Tracking.{Tracks, tracks-same, tracks-start, tracks-end}
 
@@ -23,7 +23,7 @@ pub record Fit (l : List Item) : Type 0 where
   pub small : (i : Item) → Mem i l → i .index < 4096
   pub long : (i : Item) → Mem i l → i .wire .start < i .wire .end
 
-abbrev pub event : Bool → Item → Event
+abbrev pub event : Bool → Item → WireEvent
 event b i = record { ends = b; item = i }
 
 -- the order (coordinate, end before start, index) as one number, as there are at most 4,096 indices: all facts about it are then linear
@@ -33,7 +33,7 @@ startKey i = i .wire .start * 8192 + 4096 + i .index
 abbrev pub endKey : Item → ℕ
 endKey i = i .wire .end * 8192 + i .index
 
-abbrev pub key : Event → ℕ
+abbrev pub key : WireEvent → ℕ
 key e = cond (e .ends) (endKey (e .item)) (startKey (e .item))
 
 -- active once all events with a key below t are handled, and no other
@@ -41,11 +41,11 @@ abbrev pub activeAt : ℕ → Item → Bool
 activeAt t i = ltb (startKey i) t && leb t (endKey i)
 
 -- q holds the remaining events of l, in order: those with a key of t or more; p is the last coordinate
-pub record Pending (l : List Item) (t p : ℕ) (q : List Event) : Type 0 where
+pub record Pending (l : List Item) (t p : ℕ) (q : List WireEvent) : Type 0 where
   pub rising : Pairwise (λ x y. key x < key y) q
-  pub from : (e : Event) → Mem e q → t ≤ key e
-  pub past : (e : Event) → Mem e q → p ≤ at e
-  pub inside : (e : Event) → Mem e q → Mem (e .item) l
+  pub from : (e : WireEvent) → Mem e q → t ≤ key e
+  pub past : (e : WireEvent) → Mem e q → p ≤ at e
+  pub inside : (e : WireEvent) → Mem e q → Mem (e .item) l
   pub starts : (i : Item) → Mem i l → (startKey i < t) ⊎ Mem (event false i) q
   pub stops : (i : Item) → Mem i l → (endKey i < t) ⊎ Mem (event true i) q
   pub high : t ≤ (p + 1) * 8192
@@ -59,13 +59,13 @@ key-high : (b : Bool) (i : Item) → i .index < 4096 → key (event b i) < at (e
 key-high true i h = omega arith
 key-high false i h = omega arith
 
-pub at-order : (e x : Event) → x .item .index < 4096 → key e ≤ key x → at e ≤ at x
+pub at-order : (e x : WireEvent) → x .item .index < 4096 → key e ≤ key x → at e ≤ at x
 at-order e x h k = go (at e) (at x) (key e) (key x) (key-low (e .ends) (e .item)) (key-high (x .ends) (x .item) h) k
   where
     go : (a b k l : ℕ) → a * 8192 ≤ k → l < b * 8192 + 8192 → k ≤ l → a ≤ b
     go a b k l p q r = omega arith
 
-pub head-first : (e x : Event) (q : List Event) → Pairwise (λ x y. key x < key y) (e ∷ q) → Mem x (e ∷ q) → key e ≤ key x
+pub head-first : (e x : WireEvent) (q : List WireEvent) → Pairwise (λ x y. key x < key y) (e ∷ q) → Mem x (e ∷ q) → key e ≤ key x
 head-first e x q a (inl p) = le-of-eq (sym (ap key p))
 head-first e x q a (inr m) = le-of-lt (a .0 x m)
 
@@ -98,7 +98,7 @@ below-or-above : (k t : ℕ) → (k ≡ t → ⊥) → (k < t) ⊎ (t + 1 ≤ k)
 below-or-above k t h = elim (le-or-lt t k) [ inl p ↦ inr (omega arith) | inr p ↦ inl p ]
 
 module _ (l : List Item) (fit : Fit l) where
-  module _ (t p : ℕ) (e : Event) (q : List Event) (pe : Pending l t p (e ∷ q)) where
+  module _ (t p : ℕ) (e : WireEvent) (q : List WireEvent) (pe : Pending l t p (e ∷ q)) where
     -- between the last event and this one nothing happens
     next-start : (i : Item) → Mem i l → (startKey i < t) ⊎ (key e ≤ startKey i)
     next-start i m = elim (pe .starts i m) [ inl h ↦ inl h | inr n ↦ inr (head-first e (event false i) q (pe .rising) n) ]
@@ -229,7 +229,7 @@ module _ (l : List Item) (fit : Fit l) where
         (below-or-above (endKey j) (endKey s) (ends-differ (j .wire .end) (j .index) (s .wire .end) (s .index) (fit .small j m) sx (another j h)))))
 
   -- ---- one step
-  pub step-tracks : (c t p : ℕ) (b : Bool) (s : Item) (q : List Event) (st : State) → Pending l t p (event b s ∷ q) → Tracks c l (activeAt t) st → Tracks c l (activeAt (key (event b s) + 1)) (step c st (event b s) .value)
+  pub step-tracks : (c t p : ℕ) (b : Bool) (s : Item) (q : List WireEvent) (st : State) → Pending l t p (event b s ∷ q) → Tracks c l (activeAt t) st → Tracks c l (activeAt (key (event b s) + 1)) (step c st (event b s) .value)
   step-tracks c t p true s q st pe tr =
       let m = item∈ t p (event true s) q pe in
       tracks-end c l (fit .rise) s m (activeAt (endKey s + 1)) (activeAt (endKey s)) (off-after s m) (end-drops s m) (s .wire .end) st (tracks-same c l (activeAt t) (activeAt (endKey s)) st (unchanged t p (event true s) q pe) tr)

@@ -18,7 +18,7 @@ use Rattle.laws.proofs.Folds.{Monoid, plus, greatest, idr, exchange, fold-same,
 use Rattle.congestion.specs.Wires.{Wire}
 use Rattle.congestion.specs.Cells.{cellsFrom, cells, covers}
 use Rattle.congestion.specs.Figures.{apart, near, overlaps, overlap, close, other, closeOther, stretches, congested, closeOtherPairs, pairOverlap, neighborsOn, peak}
-use Rattle.congestion.specs.Walk.{Item, numbered, events, inOrder, inRange, nonzero, gap, begin, sweep}
+use Rattle.congestion.specs.Walk.{Item, numbered, wireEvents, inOrder, inRange, gapUnlessZero, gap, begin, sweep}
 use Rattle.congestion.proofs.UnitVisits.{closePairs}
 use Rattle.congestion.proofs.FoldLaws.{fewest, lesser-same, fold-chosen, sum-const, some-count}
 use Rattle.congestion.proofs.CellLaws.{covers-from, covers-to, is-covered, length-cells, cells-unit, cells-within}
@@ -50,7 +50,7 @@ pub apart-turn : (a b : ℕ) → apart a b ≡ apart b a
 apart-turn a b = ap₂ (λ (m n : ℕ). m - n) (max-comm a b) (min-comm a b)
 
 pub gap-turn : (s t : Wire) → gap s t ≡ gap t s
-gap-turn s t = ap₂ nonzero (eqb-turn (s .fixed) (t .fixed)) (apart-turn (s .fixed) (t .fixed))
+gap-turn s t = ap₂ gapUnlessZero (eqb-turn (s .fixed) (t .fixed)) (apart-turn (s .fixed) (t .fixed))
 
 -- the least nonzero gap of close pairs of different nets, as a number
 abbrev pub leastUnits : ℕ → List Wire → Option ℕ
@@ -127,7 +127,7 @@ module _ (c : ℕ) (L : List Wire) (sound : Sound L) (alike : (s t : Wire) → M
   pub congested-is : sweep c L .value .congestedLength ≡ congested c L
   unfolding sweep congested
   congested-is =
-      run-sum c l fit (congestedIn (facing c) l) (congested-same (facing c) l) (none-congested (facing c) l) (λ st. st .congestedLength) (λ st. st .congestedActive) (λ b s st. elim b [ true ↦ refl | false ↦ refl ]) (λ t st tr. tr .active-is) hi 0 (inOrder (events l)) (begin l) (pending c l fit) (tracks c l fit) (at-bound c l fit hi ended)
+      run-sum c l fit (congestedIn (facing c) l) (congested-same (facing c) l) (none-congested (facing c) l) (λ st. st .congestedLength) (λ st. st .congestedActive) (λ b s st. elim b [ true ↦ refl | false ↦ refl ]) (λ t st tr. tr .active-is) hi 0 (inOrder (wireEvents l)) (begin l) (pending c l fit) (tracks c l fit) (at-bound c l fit hi ended)
       ∙ plus .idl _
       ∙ sym (fold-fold plus (λ i k. bit (on k i && not (eqb (neighborsIn (facing c) l (on k) i) 0))) l (cellsFrom lo (hi - lo)))
       ∙ fold-same plus (λ i. fold _+_ 0 (λ k. bit (on k i && not (eqb (neighborsIn (facing c) l (on k) i) 0))) (cellsFrom lo (hi - lo))) (λ i. stretches c L (i .wire)) l
@@ -145,7 +145,7 @@ module _ (c : ℕ) (L : List Wire) (sound : Sound L) (alike : (s t : Wire) → M
   pub peak-is : sweep c L .value .peakCloseNeighbors ≡ peak c L
   unfolding sweep peak
   peak-is =
-      run-peak c l fit hi ended 0 (inOrder (events l)) (begin l) (pending c l fit) (tracks c l fit)
+      run-peak c l fit hi ended 0 (inOrder (wireEvents l)) (begin l) (pending c l fit) (tracks c l fit)
       ∙ greatest .idl _
       ∙ tops-are (neighborsIn (facing c) l) (neighborsOn c L) neighbors-on-is
 
@@ -193,7 +193,7 @@ module _ (c : ℕ) (L : List Wire) (sound : Sound L) (alike : (s t : Wire) → M
   pub overlap-is : sweep c L .value .pairOverlapLength ≡ pairOverlap c L
   unfolding sweep pairOverlap closeOtherPairs
   overlap-is =
-      run-sum c l fit (pairsIn (facing c) l) (pairs-same (facing c) l) (none-paired (facing c) l) (λ st. st .pairOverlapLength) (λ st. st .closePairs) (λ b s st. elim b [ true ↦ refl | false ↦ refl ]) (λ t st tr. tr .pairs-are) hi 0 (inOrder (events l)) (begin l) (pending c l fit) (tracks c l fit) (at-bound c l fit hi ended)
+      run-sum c l fit (pairsIn (facing c) l) (pairs-same (facing c) l) (none-paired (facing c) l) (λ st. st .pairOverlapLength) (λ st. st .closePairs) (λ b s st. elim b [ true ↦ refl | false ↦ refl ]) (λ t st tr. tr .pairs-are) hi 0 (inOrder (wireEvents l)) (begin l) (pending c l fit) (tracks c l fit) (at-bound c l fit hi ended)
       ∙ plus .idl _
       ∙ sym (fold-fold plus (λ p k. bit (on k (p .0) && (on k (p .1) && facing c (p .0) (p .1)))) (pairs l) (cellsFrom lo (hi - lo)))
       ∙ fold-same plus (λ p. sum (λ k. bit (on k (p .0) && (on k (p .1) && facing c (p .0) (p .1)))) (cellsFrom lo (hi - lo))) (λ p. cond (closeOther c (p .0 .wire) (p .1 .wire)) (overlap (p .0 .wire) (p .1 .wire)) 0) (pairs l)
@@ -213,7 +213,7 @@ module _ (c : ℕ) (L : List Wire) (sound : Sound L) (alike : (s t : Wire) → M
   at-events : {M : Type 0} {_⊕_ : M → M → M} {u : M} (W : Monoid _⊕_ u) (f : ℕ → Item → Item → M) (own : M) (g : Item × Item → M)
       → ((i : Item) → Mem i l → _⊕_ (f (endKey i) i i) (f (startKey i) i i) ≡ own)
       → ((i j : Item) → Mem i l → Mem j l → i .index < j .index → _⊕_ (_⊕_ (f (endKey i) i j) (f (startKey i) i j)) (_⊕_ (f (endKey j) j i) (f (startKey j) j i)) ≡ g (i, j))
-      → fold _⊕_ u (λ e. fold _⊕_ u (f (cond (e .ends) (endKey (e .item)) (startKey (e .item))) (e .item)) l) (inOrder (events l)) ≡ _⊕_ (fold _⊕_ u (λ i. own) l) (fold _⊕_ u g (pairs l))
+      → fold _⊕_ u (λ e. fold _⊕_ u (f (cond (e .ends) (endKey (e .item)) (startKey (e .item))) (e .item)) l) (inOrder (wireEvents l)) ≡ _⊕_ (fold _⊕_ u (λ i. own) l) (fold _⊕_ u g (pairs l))
   at-events {_⊕_ = _⊕_} {u = u} W f own g h k =
       fold-events W (λ e. fold _⊕_ u (f (cond (e .ends) (endKey (e .item)) (startKey (e .item))) (e .item)) l) l
       ∙ fold-same W (λ i. _⊕_ (fold _⊕_ u (f (endKey i) i) l) (fold _⊕_ u (f (startKey i) i) l)) (λ i. fold _⊕_ u (λ j. _⊕_ (f (endKey i) i j) (f (startKey i) i j)) l) l (λ i m. sym (fold-both W (f (endKey i) i) (f (startKey i) i) l))
@@ -229,7 +229,7 @@ module _ (c : ℕ) (L : List Wire) (sound : Sound L) (alike : (s t : Wire) → M
   pub cost-is : 0 < c → sweep c L .cost ≡ length L + 2 * closePairs c L
   unfolding sweep closePairs
   cost-is pos =
-      run-cost c l fit 0 (inOrder (events l)) (begin l) (pending c l fit) (tracks c l fit)
+      run-cost c l fit 0 (inOrder (wireEvents l)) (begin l) (pending c l fit) (tracks c l fit)
       ∙ at-events plus (λ t i j. bit (activeAt t j && inRange c (i .wire) (j .wire))) 1 (λ p. bit (close c (p .0 .wire) (p .1 .wire)) + bit (close c (p .0 .wire) (p .1 .wire))) own pair
       ∙ ap₂ _+_ (sym (fold-numbered plus (λ s. 1) L) ∙ sum-const 1 L ∙ mul-one (length L))
       (fold-both plus (λ p. bit (close c (p .0 .wire) (p .1 .wire))) (λ p. bit (close c (p .0 .wire) (p .1 .wire))) (pairs l)
@@ -259,7 +259,7 @@ module _ (c : ℕ) (L : List Wire) (sound : Sound L) (alike : (s t : Wire) → M
   pub least-is : sweep c L .value .minimumPositive ≡ leastUnits c L
   unfolding sweep lesser
   least-is =
-      run-least c l fit 0 (inOrder (events l)) (begin l) (pending c l fit) (tracks c l fit)
+      run-least c l fit 0 (inOrder (wireEvents l)) (begin l) (pending c l fit) (tracks c l fit)
       ∙ at-events fewest (λ t i j. cond (activeAt t j && facing c i j) (gap (i .wire) (j .wire)) none) none (λ p. cond (closeOther c (p .0 .wire) (p .1 .wire)) (gap (p .0 .wire) (p .1 .wire)) none) own pair
       ∙ ap (λ (z : Option ℕ). lesser ltb z (fold (lesser ltb) none (λ p. cond (closeOther c (p .0 .wire) (p .1 .wire)) (gap (p .0 .wire) (p .1 .wire)) none) (pairs l))) (fold-unit fewest (λ (i : Item). none) l (λ i m. refl))
       ∙ sym (pairs-numbered fewest (λ p. cond (closeOther c (p .0) (p .1)) (gap (p .0) (p .1)) none) L)

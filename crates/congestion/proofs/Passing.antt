@@ -13,13 +13,13 @@ use Rattle.laws.specs.Least.{lesser}
 use Rattle.laws.specs.Charged.{runs}
 use Rattle.laws.proofs.Folds.{plus, idr, fold-append}
 use Rattle.congestion.specs.Cells.{cellsFrom, covers}
-use Rattle.congestion.specs.Walk.{Item, State, Event, at, inRange, visited, neighbor, gap, step}
+use Rattle.congestion.specs.Walk.{Item, State, WireEvent, at, inRange, visited, neighbor, gap, step}
 use Rattle.congestion.proofs.FoldLaws.{fewest, sum-const}
 use Rattle.congestion.proofs.CellLaws.{length-cells, cells-at, cells-same, cells-unit}
 use Rattle.congestion.proofs.Tracking.{facing, Tracks, tracks-same, over-rows}
 use Rattle.congestion.proofs.Moments.{Fit, Pending, event, key, activeAt, unchanged, next, covering, uncovered, step-tracks}
 
-abbrev pub run : ℕ → List Event → State → State
+abbrev pub run : ℕ → List WireEvent → State → State
 run c q st = runs (step c) st q .value
 
 -- the items over a cell
@@ -28,10 +28,10 @@ on k i = covers k (i .wire)
 
 module _ (c : ℕ) (l : List Item) (fit : Fit l) where
   -- ---- the induction over the remaining events
-  pub sweep-ind : (P : ℕ → List Event → State → Type 0)
+  pub sweep-ind : (P : ℕ → List WireEvent → State → Type 0)
       → ((t : ℕ) (st : State) → Pending l t (st .previous) [] → P t [] st)
-      → ((t : ℕ) (b : Bool) (s : Item) (q : List Event) (st : State) → Pending l t (st .previous) (event b s ∷ q) → Tracks c l (activeAt t) st → P (key (event b s) + 1) q (step c st (event b s) .value) → P t (event b s ∷ q) st)
-      → (t : ℕ) (q : List Event) (st : State) → Pending l t (st .previous) q → Tracks c l (activeAt t) st → P t q st
+      → ((t : ℕ) (b : Bool) (s : Item) (q : List WireEvent) (st : State) → Pending l t (st .previous) (event b s ∷ q) → Tracks c l (activeAt t) st → P (key (event b s) + 1) q (step c st (event b s) .value) → P t (event b s ∷ q) st)
+      → (t : ℕ) (q : List WireEvent) (st : State) → Pending l t (st .previous) q → Tracks c l (activeAt t) st → P t q st
   sweep-ind P base more t [] st pe tr = base t st pe
   sweep-ind P base more t (e ∷ q) st pe tr = more t (e .ends) (e .item) q st pe tr (sweep-ind P base more (key e + 1) q (step c st e .value) (moved (e .ends) (e .item) pe) (step-tracks l fit c t (st .previous) (e .ends) (e .item) q st pe tr))
     where
@@ -47,7 +47,7 @@ module _ (c : ℕ) (l : List Item) (fit : Fit l) where
     abbrev over : ℕ → ℕ → ℕ
     over a n = sum (λ k. F (on k)) (cellsFrom a n)
 
-    time : (t p hi : ℕ) (e : Event) (q : List Event) → Pending l t p (e ∷ q) → at e ≤ hi → (a z : ℕ) → a ≡ F (activeAt t) → (z + a * (at e - p)) + over (at e) (hi - at e) ≡ z + over p (hi - p)
+    time : (t p hi : ℕ) (e : WireEvent) (q : List WireEvent) → Pending l t p (e ∷ q) → at e ≤ hi → (a z : ℕ) → a ≡ F (activeAt t) → (z + a * (at e - p)) + over (at e) (hi - at e) ≡ z + over p (hi - p)
     time t p hi e q pe h a z ea =
         let pe1 : p ≤ at e = pe .past e (inl refl) in
         let s1 : over p (at e - p) ≡ a * (at e - p) =
@@ -59,15 +59,15 @@ module _ (c : ℕ) (l : List Item) (fit : Fit l) where
         fin : (w a b d : ℕ) → a ≡ w → d ≡ a + b → (z + w) + b ≡ z + d
         fin w a b d p q = omega arith
 
-    pub run-sum : (hi t : ℕ) (q : List Event) (st : State) → Pending l t (st .previous) q → Tracks c l (activeAt t) st → ((e : Event) → Mem e q → at e ≤ hi) → acc (run c q st) ≡ acc st + over (st .previous) (hi - st .previous)
+    pub run-sum : (hi t : ℕ) (q : List WireEvent) (st : State) → Pending l t (st .previous) q → Tracks c l (activeAt t) st → ((e : WireEvent) → Mem e q → at e ≤ hi) → acc (run c q st) ≡ acc st + over (st .previous) (hi - st .previous)
     unfolding runs
-    run-sum hi = sweep-ind (λ t q st. ((e : Event) → Mem e q → at e ≤ hi) → acc (run c q st) ≡ acc st + over (st .previous) (hi - st .previous))
+    run-sum hi = sweep-ind (λ t q st. ((e : WireEvent) → Mem e q → at e ≤ hi) → acc (run c q st) ≡ acc st + over (st .previous) (hi - st .previous))
         (λ t st pe bound. let z : over (st .previous) (hi - st .previous) ≡ 0 = cells-unit plus (λ k. F (on k)) (st .previous) (hi - st .previous) (λ k x y. F-same (on k) (λ i. false) (λ j m. uncovered l fit t (st .previous) pe k x j m) ∙ F-none) in omega arith)
         more
       where
-        more : (t : ℕ) (b : Bool) (s : Item) (q : List Event) (st : State) → Pending l t (st .previous) (event b s ∷ q) → Tracks c l (activeAt t) st
-            → (((e : Event) → Mem e q → at e ≤ hi) → acc (run c q (step c st (event b s) .value)) ≡ acc (step c st (event b s) .value) + over (step c st (event b s) .value .previous) (hi - step c st (event b s) .value .previous))
-            → ((e : Event) → Mem e (event b s ∷ q) → at e ≤ hi) → acc (run c q (step c st (event b s) .value)) ≡ acc st + over (st .previous) (hi - st .previous)
+        more : (t : ℕ) (b : Bool) (s : Item) (q : List WireEvent) (st : State) → Pending l t (st .previous) (event b s ∷ q) → Tracks c l (activeAt t) st
+            → (((e : WireEvent) → Mem e q → at e ≤ hi) → acc (run c q (step c st (event b s) .value)) ≡ acc (step c st (event b s) .value) + over (step c st (event b s) .value .previous) (hi - step c st (event b s) .value .previous))
+            → ((e : WireEvent) → Mem e (event b s ∷ q) → at e ≤ hi) → acc (run c q (step c st (event b s) .value)) ≡ acc st + over (st .previous) (hi - st .previous)
         more t true s q st pe tr ih bound =
             ih (λ x m. bound x (inr m)) ∙ ap (λ (z : ℕ). z + over (s .wire .end) (hi - s .wire .end)) (grows true s st)
             ∙ time t (st .previous) hi (event true s) q pe (bound (event true s) (inl refl)) (cnt st) (acc st) (counts t st tr)
@@ -76,30 +76,30 @@ module _ (c : ℕ) (l : List Item) (fit : Fit l) where
             ∙ time t (st .previous) hi (event false s) q pe (bound (event false s) (inl refl)) (cnt st) (acc st) (counts t st tr)
 
   -- ---- visits: the active ones in range at each event
-  abbrev pub visitsAt : Event → ℕ
+  abbrev pub visitsAt : WireEvent → ℕ
   visitsAt e = count (λ i. activeAt (key e) i && inRange c (e .item .wire) (i .wire)) l
 
-  pub run-cost : (t : ℕ) (q : List Event) (st : State) → Pending l t (st .previous) q → Tracks c l (activeAt t) st → runs (step c) st q .cost ≡ sum visitsAt q
+  pub run-cost : (t : ℕ) (q : List WireEvent) (st : State) → Pending l t (st .previous) q → Tracks c l (activeAt t) st → runs (step c) st q .cost ≡ sum visitsAt q
   unfolding runs fold
   run-cost = sweep-ind (λ t q st. runs (step c) st q .cost ≡ sum visitsAt q) (λ t st pe. refl)
       (λ t b s q st pe tr ih. ap₂ _+_ (over-rows plus c l (activeAt (key (event b s))) st (tracks-same c l (activeAt t) (activeAt (key (event b s))) st (unchanged l fit t (st .previous) (event b s) q pe) tr) (λ r. bit (visited c (s .wire) r))) ih)
 
   -- ---- the least gap to a neighbor at each event
-  abbrev pub leastAt : Event → Option ℕ
+  abbrev pub leastAt : WireEvent → Option ℕ
   leastAt e = fold (lesser ltb) none (λ i. cond (activeAt (key e) i && facing c (e .item) i) (gap (e .item .wire) (i .wire)) none) l
 
-  pub run-least : (t : ℕ) (q : List Event) (st : State) → Pending l t (st .previous) q → Tracks c l (activeAt t) st → run c q st .minimumPositive ≡ lesser ltb (st .minimumPositive) (fold (lesser ltb) none leastAt q)
+  pub run-least : (t : ℕ) (q : List WireEvent) (st : State) → Pending l t (st .previous) q → Tracks c l (activeAt t) st → run c q st .minimumPositive ≡ lesser ltb (st .minimumPositive) (fold (lesser ltb) none leastAt q)
   unfolding runs fold
   run-least = sweep-ind (λ t q st. run c q st .minimumPositive ≡ lesser ltb (st .minimumPositive) (fold (lesser ltb) none leastAt q)) (λ t st pe. sym (idr fewest (st .minimumPositive))) more
     where
-      here : (t : ℕ) (b : Bool) (s : Item) (q : List Event) (st : State) → Pending l t (st .previous) (event b s ∷ q) → Tracks c l (activeAt t) st
-          → fold (lesser ltb) none (λ r. cond (neighbor c (s .wire) r) (gap (s .wire) (r .item .wire)) none) (st .rows) ≡ leastAt (event b s)
+      here : (t : ℕ) (b : Bool) (s : Item) (q : List WireEvent) (st : State) → Pending l t (st .previous) (event b s ∷ q) → Tracks c l (activeAt t) st
+          → fold (lesser ltb) none (λ r. cond (neighbor c (s .wire) r) (gap (s .wire) (r .item .wire)) none) (st .wires) ≡ leastAt (event b s)
       here t b s q st pe tr = over-rows fewest c l (activeAt (key (event b s))) st (tracks-same c l (activeAt t) (activeAt (key (event b s))) st (unchanged l fit t (st .previous) (event b s) q pe) tr) (λ r. cond (neighbor c (s .wire) r) (gap (s .wire) (r .item .wire)) none)
 
       put : (z a n r : Option ℕ) → a ≡ n → lesser ltb (lesser ltb z a) r ≡ lesser ltb z (lesser ltb n r)
       put z a n r e = fewest .assoc z a r ∙ ap (λ (y : Option ℕ). lesser ltb z (lesser ltb y r)) e
 
-      more : (t : ℕ) (b : Bool) (s : Item) (q : List Event) (st : State) → Pending l t (st .previous) (event b s ∷ q) → Tracks c l (activeAt t) st
+      more : (t : ℕ) (b : Bool) (s : Item) (q : List WireEvent) (st : State) → Pending l t (st .previous) (event b s ∷ q) → Tracks c l (activeAt t) st
           → run c q (step c st (event b s) .value) .minimumPositive ≡ lesser ltb (step c st (event b s) .value .minimumPositive) (fold (lesser ltb) none leastAt q)
           → run c q (step c st (event b s) .value) .minimumPositive ≡ lesser ltb (st .minimumPositive) (lesser ltb (leastAt (event b s)) (fold (lesser ltb) none leastAt q))
       more t true s q st pe tr ih = ih ∙ put (st .minimumPositive) _ (leastAt (event true s)) (fold (lesser ltb) none leastAt q) (here t true s q st pe tr)

@@ -13,7 +13,7 @@ use Rattle.laws.specs.Charged.{runs}
 use Rattle.laws.proofs.Tests.{is-true, of-true, or-left}
 use Rattle.laws.proofs.Folds.{greatest, fold-append, fold-unit, greatest-at-most, at-most-greatest}
 use Rattle.congestion.specs.Cells.{cellsFrom}
-use Rattle.congestion.specs.Walk.{Item, State, Event, at, same, highest, step}
+use Rattle.congestion.specs.Walk.{Item, State, WireEvent, at, same, highest, step}
 use Rattle.congestion.proofs.CellLaws.{is-covered, mem-cells, cells-at, cells-unit}
 use Rattle.congestion.proofs.Sets.{neighborsIn, neighbors-grow}
 use Rattle.congestion.proofs.Tracking.{facing, Tracks, tracks-same, peak-start}
@@ -27,7 +27,7 @@ module _ (l : List Item) (N : (Item → Bool) → Item → ℕ) where
   topIn w = fold max 0 (λ i. cond (w i) (N w i) 0) l
 
   -- the count that an event contributes: the greatest one after a start, 0 at an end
-  abbrev pub metAt : Event → ℕ
+  abbrev pub metAt : WireEvent → ℕ
   metAt e = cond (e .ends) 0 (topIn (activeAt (key e + 1)))
 
   -- the greatest count over the cells from p to hi
@@ -81,7 +81,7 @@ module _ (l : List Item) (fit : Fit l) (N : (Item → Bool) → Item → ℕ) (g
       omega arith
 
   -- an end makes nothing greater
-  no-less : (t p : ℕ) (s : Item) (q : List Event) → Pending l t p (event true s ∷ q) → topIn l N (activeAt (endKey s + 1)) ≤ topIn l N (activeAt t)
+  no-less : (t p : ℕ) (s : Item) (q : List WireEvent) → Pending l t p (event true s ∷ q) → topIn l N (activeAt (endKey s + 1)) ≤ topIn l N (activeAt t)
   no-less t p s q pe =
       let m = item∈ l fit t p (event true s) q pe in
       le-trans (top-grows (activeAt (endKey s + 1)) (activeAt (endKey s)) (λ j n h. of-true (activeAt (endKey s) j) (end-drops l fit s m j n ∙ or-left (activeAt (endKey s + 1) j) (same s j) (is-true (activeAt (endKey s + 1) j) h))))
@@ -89,7 +89,7 @@ module _ (l : List Item) (fit : Fit l) (N : (Item → Bool) → Item → ℕ) (g
 
   module _ (hi : ℕ) (ended : (i : Item) → Mem i l → i .wire .end ≤ hi) where
     -- the cells up to an event have the counts of the active set
-    before : (t p : ℕ) (e : Event) (q : List Event) → Pending l t p (e ∷ q) → at e ≤ hi → max (topIn l N (activeAt t)) (tops l N hi p) ≡ max (topIn l N (activeAt t)) (tops l N hi (at e))
+    before : (t p : ℕ) (e : WireEvent) (q : List WireEvent) → Pending l t p (e ∷ q) → at e ≤ hi → max (topIn l N (activeAt t)) (tops l N hi p) ≡ max (topIn l N (activeAt t)) (tops l N hi (at e))
     before t p e q pe h =
         let pe1 : p ≤ at e = pe .past e (inl refl) in
         let s1 : fold max 0 (λ k. topIn l N (on k)) (cellsFrom p (at e - p)) ≤ topIn l N (activeAt t) =
@@ -107,7 +107,7 @@ module _ (l : List Item) (fit : Fit l) (N : (Item → Bool) → Item → ℕ) (g
     no-greater : (s : Item) → Mem s l → topIn l N (activeAt (startKey s + 1)) ≤ tops l N hi (s .wire .start)
     no-greater s m = le-trans (top-grows (activeAt (startKey s + 1)) (on (s .wire .start)) (after-start l fit s m)) (first-cell (λ k. topIn l N (on k)) (s .wire .start) hi (starts-below s m))
 
-    pub met-is-tops : (t p : ℕ) (q : List Event) → Pending l t p q → max (topIn l N (activeAt t)) (fold max 0 (metAt l N) q) ≡ max (topIn l N (activeAt t)) (tops l N hi p)
+    pub met-is-tops : (t p : ℕ) (q : List WireEvent) → Pending l t p q → max (topIn l N (activeAt t)) (fold max 0 (metAt l N) q) ≡ max (topIn l N (activeAt t)) (tops l N hi p)
     unfolding fold
     met-is-tops t p [] pe = ap (λ (z : ℕ). max (topIn l N (activeAt t)) z) (sym (cells-unit greatest (λ k. topIn l N (on k)) p (hi - p) (λ k x y. fold-unit greatest (λ i. cond (on k i) (N (on k) i) 0) l (λ i m. ap (λ (b : Bool). cond b (N (on k) i) 0) (uncovered l fit t p pe k x i m)))))
     met-is-tops t p (e ∷ q) pe = go (e .ends) (e .item) pe (met-is-tops (key e + 1) (at e) q (next l fit t p e q pe))
@@ -136,7 +136,7 @@ module _ (c : ℕ) (l : List Item) (fit : Fit l) where
   count = neighborsIn (facing c) l
 
   -- after a start the state's peak is the greater of the peak before and the greatest count
-  meets-top : (t : ℕ) (s : Item) (q : List Event) (st : State) → Pending l t (st .previous) (event false s ∷ q) → Tracks c l (activeAt t) st → max (st .peakCloseNeighbors) (highest c s st) ≡ max (st .peakCloseNeighbors) (topIn l count (activeAt (startKey s + 1)))
+  meets-top : (t : ℕ) (s : Item) (q : List WireEvent) (st : State) → Pending l t (st .previous) (event false s ∷ q) → Tracks c l (activeAt t) st → max (st .peakCloseNeighbors) (highest c s st) ≡ max (st .peakCloseNeighbors) (topIn l count (activeAt (startKey s + 1)))
   meets-top t s q st pe tr =
       let m = item∈ l fit t (st .previous) (event false s) q pe in
       let v = activeAt (startKey s + 1) in
@@ -145,7 +145,7 @@ module _ (c : ℕ) (l : List Item) (fit : Fit l) where
       let b : topIn l count v ≤ max (st .peakCloseNeighbors) (highest c s st) = top-at-most l count v (max (st .peakCloseNeighbors) (highest c s st)) (step-tracks l fit c t (st .previous) false s q st pe tr .peaks) in
       omega arith
 
-  run-met : (t : ℕ) (q : List Event) (st : State) → Pending l t (st .previous) q → Tracks c l (activeAt t) st → run c q st .peakCloseNeighbors ≡ max (st .peakCloseNeighbors) (fold max 0 (metAt l count) q)
+  run-met : (t : ℕ) (q : List WireEvent) (st : State) → Pending l t (st .previous) q → Tracks c l (activeAt t) st → run c q st .peakCloseNeighbors ≡ max (st .peakCloseNeighbors) (fold max 0 (metAt l count) q)
   unfolding runs fold
   run-met = sweep-ind c l fit (λ t q st. run c q st .peakCloseNeighbors ≡ max (st .peakCloseNeighbors) (fold max 0 (metAt l count) q)) (λ t st pe. omega arith) more
     where
@@ -155,13 +155,13 @@ module _ (c : ℕ) (l : List Item) (fit : Fit l) where
       starting : (a h b f : ℕ) → max a h ≡ max a b → max (max a h) f ≡ max a (max b f)
       starting a h b f e = omega arith
 
-      more : (t : ℕ) (b : Bool) (s : Item) (q : List Event) (st : State) → Pending l t (st .previous) (event b s ∷ q) → Tracks c l (activeAt t) st
+      more : (t : ℕ) (b : Bool) (s : Item) (q : List WireEvent) (st : State) → Pending l t (st .previous) (event b s ∷ q) → Tracks c l (activeAt t) st
           → run c q (step c st (event b s) .value) .peakCloseNeighbors ≡ max (step c st (event b s) .value .peakCloseNeighbors) (fold max 0 (metAt l count) q)
           → run c q (step c st (event b s) .value) .peakCloseNeighbors ≡ max (st .peakCloseNeighbors) (max (metAt l count (event b s)) (fold max 0 (metAt l count) q))
       more t true s q st pe tr ih = ih ∙ ending (st .peakCloseNeighbors) (fold max 0 (metAt l count) q)
       more t false s q st pe tr ih = ih ∙ starting (st .peakCloseNeighbors) (highest c s st) (topIn l count (activeAt (startKey s + 1))) (fold max 0 (metAt l count) q) (meets-top t s q st pe tr)
 
-  pub run-peak : (hi : ℕ) → ((i : Item) → Mem i l → i .wire .end ≤ hi) → (t : ℕ) (q : List Event) (st : State) → Pending l t (st .previous) q → Tracks c l (activeAt t) st → run c q st .peakCloseNeighbors ≡ max (st .peakCloseNeighbors) (tops l count hi (st .previous))
+  pub run-peak : (hi : ℕ) → ((i : Item) → Mem i l → i .wire .end ≤ hi) → (t : ℕ) (q : List WireEvent) (st : State) → Pending l t (st .previous) q → Tracks c l (activeAt t) st → run c q st .peakCloseNeighbors ≡ max (st .peakCloseNeighbors) (tops l count hi (st .previous))
   run-peak hi ended t q st pe tr =
       run-met t q st pe tr
       ∙ known (st .peakCloseNeighbors) (topIn l count (activeAt t)) (fold max 0 (metAt l count) q) (tops l count hi (st .previous)) (top-at-most l count (activeAt t) (st .peakCloseNeighbors) (tr .peaks))

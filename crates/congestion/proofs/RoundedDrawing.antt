@@ -24,9 +24,9 @@ use Rattle.drawing.specs.Entries.{Segment}
 use Rattle.drawing.specs.Gaps.{lesserGap}
 use Rattle.congestion.specs.Wires.{Wire, wireOf, cutoffOf}
 use Rattle.congestion.specs.Figures.{closeOther, congested, pairOverlap}
-use Rattle.congestion.specs.Profile.{lengths, allPairs}
+use Rattle.congestion.specs.AllPairs.{lengths, allPairs}
 use Rattle.congestion.specs.Walk.{Item, numbered, only, gapOfUnits}
-use Rattle.congestion.specs.Inner.Keys.{Held}
+use Rattle.congestion.specs.Inner.Keys.{Representable}
 use Rattle.congestion.specs.Rounded.{roundedTotal, roundedOverlap}
 use Rattle.congestion.specs.RoundedSweep.{coordinatesOf, roundedOriented, onlyOf, Sums, roundedJoin, roundedSweep}
 use Rattle.congestion.proofs.FoldLaws.{fewest, chosen-map, chosen-under}
@@ -95,7 +95,7 @@ only-alike h l s t m n = alike h (s .horizontal) (t .horizontal) (so s m) (so t 
 abbrev sums : ℕ → ℕ → Option ℕ → Sums
 sums a b g = (ofUnits a, ofUnits b, gapOfUnits g)
 
-join-exact : (c : ℕ) (l : List Segment) → FitList l → ((s t : Wire) → Mem s (map wireOf l) → Mem t (map wireOf l) → Bool·beq (s .horizontal) (t .horizontal) ≡ true) → (a b : ℕ) (g : Option ℕ) → a < 2 ^ 53 → b < 2 ^ 53 → Held g
+join-exact : (c : ℕ) (l : List Segment) → FitList l → ((s t : Wire) → Mem s (map wireOf l) → Mem t (map wireOf l) → Bool·beq (s .horizontal) (t .horizontal) ≡ true) → (a b : ℕ) (g : Option ℕ) → a < 2 ^ 53 → b < 2 ^ 53 → Representable g
     → roundedJoin c (sums a b g) l ≡ sums (a + congested c (map wireOf l)) (b + pairOverlap c (map wireOf l)) (lesser ltb g (leastUnits c (map wireOf l)))
 unfolding roundedJoin roundedOriented
 join-exact c l f like a b g ha hb hg = elim (decide (ltb (length l) 2)) [

@@ -22,8 +22,8 @@ use Rattle.floats.proofs.Units.{accumulate}
 use Rattle.congestion.specs.Wires.{Wire}
 use Rattle.drawing.specs.Gaps.{leastGap, lesserGap}
 use Rattle.congestion.specs.Figures.{apart, congested, pairOverlap}
-use Rattle.congestion.specs.Walk.{Item, Row, Event, State, numbered, at, events, inOrder, neighbor, gap, leastHere, step, firstAt, begin, sweep, gapOfUnits}
-use Rattle.congestion.specs.Inner.Keys.{Held}
+use Rattle.congestion.specs.Walk.{Item, WireState, WireEvent, State, numbered, at, wireEvents, inOrder, neighbor, gap, leastHere, step, firstAt, begin, sweep, gapOfUnits}
+use Rattle.congestion.specs.Inner.Keys.{Representable}
 use Rattle.congestion.specs.RoundedSweep.{Coordinates, coordinate, Amounts, roundedStep, roundedRun, firstAmounts}
 use Rattle.congestion.proofs.Sets.{neighborsIn}
 use Rattle.congestion.proofs.FoldLaws.{fewest}
@@ -59,7 +59,7 @@ pub record Matches (st : State) (a : Amounts) : Type 0 where
   pub overlap : a .pairOverlapLength ≡ ofUnits (st .pairOverlapLength)
   pub last : Stands (a .previous) (st .previous)
   pub least : a .minimumPositive ≡ gapOfUnits (st .minimumPositive)
-  pub held : Held (st .minimumPositive)
+  pub held : Representable (st .minimumPositive)
 
 -- ---- counts are small
 module _ (c : ℕ) (l : List Item) (few : length l ≤ 4096) where
@@ -76,24 +76,24 @@ module _ (c : ℕ) (l : List Item) (few : length l ≤ 4096) where
 
 -- ---- a sum that grows with each event is at most the last
 module _ (c : ℕ) where
-  sum-grows : (acc : State → ℕ) → ((b : Bool) (i : Item) (st : State) → acc st ≤ acc (step c st (event b i) .value)) → (q : List Event) (st : State) → acc st ≤ acc (run c q st)
+  sum-grows : (acc : State → ℕ) → ((b : Bool) (i : Item) (st : State) → acc st ≤ acc (step c st (event b i) .value)) → (q : List WireEvent) (st : State) → acc st ≤ acc (run c q st)
   unfolding runs
   sum-grows acc h [] st = le-refl (acc st)
   sum-grows acc h (e ∷ q) st = le-trans (h (e .ends) (e .item) st) (sum-grows acc h q (step c st e .value))
 
-  pub congested-grows : (q : List Event) (st : State) → st .congestedLength ≤ run c q st .congestedLength
+  pub congested-grows : (q : List WireEvent) (st : State) → st .congestedLength ≤ run c q st .congestedLength
   congested-grows = sum-grows (λ st. st .congestedLength) (λ b i st. elim b [ true ↦ omega arith | false ↦ omega arith ])
 
-  pub overlap-grows : (q : List Event) (st : State) → st .pairOverlapLength ≤ run c q st .pairOverlapLength
+  pub overlap-grows : (q : List WireEvent) (st : State) → st .pairOverlapLength ≤ run c q st .pairOverlapLength
   overlap-grows = sum-grows (λ st. st .pairOverlapLength) (λ b i st. elim b [ true ↦ omega arith | false ↦ omega arith ])
 
 module _ (c : ℕ) (l : List Item) (fit : Fit l) (few : length l ≤ 4096) (x : Coordinates) (stands : (i : Item) → Mem i l → ItemStands x i) where
   -- ---- the least gap to a neighbor
   module _ (w : Item → Bool) (st : State) (tr : Tracks c l w st) (s : Item) (s∈ : Mem s l) where
-    row-item : (r : Row) → Mem r (st .rows) → Mem (r .item) l
-    row-item r m = let k = mem-map (rowIn c l w) l r (subst (Mem r) (tr .rows-are) m) in subst (λ (i : Item). Mem i l) (sym (ap (λ (z : Row). z .item) (k .2))) (k .1)
+    row-item : (r : WireState) → Mem r (st .wires) → Mem (r .item) l
+    row-item r m = let k = mem-map (rowIn c l w) l r (subst (Mem r) (tr .rows-are) m) in subst (λ (i : Item). Mem i l) (sym (ap (λ (z : WireState). z .item) (k .2))) (k .1)
 
-    separation : (r : Row) → Mem r (st .rows) → (gapOf (x .fixed (r .item)) (x .fixed s) ≡ ofUnits (apart (s .wire .fixed) (r .item .wire .fixed))) × (apart (s .wire .fixed) (r .item .wire .fixed) < 2 ^ 53)
+    separation : (r : WireState) → Mem r (st .wires) → (gapOf (x .fixed (r .item)) (x .fixed s) ≡ ofUnits (apart (s .wire .fixed) (r .item .wire .fixed))) × (apart (s .wire .fixed) (r .item .wire .fixed) < 2 ^ 53)
     separation r m =
         let f = stands (r .item) (row-item r m) .fixed in
         let g = stands s s∈ .fixed in
@@ -101,19 +101,19 @@ module _ (c : ℕ) (l : List Item) (fit : Fit l) (few : length l ≤ 4096) (x : 
         let e : apart (unit (x .fixed (r .item))) (unit (x .fixed s)) ≡ apart (s .wire .fixed) (r .item .wire .fixed) = ap₂ apart (f .is) (g .is) ∙ apart-turn (r .item .wire .fixed) (s .wire .fixed) in
         (h .0 ∙ ap ofUnits e, subst (λ (n : ℕ). n < 2 ^ 53) e (h .1))
 
-    least-neighbor : leastGap (chosen (λ r. neighbor c (s .wire) r && lt plusZero (gapOf (x .fixed (r .item)) (x .fixed s))) (λ r. gapOf (x .fixed (r .item)) (x .fixed s)) (st .rows)) ≡ gapOfUnits (leastHere c s st)
+    least-neighbor : leastGap (chosen (λ r. neighbor c (s .wire) r && lt plusZero (gapOf (x .fixed (r .item)) (x .fixed s))) (λ r. gapOf (x .fixed (r .item)) (x .fixed s)) (st .wires)) ≡ gapOfUnits (leastHere c s st)
     least-neighbor =
-        least-of-chosen (λ r. neighbor c (s .wire) r && lt plusZero (gapOf (x .fixed (r .item)) (x .fixed s))) (λ r. gapOf (x .fixed (r .item)) (x .fixed s)) (λ r. apart (s .wire .fixed) (r .item .wire .fixed)) (st .rows) separation
-        ∙ ap gapOfUnits (fold-same fewest (λ r. cond (neighbor c (s .wire) r && lt plusZero (gapOf (x .fixed (r .item)) (x .fixed s))) (some (apart (s .wire .fixed) (r .item .wire .fixed))) none) (λ r. cond (neighbor c (s .wire) r) (gap (s .wire) (r .item .wire)) none) (st .rows)
+        least-of-chosen (λ r. neighbor c (s .wire) r && lt plusZero (gapOf (x .fixed (r .item)) (x .fixed s))) (λ r. gapOf (x .fixed (r .item)) (x .fixed s)) (λ r. apart (s .wire .fixed) (r .item .wire .fixed)) (st .wires) separation
+        ∙ ap gapOfUnits (fold-same fewest (λ r. cond (neighbor c (s .wire) r && lt plusZero (gapOf (x .fixed (r .item)) (x .fixed s))) (some (apart (s .wire .fixed) (r .item .wire .fixed))) none) (λ r. cond (neighbor c (s .wire) r) (gap (s .wire) (r .item .wire)) none) (st .wires)
         (λ r m. let h = separation r m in
         ap (λ (b : Bool). cond (neighbor c (s .wire) r && b) (some (apart (s .wire .fixed) (r .item .wire .fixed))) none) (ap (lt plusZero) (h .0) ∙ above-zero (s .wire .fixed) (r .item .wire .fixed) (h .1))
         ∙ nonzero-one (neighbor c (s .wire) r) (eqb (s .wire .fixed) (r .item .wire .fixed)) (apart (s .wire .fixed) (r .item .wire .fixed))))
 
-    held-neighbor : Held (leastHere c s st)
-    held-neighbor = held-fold (λ r. cond (neighbor c (s .wire) r) (gap (s .wire) (r .item .wire)) none) (st .rows) (λ r m. held-gap (neighbor c (s .wire) r) (eqb (s .wire .fixed) (r .item .wire .fixed)) (apart (s .wire .fixed) (r .item .wire .fixed)) (separation r m .1))
+    held-neighbor : Representable (leastHere c s st)
+    held-neighbor = held-fold (λ r. cond (neighbor c (s .wire) r) (gap (s .wire) (r .item .wire)) none) (st .wires) (λ r m. held-gap (neighbor c (s .wire) r) (eqb (s .wire .fixed) (r .item .wire .fixed)) (apart (s .wire .fixed) (r .item .wire .fixed)) (separation r m .1))
 
   -- ---- one event, and all
-  module _ (t : ℕ) (b : Bool) (s : Item) (q : List Event) (st : State) (pe : Pending l t (st .previous) (event b s ∷ q)) (tr : Tracks c l (activeAt t) st) where
+  module _ (t : ℕ) (b : Bool) (s : Item) (q : List WireEvent) (st : State) (pe : Pending l t (st .previous) (event b s ∷ q)) (tr : Tracks c l (activeAt t) st) where
     step-matches : (a : Amounts) → Matches st a → step c st (event b s) .value .congestedLength < 2 ^ 53 → step c st (event b s) .value .pairOverlapLength < 2 ^ 53 → Matches (step c st (event b s) .value) (roundedStep c x st a (event b s))
     unfolding roundedStep
     step-matches a m h k =
@@ -130,10 +130,10 @@ module _ (c : ℕ) (l : List Item) (fit : Fit l) (few : length l ≤ 4096) (x : 
           overlap = ap (λ (z : Float). add binary64 z (mul binary64 (ofInt binary64 (pos (st .closePairs))) (sub binary64 (coordinate x (event b s)) (a .previous)))) (m .overlap) ∙ one-step (st .pairOverlapLength) (st .closePairs) (coordinate x (event b s)) (a .previous) (at (event b s)) (st .previous) (step c st (event b s) .value .pairOverlapLength) e (m .last) n (pairs-few c l few t st tr) (le-of-eq (sym g)) k ∙ ap ofUnits (sym g);
           last = subst (Stands (coordinate x (event b s))) (sym p) e;
           least = ap₂ lesserGap (m .least) (least-neighbor (activeAt t) st tr s s∈) ∙ lesser-gap (st .minimumPositive) (leastHere c s st) (m .held) (held-neighbor (activeAt t) st tr s s∈) ∙ ap gapOfUnits (sym o);
-          held = subst Held (sym o) (held-lesser (st .minimumPositive) (leastHere c s st) (m .held) (held-neighbor (activeAt t) st tr s s∈));
+          held = subst Representable (sym o) (held-lesser (st .minimumPositive) (leastHere c s st) (m .held) (held-neighbor (activeAt t) st tr s s∈));
         }
 
-  pub run-matches : (t : ℕ) (q : List Event) (st : State) → Pending l t (st .previous) q → Tracks c l (activeAt t) st → (a : Amounts) → Matches st a → run c q st .congestedLength < 2 ^ 53 → run c q st .pairOverlapLength < 2 ^ 53 → Matches (run c q st) (roundedRun c x st a q)
+  pub run-matches : (t : ℕ) (q : List WireEvent) (st : State) → Pending l t (st .previous) q → Tracks c l (activeAt t) st → (a : Amounts) → Matches st a → run c q st .congestedLength < 2 ^ 53 → run c q st .pairOverlapLength < 2 ^ 53 → Matches (run c q st) (roundedRun c x st a q)
   unfolding runs roundedRun
   run-matches = sweep-ind c l fit (λ t q st. (a : Amounts) → Matches st a → run c q st .congestedLength < 2 ^ 53 → run c q st .pairOverlapLength < 2 ^ 53 → Matches (run c q st) (roundedRun c x st a q)) (λ t st pe a m h k. m)
       (λ t b s q st pe tr ih a m h k.
@@ -149,10 +149,10 @@ module _ (c : ℕ) (L : List Wire) (sound : Sound L) (small : Small L) (alike : 
   fit : Fit (numbered 0 L)
   fit = fit-numbered L sound
 
-  first-matches : Matches (begin l) (firstAmounts x (inOrder (events l)))
-  first-matches = go (inOrder (events l)) (in-list l fit)
+  first-matches : Matches (begin l) (firstAmounts x (inOrder (wireEvents l)))
+  first-matches = go (inOrder (wireEvents l)) (in-list l fit)
     where
-      go : (q : List Event) → ((e : Event) → Mem e q → Mem (e .item) l) → Matches (record { rows = begin l .rows; congestedActive = 0; closePairs = 0; previous = firstAt q; congestedLength = 0; pairOverlapLength = 0; peakCloseNeighbors = 0; minimumPositive = none }) (firstAmounts x q)
+      go : (q : List WireEvent) → ((e : WireEvent) → Mem e q → Mem (e .item) l) → Matches (record { wires = begin l .wires; congestedActive = 0; closePairs = 0; previous = firstAt q; congestedLength = 0; pairOverlapLength = 0; peakCloseNeighbors = 0; minimumPositive = none }) (firstAmounts x q)
       go [] h = record { congested = sym zero-units; overlap = sym zero-units; last = zero-stands; least = refl; held = tt }
       go (e ∷ q) h = record { congested = sym zero-units; overlap = sym zero-units; last = event-stands x (e .ends) (e .item) (stands (e .item) (h e (inl refl))); least = refl; held = tt }
 
@@ -160,7 +160,7 @@ module _ (c : ℕ) (L : List Wire) (sound : Sound L) (small : Small L) (alike : 
   few-items = let e = length-map l (λ (i : Item). i .wire) in let k = ap length (wires-of 0 L) in let h = sound .few in omega arith
 
   abbrev pub amounts : Amounts
-  amounts = roundedRun c x (begin l) (firstAmounts x (inOrder (events l))) (inOrder (events l))
+  amounts = roundedRun c x (begin l) (firstAmounts x (inOrder (wireEvents l))) (inOrder (wireEvents l))
 
   pub amounts-exact : (amounts .congestedLength ≡ ofUnits (congested c L)) × (amounts .pairOverlapLength ≡ ofUnits (pairOverlap c L)) × (amounts .minimumPositive ≡ gapOfUnits (leastUnits c L))
   unfolding sweep
@@ -168,5 +168,5 @@ module _ (c : ℕ) (L : List Wire) (sound : Sound L) (small : Small L) (alike : 
       let a = congested-is c L sound alike in
       let b = overlap-is c L sound alike in
       let g = least-is c L sound alike in
-      let m = run-matches c l fit few-items x stands 0 (inOrder (events l)) (begin l) (pending c l fit) (tracks c l fit) (firstAmounts x (inOrder (events l))) first-matches (lt-of-le-of-lt (le-of-eq a) (congested-small c L sound small)) (lt-of-le-of-lt (le-of-eq b) (overlap-small c L sound small)) in
+      let m = run-matches c l fit few-items x stands 0 (inOrder (wireEvents l)) (begin l) (pending c l fit) (tracks c l fit) (firstAmounts x (inOrder (wireEvents l))) first-matches (lt-of-le-of-lt (le-of-eq a) (congested-small c L sound small)) (lt-of-le-of-lt (le-of-eq b) (overlap-small c L sound small)) in
       (m .congested ∙ ap ofUnits a, m .overlap ∙ ap ofUnits b, m .least ∙ ap gapOfUnits g)

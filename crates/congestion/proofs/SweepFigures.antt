@@ -22,7 +22,7 @@ use Rattle.congestion.specs.Wires.{Wire}
 use Rattle.congestion.specs.Cells.{cells, covers}
 use Rattle.rows.specs.Rows.{atLeastTwo}
 use Rattle.congestion.specs.Figures.{apart, overlaps, overlap, close, other, closeOther, total, stretches, congested, closeOtherPairs, pairOverlap, neighborsOn, peak}
-use Rattle.congestion.specs.Profile.{lengths}
+use Rattle.congestion.specs.AllPairs.{lengths}
 use Rattle.congestion.specs.Walk.{State, gap, begin, along, only, gapOfUnits, sweepWires}
 use Rattle.congestion.proofs.UnitVisits.{closePairs, inOrientation, visits}
 use Rattle.congestion.proofs.FoldLaws.{fewest, fold-chosen}

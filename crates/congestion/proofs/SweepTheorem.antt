@@ -18,7 +18,7 @@ use Rattle.drawing.specs.declared.gap.Gap.the-variants.{Absent}
 use Rattle.drawing.proofs.ListOrders.{segments-in-order-perm}
 use Rattle.congestion.specs.Wires.{wireOf, cutoffOf}
 use Rattle.congestion.specs.Figures.{total, congested, pairOverlap, peak}
-use Rattle.congestion.specs.Profile.{lengths, allPairs}
+use Rattle.congestion.specs.AllPairs.{lengths, allPairs}
 use Rattle.congestion.specs.Walk.{walkAll}
 use Rattle.congestion.proofs.SweepFigures.{found, zero-cutoff, sweep-finds}
 use Rattle.congestion.proofs.FiguresOrder.{found-order}

@@ -12,7 +12,7 @@ use Rattle.laws.specs.Lists.{Mem, fold, bit, count}
 use Rattle.laws.proofs.Tests.{clash, is-true, same-test}
 use Rattle.laws.proofs.Folds.{Monoid, plus, greatest, fold-same, fold-map, greatest-at-most, at-most-greatest}
 use Rattle.congestion.specs.Figures.{other}
-use Rattle.congestion.specs.Walk.{Item, Row, State, same, inRange, neighbor, risen, fallen, neighbors, wasCongested, highest, atStart, atEnd}
+use Rattle.congestion.specs.Walk.{Item, WireState, State, same, inRange, neighbor, risen, fallen, neighbors, wasCongested, highest, afterStart, afterEnd}
 use Rattle.congestion.proofs.Sets.{Rising, is-same, neighborsIn, congestedIn, pairsIn, neighbors-same, congested-same, pairs-same, gone, out, own-out, change, own-count, congested-add, pairs-add, pick}
 
 -- ---- which active items count as neighbors
@@ -29,14 +29,14 @@ pub facing-irr : (c : ℕ) (i : Item) → facing c i i ≡ false
 facing-irr c i = ap (λ (b : Bool). inRange c (i .wire) (i .wire) && not b) (is-true (eqb (i .wire .net) (i .wire .net)) (eqb-refl (i .wire .net))) ∙ and-comm (inRange c (i .wire) (i .wire)) false
 
 -- ---- a state in which the items of the set w are active
-abbrev pub row : Item → Bool → ℕ → Row
+abbrev pub row : Item → Bool → ℕ → WireState
 row i b n = record { item = i; active = b; neighbors = n }
 
-abbrev pub rowIn : ℕ → List Item → (Item → Bool) → Item → Row
+abbrev pub rowIn : ℕ → List Item → (Item → Bool) → Item → WireState
 rowIn c l w i = row i (w i) (cond (w i) (neighborsIn (facing c) l w i) 0)
 
 pub record Tracks (c : ℕ) (l : List Item) (w : Item → Bool) (st : State) : Type 0 where
-  pub rows-are : st .rows ≡ map (rowIn c l w) l
+  pub rows-are : st .wires ≡ map (rowIn c l w) l
   pub active-is : st .congestedActive ≡ congestedIn (facing c) l w
   pub pairs-are : st .closePairs ≡ pairsIn (facing c) l w
   pub peaks : (i : Item) → Mem i l → T (w i) → neighborsIn (facing c) l w i ≤ st .peakCloseNeighbors
@@ -50,7 +50,7 @@ tracks-same c l v w st eq t = record {
 }
 
 -- a fold over the rows is a fold over the items
-pub over-rows : {M : Type 0} {_⊕_ : M → M → M} {u : M} (L : Monoid _⊕_ u) (c : ℕ) (l : List Item) (w : Item → Bool) (st : State) → Tracks c l w st → (f : Row → M) → fold _⊕_ u f (st .rows) ≡ fold _⊕_ u (λ i. f (rowIn c l w i)) l
+pub over-rows : {M : Type 0} {_⊕_ : M → M → M} {u : M} (L : Monoid _⊕_ u) (c : ℕ) (l : List Item) (w : Item → Bool) (st : State) → Tracks c l w st → (f : WireState → M) → fold _⊕_ u f (st .wires) ≡ fold _⊕_ u (λ i. f (rowIn c l w i)) l
 over-rows {_⊕_ = _⊕_} {u = u} L c l w st t f = ap (fold _⊕_ u f) (t .rows-are) ∙ fold-map L f (rowIn c l w) l
 
 -- one row: b is a or m, where m marks the item itself and r a neighbor
@@ -89,14 +89,14 @@ module _ (c : ℕ) (l : List Item) (rise : Rising l) (s : Item) (s∈ : Mem s l)
     neighbors-start : neighbors c s st ≡ neighborsIn (facing c) l w s
     neighbors-start = over-rows plus c l w st t (λ r. bit (neighbor c (s .wire) r))
 
-    rows-start : atStart c s st x .rows ≡ map (rowIn c l v) l
+    rows-start : afterStart c s st x .wires ≡ map (rowIn c l v) l
     rows-start =
         ap (map (λ r. risen (same s (r .item)) (neighbor c (s .wire) r) (neighbors c s st) r)) (t .rows-are)
         ∙ map-map (λ r. risen (same s (r .item)) (neighbor c (s .wire) r) (neighbors c s st) r) (rowIn c l w) l
         ∙ map-same (λ i. risen (same s i) (w i && facing c s i) (neighbors c s st) (rowIn c l w i)) (rowIn c l v) l
         (λ i m. rise-row i (w i) (v i) (same s i) (facing c s i) (neighborsIn (facing c) l w i) (neighborsIn (facing c) l v i) (neighbors c s st) (adds i m) (not-in i m) (λ q. ap (neighborsIn (facing c) l v) (itself i m q) ∙ own-same ∙ sym neighbors-start) (grows i))
 
-    fresh : count (λ r. neighbor c (s .wire) r && eqb (r .neighbors) 0) (st .rows) ≡ count (λ j. (w j && facing c s j) && eqb (neighborsIn (facing c) l w j) 0) l
+    fresh : count (λ r. neighbor c (s .wire) r && eqb (r .neighbors) 0) (st .wires) ≡ count (λ j. (w j && facing c s j) && eqb (neighborsIn (facing c) l w j) 0) l
     fresh =
         over-rows plus c l w st t (λ r. bit (neighbor c (s .wire) r && eqb (r .neighbors) 0))
         ∙ fold-same plus (λ i. bit ((w i && facing c s i) && eqb (cond (w i) (neighborsIn (facing c) l w i) 0) 0)) (λ j. bit ((w j && facing c s j) && eqb (neighborsIn (facing c) l w j) 0)) l (λ i m. go (w i) (facing c s i) (neighborsIn (facing c) l w i))
@@ -105,18 +105,18 @@ module _ (c : ℕ) (l : List Item) (rise : Rising l) (s : Item) (s∈ : Mem s l)
         go true r n = refl
         go false r n = refl
 
-    active-start : atStart c s st x .congestedActive ≡ congestedIn (facing c) l v
+    active-start : afterStart c s st x .congestedActive ≡ congestedIn (facing c) l v
     active-start =
-        ap (λ (n : ℕ). st .congestedActive + bit (not (eqb n 0)) + count (λ r. neighbor c (s .wire) r && eqb (r .neighbors) 0) (st .rows)) neighbors-start
+        ap (λ (n : ℕ). st .congestedActive + bit (not (eqb n 0)) + count (λ r. neighbor c (s .wire) r && eqb (r .neighbors) 0) (st .wires)) neighbors-start
         ∙ ap₂ (λ (a b : ℕ). a + bit (not (eqb (neighborsIn (facing c) l w s) 0)) + b) (t .active-is) fresh
         ∙ sym (congested-add (facing c) (facing-sym c) (facing-irr c) l rise s s∈ w v new adds)
 
-    pairs-start : atStart c s st x .closePairs ≡ pairsIn (facing c) l v
+    pairs-start : afterStart c s st x .closePairs ≡ pairsIn (facing c) l v
     pairs-start = ap₂ _+_ (t .pairs-are) neighbors-start ∙ sym (pairs-add (facing c) (facing-sym c) (facing-irr c) l rise s s∈ w v new adds)
 
     -- the greatest count among the neighbors, this item included
     abbrev raised : ℕ
-    raised = fold max 0 (λ r. cond (neighbor c (s .wire) r) (r .neighbors + 1) 0) (st .rows)
+    raised = fold max 0 (λ r. cond (neighbor c (s .wire) r) (r .neighbors + 1) 0) (st .wires)
 
     abbrev raisedAt : Item → ℕ
     raisedAt i = cond (w i && facing c s i) (cond (w i) (neighborsIn (facing c) l w i) 0 + 1) 0
@@ -124,7 +124,7 @@ module _ (c : ℕ) (l : List Item) (rise : Rising l) (s : Item) (s∈ : Mem s l)
     raised-is : raised ≡ fold max 0 raisedAt l
     raised-is = over-rows greatest c l w st t (λ r. cond (neighbor c (s .wire) r) (r .neighbors + 1) 0)
 
-    peaks-start : (i : Item) → Mem i l → T (v i) → neighborsIn (facing c) l v i ≤ atStart c s st x .peakCloseNeighbors
+    peaks-start : (i : Item) → Mem i l → T (v i) → neighborsIn (facing c) l v i ≤ afterStart c s st x .peakCloseNeighbors
     peaks-start i m h = go (same s i) (w i) (facing c s i) refl refl refl
       where
         go : (q a r : Bool) → same s i ≡ q → w i ≡ a → facing c s i ≡ r → neighborsIn (facing c) l v i ≤ max (st .peakCloseNeighbors) (max raised (neighbors c s st))
@@ -136,7 +136,7 @@ module _ (c : ℕ) (l : List Item) (rise : Rising l) (s : Item) (s∈ : Mem s l)
             let o : neighborsIn (facing c) l w i + 1 ≤ raised = le-trans (le-of-eq (sym (ap₂ (λ (a b : Bool). cond (a && b) (cond a (neighborsIn (facing c) l w i) 0 + 1) 0) p2 p3))) (le-trans (at-most-greatest raisedAt l i m) (le-of-eq (sym raised-is))) in
             omega arith
 
-    pub tracks-start : Tracks c l v (atStart c s st x)
+    pub tracks-start : Tracks c l v (afterStart c s st x)
     tracks-start = record { rows-are = rows-start; active-is = active-start; pairs-are = pairs-start; peaks = peaks-start }
 
     -- and the peak is no more than the counts
@@ -156,7 +156,7 @@ module _ (c : ℕ) (l : List Item) (rise : Rising l) (s : Item) (s∈ : Mem s l)
     pub neighbors-end : neighbors c s st ≡ neighborsIn (facing c) l w s
     neighbors-end = over-rows plus c l v st t (λ r. bit (neighbor c (s .wire) r)) ∙ own-same
 
-    rows-end : atEnd c s st x .rows ≡ map (rowIn c l w) l
+    rows-end : afterEnd c s st x .wires ≡ map (rowIn c l w) l
     rows-end =
         ap (map (λ r. fallen (same s (r .item)) (neighbor c (s .wire) r) r)) (t .rows-are)
         ∙ map-map (λ r. fallen (same s (r .item)) (neighbor c (s .wire) r) r) (rowIn c l v) l
@@ -173,7 +173,7 @@ module _ (c : ℕ) (l : List Item) (rise : Rising l) (s : Item) (s∈ : Mem s l)
         go true b = refl
         go false b = refl
 
-    pub stale : count (λ r. neighbor c (s .wire) r && eqb (r .neighbors) 1) (st .rows) ≡ count (λ j. (w j && facing c s j) && eqb (neighborsIn (facing c) l w j) 0) l
+    pub stale : count (λ r. neighbor c (s .wire) r && eqb (r .neighbors) 1) (st .wires) ≡ count (λ j. (w j && facing c s j) && eqb (neighborsIn (facing c) l w j) 0) l
     stale =
         over-rows plus c l v st t (λ r. bit (neighbor c (s .wire) r && eqb (r .neighbors) 1))
         ∙ fold-same plus (λ i. bit ((v i && facing c s i) && eqb (cond (v i) (neighborsIn (facing c) l v i) 0) 1)) (λ j. bit ((w j && facing c s j) && eqb (neighborsIn (facing c) l w j) 0)) l
@@ -193,7 +193,7 @@ module _ (c : ℕ) (l : List Item) (rise : Rising l) (s : Item) (s∈ : Mem s l)
         go false b false true n p e g k = ap (λ (y : Bool). bit ((y && true) && eqb (cond y p 0) 1)) e
 
     -- the count before an end is what remains plus what the end subtracts, so that no subtraction goes below 0
-    pub active-before : st .congestedActive ≡ congestedIn (facing c) l w + wasCongested c s st + count (λ r. neighbor c (s .wire) r && eqb (r .neighbors) 1) (st .rows)
+    pub active-before : st .congestedActive ≡ congestedIn (facing c) l w + wasCongested c s st + count (λ r. neighbor c (s .wire) r && eqb (r .neighbors) 1) (st .wires)
     active-before = t .active-is ∙ congested-add (facing c) (facing-sym c) (facing-irr c) l rise s s∈ w v new adds ∙ ap₂ (λ (a b : ℕ). congestedIn (facing c) l w + a + b) (sym congested-end) (sym stale)
 
     pub pairs-before : st .closePairs ≡ pairsIn (facing c) l w + neighbors c s st
@@ -202,7 +202,7 @@ module _ (c : ℕ) (l : List Item) (rise : Rising l) (s : Item) (s∈ : Mem s l)
     peaks-end : (i : Item) → Mem i l → T (w i) → neighborsIn (facing c) l w i ≤ st .peakCloseNeighbors
     peaks-end i m h = let e = grows i in let p = t .peaks i m (subst T (sym (adds i m ∙ ap (λ (b : Bool). b || same s i) (is-true (w i) h))) tt) in omega arith
 
-    pub tracks-end : Tracks c l w (atEnd c s st x)
+    pub tracks-end : Tracks c l w (afterEnd c s st x)
     tracks-end = record {
       rows-are = rows-end;
       active-is = let e = active-before in omega arith;

@@ -13,7 +13,7 @@ use Rattle.congestion.specs.declared.report.CongestionReport.{Congestion
 use Rattle.congestion.specs.declared.report.CongestionAnswer.{CongestionAnswer}
 use Rattle.congestion.specs.declared.report.CongestionAnswer.the-variants.{Report, Refused}
 use Rattle.congestion.specs.Conditions.{congestionConditions}
-use Rattle.congestion.specs.Profile.{allPairs}
+use Rattle.congestion.specs.AllPairs.{allPairs}
 
 -- SCOPE 6.3: the report of figures, with the n visits that they cost
 abbrev pub reportOf : ParallelCongestion × Gap → ℕ → CongestionReport

@@ -4,7 +4,7 @@ pub mod Cells
 pub mod Figures
 pub mod Rounded
 pub mod Visits
-pub mod Profile
+pub mod AllPairs
 pub mod Walk
 pub mod RoundedSweep
 pub mod Conditions

@@ -13,7 +13,7 @@ use Rattle.drawing.specs.Gaps.{leastGap, lesserGap}
 use Rattle.drawing.specs.declared.gap.Gap.{Gap}
 use Rattle.drawing.specs.declared.gap.Gap.the-variants.{Absent}
 use Rattle.congestion.specs.Wires.{wireOf}
-use Rattle.congestion.specs.Walk.{Item, numbered, Event, events, inOrder, State, neighbor, step, begin}
+use Rattle.congestion.specs.Walk.{Item, numbered, WireEvent, wireEvents, inOrder, State, neighbor, step, begin}
 
 -- the floats of each item's coordinates
 pub record Coordinates : Type 0 where
@@ -21,7 +21,7 @@ pub record Coordinates : Type 0 where
   pub start : Item → Float
   pub end : Item → Float
 
-abbrev pub coordinate : Coordinates → Event → Float
+abbrev pub coordinate : Coordinates → WireEvent → Float
 coordinate x e = cond (e .ends) (x .end (e .item)) (x .start (e .item))
 
 -- the Rust's variables that are floats
@@ -32,21 +32,21 @@ pub record Amounts : Type 0 where
   pub minimumPositive : Gap
 
 -- `congested_length += congested_active as f64 * (coordinate.0 - previous)`, and the same for the pairs; then the least of the separations of the neighbors that are `> 0.0`
-unfoldable pub roundedStep : ℕ → Coordinates → State → Amounts → Event → Amounts
+unfoldable pub roundedStep : ℕ → Coordinates → State → Amounts → WireEvent → Amounts
 roundedStep c x st a e = record {
   congestedLength = add binary64 (a .congestedLength) (mul binary64 (ofInt binary64 (pos (st .congestedActive))) (sub binary64 (coordinate x e) (a .previous)));
   pairOverlapLength = add binary64 (a .pairOverlapLength) (mul binary64 (ofInt binary64 (pos (st .closePairs))) (sub binary64 (coordinate x e) (a .previous)));
   previous = coordinate x e;
-  minimumPositive = lesserGap (a .minimumPositive) (leastGap (chosen (λ r. neighbor c (e .item .wire) r && lt plusZero (gapOf (x .fixed (r .item)) (x .fixed (e .item)))) (λ r. gapOf (x .fixed (r .item)) (x .fixed (e .item))) (st .rows)));
+  minimumPositive = lesserGap (a .minimumPositive) (leastGap (chosen (λ r. neighbor c (e .item .wire) r && lt plusZero (gapOf (x .fixed (r .item)) (x .fixed (e .item)))) (λ r. gapOf (x .fixed (r .item)) (x .fixed (e .item))) (st .wires)));
 }
 
 -- the same over all events, with the states of the sweep
-unfoldable pub roundedRun : ℕ → Coordinates → State → Amounts → List Event → Amounts
+unfoldable pub roundedRun : ℕ → Coordinates → State → Amounts → List WireEvent → Amounts
 roundedRun c x st a [] = a
 roundedRun c x st a (e ∷ q) = roundedRun c x (step c st e .value) (roundedStep c x st a e) q
 
 -- before the first event: the sums are 0, and `previous` is its coordinate
-abbrev pub firstAmounts : Coordinates → List Event → Amounts
+abbrev pub firstAmounts : Coordinates → List WireEvent → Amounts
 firstAmounts x [] = record { congestedLength = plusZero; pairOverlapLength = plusZero; previous = plusZero; minimumPositive = Absent }
 firstAmounts x (e ∷ q) = record { congestedLength = plusZero; pairOverlapLength = plusZero; previous = coordinate x e; minimumPositive = Absent }
 
@@ -62,7 +62,7 @@ coordinatesOf l = record {
 unfoldable pub roundedOriented : ℕ → List Segment → Amounts
 roundedOriented c l =
     let i = numbered 0 (map wireOf l) in
-    let q = inOrder (events i) in
+    let q = inOrder (wireEvents i) in
     roundedRun c (coordinatesOf l) (begin i) (firstAmounts (coordinatesOf l) q) q
 
 abbrev pub onlyOf : Bool → List Segment → List Segment

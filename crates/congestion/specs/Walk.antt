@@ -19,7 +19,7 @@ use Rattle.drawing.specs.declared.gap.Gap.the-variants.{Absent, Present}
 use Rattle.congestion.specs.declared.report.ParallelCongestion.{ParallelCongestion}
 use Rattle.congestion.specs.Wires.{Wire, wireOf, cutoffOf}
 use Rattle.congestion.specs.Figures.{apart, other, total}
-use Rattle.congestion.specs.Profile.{lengths}
+use Rattle.congestion.specs.AllPairs.{lengths}
 
 -- a wire with its index in the list of its orientation
 pub record Item : Type 0 where
@@ -31,28 +31,28 @@ numbered n [] = []
 numbered n (s ∷ l) = record { wire = s; index = n } ∷ numbered (suc n) l
 
 -- the end or the start of a wire
-pub record Event : Type 0 where
+pub record WireEvent : Type 0 where
   pub ends : Bool
   pub item : Item
 
-abbrev pub at : Event → ℕ
+abbrev pub at : WireEvent → ℕ
 at e = cond (e .ends) (e .item .wire .end) (e .item .wire .start)
 
 -- SCOPE 5.9: `(coordinate, 0 for an end and 1 for a start, index)`, in dictionary order: ends come before starts at one coordinate
-abbrev pub eventRow : Event → List ℕ
+abbrev pub eventRow : WireEvent → List ℕ
 eventRow e = at e ∷ cond (e .ends) 0 1 ∷ e .item .index ∷ []
 
 -- both events of each wire
-abbrev pub events : List Item → List Event
-events [] = []
-events (i ∷ l) = record { ends = true; item = i } ∷ record { ends = false; item = i } ∷ events l
+abbrev pub wireEvents : List Item → List WireEvent
+wireEvents [] = []
+wireEvents (i ∷ l) = record { ends = true; item = i } ∷ record { ends = false; item = i } ∷ wireEvents l
 
 -- `events.sort_unstable()`
-unfoldable pub inOrder : List Event → List Event
+unfoldable pub inOrder : List WireEvent → List WireEvent
 inOrder l = sortBy (λ a b. rowLe (eventRow a) (eventRow b)) l
 
 -- what the sweep stores for one wire: whether it is active, and its `close_neighbor_counts`
-pub record Row : Type 0 where
+pub record WireState : Type 0 where
   pub item : Item
   pub active : Bool
   pub neighbors : ℕ
@@ -62,30 +62,30 @@ abbrev pub inRange : ℕ → Wire → Wire → Bool
 inRange c s t = ltb (s .fixed) (t .fixed + c) && ltb (t .fixed) (s .fixed + c)
 
 -- SCOPE 5.12: an active wire in the range costs a visit
-abbrev pub visited : ℕ → Wire → Row → Bool
+abbrev pub visited : ℕ → Wire → WireState → Bool
 visited c s r = r .active && inRange c s (r .item .wire)
 
 -- it is a neighbor where its net differs
-abbrev pub neighbor : ℕ → Wire → Row → Bool
+abbrev pub neighbor : ℕ → Wire → WireState → Bool
 neighbor c s r = r .active && (inRange c s (r .item .wire) && other s (r .item .wire))
 
 abbrev pub same : Item → Item → Bool
 same i j = eqb (i .index) (j .index)
 
 -- a row after the start of an item with n neighbors, and after an end: the row of the item itself, that of a neighbor, any other
-abbrev pub risen : Bool → Bool → ℕ → Row → Row
+abbrev pub risen : Bool → Bool → ℕ → WireState → WireState
 risen true b n r = record { item = r .item; active = true; neighbors = n }
 risen false true n r = record { item = r .item; active = r .active; neighbors = r .neighbors + 1 }
 risen false false n r = r
 
-abbrev pub fallen : Bool → Bool → Row → Row
+abbrev pub fallen : Bool → Bool → WireState → WireState
 fallen true b r = record { item = r .item; active = false; neighbors = 0 }
 fallen false true r = record { item = r .item; active = r .active; neighbors = r .neighbors - 1 }
 fallen false false r = r
 
--- the Rust's variables; `rows` represents its set of active wires and their counts
+-- the Rust's variables; `wires` represents its set of active wires and their counts
 pub record State : Type 0 where
-  pub rows : List Row
+  pub wires : List WireState
   pub congestedActive : ℕ
   pub closePairs : ℕ
   pub previous : ℕ
@@ -95,36 +95,36 @@ pub record State : Type 0 where
   pub minimumPositive : Option ℕ
 
 -- the gap of two wires, where it is not zero
-abbrev pub nonzero : Bool → ℕ → Option ℕ
-nonzero true g = none
-nonzero false g = some g
+abbrev pub gapUnlessZero : Bool → ℕ → Option ℕ
+gapUnlessZero true g = none
+gapUnlessZero false g = some g
 
 abbrev pub gap : Wire → Wire → Option ℕ
-gap s t = nonzero (eqb (s .fixed) (t .fixed)) (apart (s .fixed) (t .fixed))
+gap s t = gapUnlessZero (eqb (s .fixed) (t .fixed)) (apart (s .fixed) (t .fixed))
 
 -- an event of item i in a state
 module _ (c : ℕ) (i : Item) (st : State) where
   -- `neighbors.len()`
   abbrev pub neighbors : ℕ
-  neighbors = count (neighbor c (i .wire)) (st .rows)
+  neighbors = count (neighbor c (i .wire)) (st .wires)
 
   -- the least nonzero gap to a neighbor
   abbrev pub leastHere : Option ℕ
-  leastHere = fold (lesser ltb) none (λ r. cond (neighbor c (i .wire) r) (gap (i .wire) (r .item .wire)) none) (st .rows)
+  leastHere = fold (lesser ltb) none (λ r. cond (neighbor c (i .wire) r) (gap (i .wire) (r .item .wire)) none) (st .wires)
 
   -- 1 where the item's own count is not 0
   abbrev pub wasCongested : ℕ
-  wasCongested = count (λ r. same i (r .item) && not (eqb (r .neighbors) 0)) (st .rows)
+  wasCongested = count (λ r. same i (r .item) && not (eqb (r .neighbors) 0)) (st .wires)
 
   -- the greatest count that a start makes: a neighbor's, raised by one, or the item's own
   abbrev pub highest : ℕ
-  highest = max (fold max 0 (λ r. cond (neighbor c (i .wire) r) (r .neighbors + 1) 0) (st .rows)) neighbors
+  highest = max (fold max 0 (λ r. cond (neighbor c (i .wire) r) (r .neighbors + 1) 0) (st .wires)) neighbors
 
   -- its start and its end at the coordinate x
-  abbrev pub atStart : ℕ → State
-  atStart x = record {
-    rows = map (λ r. risen (same i (r .item)) (neighbor c (i .wire) r) neighbors r) (st .rows);
-    congestedActive = st .congestedActive + bit (not (eqb neighbors 0)) + count (λ r. neighbor c (i .wire) r && eqb (r .neighbors) 0) (st .rows);
+  abbrev pub afterStart : ℕ → State
+  afterStart x = record {
+    wires = map (λ r. risen (same i (r .item)) (neighbor c (i .wire) r) neighbors r) (st .wires);
+    congestedActive = st .congestedActive + bit (not (eqb neighbors 0)) + count (λ r. neighbor c (i .wire) r && eqb (r .neighbors) 0) (st .wires);
     closePairs = st .closePairs + neighbors;
     previous = x;
     congestedLength = st .congestedLength + st .congestedActive * (x - st .previous);
@@ -133,10 +133,10 @@ module _ (c : ℕ) (i : Item) (st : State) where
     minimumPositive = lesser ltb (st .minimumPositive) leastHere;
   }
 
-  abbrev pub atEnd : ℕ → State
-  atEnd x = record {
-    rows = map (λ r. fallen (same i (r .item)) (neighbor c (i .wire) r) r) (st .rows);
-    congestedActive = st .congestedActive - wasCongested - count (λ r. neighbor c (i .wire) r && eqb (r .neighbors) 1) (st .rows);
+  abbrev pub afterEnd : ℕ → State
+  afterEnd x = record {
+    wires = map (λ r. fallen (same i (r .item)) (neighbor c (i .wire) r) r) (st .wires);
+    congestedActive = st .congestedActive - wasCongested - count (λ r. neighbor c (i .wire) r && eqb (r .neighbors) 1) (st .wires);
     closePairs = st .closePairs - neighbors;
     previous = x;
     congestedLength = st .congestedLength + st .congestedActive * (x - st .previous);
@@ -146,21 +146,21 @@ module _ (c : ℕ) (i : Item) (st : State) where
   }
 
 -- SCOPE 5.12: one event: each active wire in the range costs one visit
-abbrev pub step : ℕ → State → Event → Charged State
-step c st e = record { value = cond (e .ends) (atEnd c (e .item) st (at e)) (atStart c (e .item) st (at e)); cost = count (visited c (e .item .wire)) (st .rows) }
+abbrev pub step : ℕ → State → WireEvent → Charged State
+step c st e = record { value = cond (e .ends) (afterEnd c (e .item) st (at e)) (afterStart c (e .item) st (at e)); cost = count (visited c (e .item .wire)) (st .wires) }
 
 -- `events.first().map_or(0.0, ..)`
-abbrev pub firstAt : List Event → ℕ
+abbrev pub firstAt : List WireEvent → ℕ
 firstAt [] = zeroUnit
 firstAt (e ∷ l) = at e
 
 -- before the first event: nothing is active, and `previous` is the first coordinate
 abbrev pub begin : List Item → State
-begin l = record { rows = map (λ i. record { item = i; active = false; neighbors = 0 }) l; congestedActive = 0; closePairs = 0; previous = firstAt (inOrder (events l)); congestedLength = 0; pairOverlapLength = 0; peakCloseNeighbors = 0; minimumPositive = none }
+begin l = record { wires = map (λ i. record { item = i; active = false; neighbors = 0 }) l; congestedActive = 0; closePairs = 0; previous = firstAt (inOrder (wireEvents l)); congestedLength = 0; pairOverlapLength = 0; peakCloseNeighbors = 0; minimumPositive = none }
 
 -- `congested_length_for_orientation`
 unfoldable pub sweep : ℕ → List Wire → Charged State
-sweep c l = let i = numbered 0 l in runs (step c) (begin i) (inOrder (events i))
+sweep c l = let i = numbered 0 l in runs (step c) (begin i) (inOrder (wireEvents i))
 
 -- SCOPE 5.12: the same `if oriented.len() >= 2`: else nothing is done
 unfoldable pub along : ℕ → List Wire → Charged State

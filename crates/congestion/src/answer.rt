@@ -1,6 +1,6 @@
 // Answers: from what the sweep found, and the answer without density.
 ghost use mathlib.Core.Path.{_≡_};
-ghost use Rattle.congestion.specs.Inner.Answering.{answerOf, plainly};
+ghost use Rattle.congestion.specs.Inner.Answering.{answerOf, answerWithoutDensity};
 use crate::found::Swept;
 use crate::report::CongestionAnswer;
 use crate::report::CongestionReport;
@@ -33,7 +33,7 @@ pub fn answer_of(swept: Swept, total: f64, allowance: usize) -> CongestionAnswer
 
 // The answer with pair overlap and peak zero.
 pub fn without_density(answer: CongestionAnswer) -> CongestionAnswer
-    ensures { λ r. ⌜ r ≡ plainly answer ⌝ }
+    ensures { λ r. ⌜ r ≡ answerWithoutDensity answer ⌝ }
 {
     let CongestionAnswer::Report(report) = answer else {
         return answer;

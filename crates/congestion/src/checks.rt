@@ -4,7 +4,7 @@ ghost use Rattle.laws.specs.Lists.{some-of};
 ghost use Rattle.drawing.specs.Refusals.{firstOf};
 ghost use Rattle.drawing.specs.Entries.{segmentColumns, segments};
 ghost use Rattle.drawing.specs.Inner.Lengths.{SegmentsAgree};
-ghost use Rattle.drawing.specs.Conditions.{offGridLine, offGridSegment};
+ghost use Rattle.drawing.specs.Conditions.{offGridFields, offGridSegment};
 ghost use Rattle.congestion.specs.Conditions.{congestionConditions};
 use drawing::Check;
 use drawing::Refusal;
@@ -14,7 +14,7 @@ use list_checks::check_segments;
 
 // SCOPE 7.6: a coordinate is off the grid.
 fn segment_off_grid(fixed: f64, start: f64, end: f64) -> bool
-    ensures { λ r. ⌜ r ≡ offGridLine fixed start end ⌝ }
+    ensures { λ r. ⌜ r ≡ offGridFields fixed start end ⌝ }
 {
     if !on_grid(fixed) {
         return true;

@@ -13,19 +13,19 @@ use Rattle.drawing.specs.Entries.{SegmentColumns, segments}
 use Rattle.drawing.specs.Refusals.{firstOf, checked}
 use Rattle.congestion.specs.declared.report.CongestionAnswer.the-variants.{Report, Refused}
 use Rattle.congestion.specs.Conditions.{congestionConditions}
-use Rattle.congestion.specs.Profile.{allPairs}
+use Rattle.congestion.specs.AllPairs.{allPairs}
 use Rattle.congestion.specs.Answer.{reportOf, settled, densityAnswer, withoutDensity, profileAnswer, congestionAnswer}
-use Rattle.congestion.specs.Inner.Answering.{plainly}
+use Rattle.congestion.specs.Inner.Answering.{answerWithoutDensity}
 use Rattle.congestion.proofs.Fitness.{fit-list}
 use Rattle.congestion.proofs.Answers.{density-settles, congestion-earlier, congestion-reached, cost-at-most}
 
 -- ---- SCOPE 6.2: `measure_parallel_congestion_profile_bounded`, "the same with pair overlap and peak zero"
-pub plain-answer : (c : SegmentColumns) (cutoff : Float) (allowance words : ℕ) → plainly (densityAnswer c cutoff allowance words) ≡ profileAnswer c cutoff allowance words
+pub plain-answer : (c : SegmentColumns) (cutoff : Float) (allowance words : ℕ) → answerWithoutDensity (densityAnswer c cutoff allowance words) ≡ profileAnswer c cutoff allowance words
 unfolding densityAnswer profileAnswer settled settle
 plain-answer c cutoff allowance words = go (firstOf (congestionConditions c cutoff words)) (reaches allowance (allPairs cutoff (segments c)))
   where
     go : (k : Check) (b : Bool)
-        → plainly (checked Refused k (cond b (Report (reportOf (allPairs cutoff (segments c) .value) (allPairs cutoff (segments c) .cost))) (Refused WorkLimitExceeded)))
+        → answerWithoutDensity (checked Refused k (cond b (Report (reportOf (allPairs cutoff (segments c) .value) (allPairs cutoff (segments c) .cost))) (Refused WorkLimitExceeded)))
         ≡ checked Refused k (cond b (Report (reportOf (withoutDensity (allPairs cutoff (segments c)) .value) (allPairs cutoff (segments c) .cost))) (Refused WorkLimitExceeded))
     go (Checked.Refused r) b = refl
     go Checked.Passed true = refl

@@ -22,7 +22,7 @@ use Rattle.congestion.specs.declared.report.CongestionReport.{CongestionReport}
 use Rattle.congestion.specs.declared.report.CongestionAnswer.{CongestionAnswer}
 use Rattle.congestion.specs.declared.report.CongestionAnswer.the-variants.{Report, Refused}
 use Rattle.congestion.specs.Conditions.{congestionConditions}
-use Rattle.congestion.specs.Profile.{lengths, leastNonzero, allPairs}
+use Rattle.congestion.specs.AllPairs.{lengths, leastNonzero, allPairs}
 use Rattle.congestion.specs.Answer.{reportOf, densityAnswer, withoutDensity, profileAnswer, congestionAnswer, zeros, resultOf}
 use Rattle.congestion.proofs.Fitness.{fit-list, fit-cutoff}
 use Rattle.congestion.proofs.SweepTheorem.{all-pairs-order, sweep-is-all-pairs}

@@ -26,7 +26,7 @@ use Rattle.congestion.proofs.RoundedSums.{zero-units}
 use Rattle.congestion.proofs.RangeTests.{range-floats}
 use Rattle.congestion.proofs.RoundedDrawing.{report-exact}
 use Rattle.demands.specs.Applies.{NoneApplies}
-use Rattle.demands.specs.Measures.{Run, earlier, measured, density}
+use Rattle.demands.specs.Measures.{Run, earlier, measureOf, density}
 use Rattle.demands.specs.Demand2.{Exact, Demand2}
 use Rattle.demands.proofs.FirstMet.{none-passed}
 use Rattle.demands.proofs.OneCall.{all-pairs}
@@ -70,4 +70,4 @@ grid-order x y p q g h =
     ∙ (λ i. ltb (canonical-unit x i) (canonical-unit y i))
 
 pub demand-2 : Demand2
-demand-2 = record { of-each = λ call. all-pairs (measured call) (all-facts call); exact = exact; comparisons = record { total-order = key-order; grid-order = grid-order; two-nets = two-nets-decide } }
+demand-2 = record { of-each = λ call. all-pairs (measureOf call) (all-facts call); exact = exact; comparisons = record { total-order = key-order; grid-order = grid-order; two-nets = two-nets-decide } }

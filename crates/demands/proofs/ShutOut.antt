@@ -25,8 +25,8 @@ use Rattle.congestion.specs.declared.report.CongestionAnswer.{CongestionAnswer}
 use Rattle.congestion.specs.Conditions.{congestionConditions}
 use Rattle.congestion.specs.Answer.{densityAnswer, profileAnswer, congestionAnswer, withoutDensity}
 use Rattle.demands.specs.Measures.{Measure, Run, resultOfRun, earlier, visitsReach, Lists, clearance, separation, ofCongestion, density, profile, congestion}
-use Rattle.demands.specs.Marked.{told}
-use Rattle.demands.specs.ShutOut.{On, Measured, TurnedDown, Congestion, OffTheGrid, ShutOut}
+use Rattle.demands.specs.Marked.{resultOn}
+use Rattle.demands.specs.ShutOut.{On, Measured, RefusedWith, Congestion, OffTheGrid, ShutOut}
 use Rattle.demands.proofs.Facts.{Passes, Facts}
 use Rattle.demands.proofs.ClearanceFacts.{clearance-facts}
 use Rattle.demands.proofs.SeparationFacts.{separation-facts}
@@ -89,7 +89,7 @@ module _ (m : Measure) (facts : Facts m) (results : Results m) (d : m .Drawing) 
     }
 
   -- ---- the same from the result of one call, with a scratch of this length or longer
-  module _ (long : ℕ) (room : words ≤ long) (a : m .Allowance) (f : m .Figures) (n : ℕ) (is : told m d s a long ≡ m .accepted f n) where
+  module _ (long : ℕ) (room : words ≤ long) (a : m .Allowance) (f : m .Figures) (n : ℕ) (is : resultOn m d s a long ≡ m .accepted f n) where
     passed : (c : Check) → firstOf (m .conditions d s long) ≡ c → firstOf (m .conditions d s long) ≡ Passed
     passed Passed e = e
     passed (Refused x) e = absurd (not-zero x (sym (results .of-report f n) ∙ ap (results .number) (sym is) ∙ ap (results .number) (facts .refuses d s a long x e) ∙ results .of-refusal (numberOf x)))
@@ -111,7 +111,7 @@ module _ (m : Measure) (facts : Facts m) (results : Results m) (d : m .Drawing) 
     from-told = measured passes f n (figures-and-count .0) (figures-and-count .1)
 
   -- ---- a drawing that is refused, from its refusal
-  refused-by : (k : ℕ) → Stops (m .conditions d s words) k → TurnedDown m d s words k
+  refused-by : (k : ℕ) → Stops (m .conditions d s words) k → RefusedWith m d s words k
   unfolding scratchAfter
   refused-by k x r on = record {
     returned = returns r on ∙ facts .refuses d s (r .allowance) (length (r .before)) (x .refusal) (ap firstOf (sym (roomy (length (r .before)) (on .enough))) ∙ x .first) ∙ ap (m .refused) (x .numbered);
@@ -119,8 +119,8 @@ module _ (m : Measure) (facts : Facts m) (results : Results m) (d : m .Drawing) 
   }
 
   -- and that from the result of one call
-  module _ (long : ℕ) (room : words ≤ long) (a : m .Allowance) (k : ℕ) (is : told m d s a long ≡ m .refused k) (not-0 : 0 ≡ k → ⊥) (not-7 : 7 ≡ k → ⊥) where
-    number-is : (c : m .Result) → told m d s a long ≡ c → results .number c ≡ k
+  module _ (long : ℕ) (room : words ≤ long) (a : m .Allowance) (k : ℕ) (is : resultOn m d s a long ≡ m .refused k) (not-0 : 0 ≡ k → ⊥) (not-7 : 7 ≡ k → ⊥) where
+    number-is : (c : m .Result) → resultOn m d s a long ≡ c → results .number c ≡ k
     number-is c e = ap (results .number) (sym e ∙ is) ∙ results .of-refusal k
 
     not-settled : (b : Bool) → results .number (cond b (m .accepted (m .figures d s) (m .count d s)) (m .refused 7)) ≡ k → ⊥
@@ -191,14 +191,14 @@ unfolding clearanceConditions
 clearance-roomy d threshold v h w k = rw (roomy v w (length (d .segments .net)) (length (d .nodes .id)) h k)
 
 -- ---- one drawing by each measure
-by-clearance : (d : Lists) (threshold : Float) (words : ℕ) → 32 * (length (d .segments .net) + length (d .nodes .id)) + 64 ≤ words → (long : ℕ) → words ≤ long → (a : ℕ) (f : clearance .Figures) (n : ℕ) → told clearance d threshold a long ≡ clearance .accepted f n → Measured clearance d threshold words f n
+by-clearance : (d : Lists) (threshold : Float) (words : ℕ) → 32 * (length (d .segments .net) + length (d .nodes .id)) + 64 ≤ words → (long : ℕ) → words ≤ long → (a : ℕ) (f : clearance .Figures) (n : ℕ) → resultOn clearance d threshold a long ≡ clearance .accepted f n → Measured clearance d threshold words f n
 by-clearance d threshold words h long room a f n e = from-told clearance clearance-facts clearance-results d threshold words (clearance-roomy d threshold words h) long room a f n e
 
-by-separation : (s : SegmentColumns) (words : ℕ) → 32 * (length (s .net) + 0) + 64 ≤ words → (a : ℕ) (f : separation .Figures) (n : ℕ) → told separation s tt a words ≡ separation .accepted f n → Measured separation s tt words f n
+by-separation : (s : SegmentColumns) (words : ℕ) → 32 * (length (s .net) + 0) + 64 ≤ words → (a : ℕ) (f : separation .Figures) (n : ℕ) → resultOn separation s tt a words ≡ separation .accepted f n → Measured separation s tt words f n
 by-separation s words h a f n e = from-told separation separation-facts separation-results s tt words (separation-roomy s words h) words (le-refl words) a f n e
 
 -- the three calls have one count, and their figures are parts of one report
-by-congestion : (s : SegmentColumns) (cutoff : Float) (words : ℕ) → 32 * (length (s .net) + 0) + 64 ≤ words → (a : ℕ) (f : ParallelCongestion × Gap) (n : ℕ) → told density s cutoff a words ≡ density .accepted f n → Congestion s cutoff words f n
+by-congestion : (s : SegmentColumns) (cutoff : Float) (words : ℕ) → 32 * (length (s .net) + 0) + 64 ≤ words → (a : ℕ) (f : ParallelCongestion × Gap) (n : ℕ) → resultOn density s cutoff a words ≡ density .accepted f n → Congestion s cutoff words f n
 by-congestion s cutoff words h a f n e =
     let room = congestion-roomy s cutoff words h in
     let p = passes density density-facts density-results s cutoff words room words (le-refl words) a f n e in
@@ -209,7 +209,7 @@ by-congestion s cutoff words h a f n e =
       by-congestion = measured congestion congestion-facts always-results s cutoff words room p f n (q .0) (q .1);
     }
 
-off-the-grid : (s : SegmentColumns) (cutoff : Float) (words : ℕ) → 32 * (length (s .net) + 0) + 64 ≤ words → (a : ℕ) → told density s cutoff a words ≡ density .refused 6 → OffTheGrid s cutoff words
+off-the-grid : (s : SegmentColumns) (cutoff : Float) (words : ℕ) → 32 * (length (s .net) + 0) + 64 ≤ words → (a : ℕ) → resultOn density s cutoff a words ≡ density .refused 6 → OffTheGrid s cutoff words
 off-the-grid s cutoff words h a e =
     let room = congestion-roomy s cutoff words h in
     let x = stops density density-facts density-results s cutoff words room words (le-refl words) a 6 e (λ z. omega arith) (λ z. omega arith) in
@@ -219,7 +219,7 @@ off-the-grid s cutoff words h a e =
       by-congestion = refused-by congestion congestion-facts always-results s cutoff words room 6 x;
     }
 
-unfit : (d : Lists) (threshold : Float) (words : ℕ) → 32 * (length (d .segments .net) + length (d .nodes .id)) + 64 ≤ words → (long : ℕ) → words ≤ long → (a : ℕ) → told clearance d threshold a long ≡ clearance .refused 5 → TurnedDown clearance d threshold words 5
+unfit : (d : Lists) (threshold : Float) (words : ℕ) → 32 * (length (d .segments .net) + length (d .nodes .id)) + 64 ≤ words → (long : ℕ) → words ≤ long → (a : ℕ) → resultOn clearance d threshold a long ≡ clearance .refused 5 → RefusedWith clearance d threshold words 5
 unfit d threshold words h long longer a e =
     let room = clearance-roomy d threshold words h in
     refused-by clearance clearance-facts clearance-results d threshold words room 5 (stops clearance clearance-facts clearance-results d threshold words room long longer a 5 e (λ z. omega arith) (λ z. omega arith))

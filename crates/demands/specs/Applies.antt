@@ -19,16 +19,16 @@ pub record First (l : List (Bool × Refusal)) (refusal : Refusal) : Type 0 where
   pub none-before : NoneApplies before
 
 -- SCOPE 7.0, "Turned down, in checking order": the number of each in that list
-unfoldable pub placeOf : Refusal → ℕ
-placeOf MalformedFile = 1
-placeOf ColumnsDiffer = 2
-placeOf TooManyEntries = 3
-placeOf ShortScratch = 4
-placeOf InvalidInput = 5
-placeOf OffGrid = 6
-placeOf WorkLimitExceeded = 7
+unfoldable pub placeInList : Refusal → ℕ
+placeInList MalformedFile = 1
+placeInList ColumnsDiffer = 2
+placeInList TooManyEntries = 3
+placeInList ShortScratch = 4
+placeInList InvalidInput = 5
+placeInList OffGrid = 6
+placeInList WorkLimitExceeded = 7
 
 -- conditions that are checked in this order, from a number on: none follows one with a later number, and the spent allowance follows them all
 abbrev pub InOrder : ℕ → List (Bool × Refusal) → Type 0
-InOrder place [] = place < placeOf WorkLimitExceeded
-InOrder place (c ∷ l) = (place ≤ placeOf (c .1)) × InOrder (placeOf (c .1)) l
+InOrder place [] = place < placeInList WorkLimitExceeded
+InOrder place (c ∷ l) = (place ≤ placeInList (c .1)) × InOrder (placeInList (c .1)) l

@@ -20,7 +20,7 @@ use Rattle.congestion.specs.Walk.{inRange}
 use Rattle.congestion.specs.Rounded.{inRangeFloats, roundedTotal, roundedOverlap}
 use Rattle.congestion.specs.RoundedSweep.{roundedSweep}
 use Rattle.demands.specs.Applies.{NoneApplies}
-use Rattle.demands.specs.Measures.{Measure, Run, Reported, resultOfRun, visitCount, earlier, Call, measured, density}
+use Rattle.demands.specs.Measures.{Measure, Run, Reported, resultOfRun, visitCount, earlier, Call, measureOf, density}
 
 pub record AllPairs (m : Measure) : Type 0 where
   -- SCOPE 6.4, 8.3, "bit by bit": every float of the figures has one bit pattern, since none is a NaN
@@ -49,6 +49,6 @@ pub record Comparisons : Type 0 where
   pub two-nets : (ls : List ℕ) (active : List Row) (net h first : ℕ) → hasOther (summaryOver ls active h first) net ≡ otherIn ls active net first (first + 2 ^ h)
 
 pub record Demand2 : Type 0 where
-  pub of-each : (call : Call) → AllPairs (measured call)
+  pub of-each : (call : Call) → AllPairs (measureOf call)
   pub exact : (r : Run density) → NoneApplies (earlier density r) → Exact (r .drawing) (r .settings)
   pub comparisons : Comparisons

@@ -12,7 +12,7 @@ use Rattle.separation.specs.Lines.{lines, levels}
 use Rattle.congestion.specs.Visits as congestionVisits
 use Rattle.congestion.specs.Visits.{segmentsAlong}
 use Rattle.demands.specs.Applies.{NoneApplies}
-use Rattle.demands.specs.Measures.{Measure, Run, resultOfRun, visitCount, earlier, allPairsReport, Lists, clearance, separation, density, profile, congestion, Call, measured}
+use Rattle.demands.specs.Measures.{Measure, Run, resultOfRun, visitCount, earlier, allPairsReport, Lists, clearance, separation, density, profile, congestion, Call, measureOf}
 
 -- SCOPE 8.3: "Take any two calls of one measure on one drawing with the same settings, its lists in any two orders, under any two allowances and whatever either scratch held before. Where neither call meets an earlier refusal"
 pub record AnyTwo (m : Measure) (a b : Run m) : Type 0 where
@@ -55,5 +55,5 @@ pub record Counts : Type 0 where
   pub congestion-exactly : (d : SegmentColumns) (cutoff : Float) → congestion .count d cutoff ≡ congestionVisits.visitCount cutoff (segments d)
 
 pub record Demand3 : Type 0 where
-  pub of-each : (call : Call) → Depends (measured call)
+  pub of-each : (call : Call) → Depends (measureOf call)
   pub counts : Counts

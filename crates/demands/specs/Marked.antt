@@ -10,64 +10,64 @@ use Rattle.drawing.specs.Entries.{SegmentColumns, NodeColumns, ExemptionColumns
 use Rattle.demands.specs.Measures.{Measure, clearance, separation, density}
 
 -- ---- floats by their bits
-abbrev pub float : ℕ → Float
-float bits = ofBits binary64 bits
+abbrev pub fromBits : ℕ → Float
+fromBits bits = ofBits binary64 bits
 
 abbrev pub zero : Float
-zero = float 0
+zero = fromBits 0
 
 abbrev pub minus-zero : Float
-minus-zero = float 0x8000_0000_0000_0000
+minus-zero = fromBits 0x8000_0000_0000_0000
 
 abbrev pub one : Float
-one = float 0x3ff0_0000_0000_0000
+one = fromBits 0x3ff0_0000_0000_0000
 
 abbrev pub minus-one : Float
-minus-one = float 0xbff0_0000_0000_0000
+minus-one = fromBits 0xbff0_0000_0000_0000
 
 abbrev pub two : Float
-two = float 0x4000_0000_0000_0000
+two = fromBits 0x4000_0000_0000_0000
 
 abbrev pub three : Float
-three = float 0x4008_0000_0000_0000
+three = fromBits 0x4008_0000_0000_0000
 
 abbrev pub four : Float
-four = float 0x4010_0000_0000_0000
+four = fromBits 0x4010_0000_0000_0000
 
 abbrev pub five : Float
-five = float 0x4014_0000_0000_0000
+five = fromBits 0x4014_0000_0000_0000
 
 abbrev pub six : Float
-six = float 0x4018_0000_0000_0000
+six = fromBits 0x4018_0000_0000_0000
 
 abbrev pub nine : Float
-nine = float 0x4022_0000_0000_0000
+nine = fromBits 0x4022_0000_0000_0000
 
 abbrev pub ten : Float
-ten = float 0x4024_0000_0000_0000
+ten = fromBits 0x4024_0000_0000_0000
 
 abbrev pub fifteen : Float
-fifteen = float 0x402e_0000_0000_0000
+fifteen = fromBits 0x402e_0000_0000_0000
 
 abbrev pub twenty : Float
-twenty = float 0x4034_0000_0000_0000
+twenty = fromBits 0x4034_0000_0000_0000
 
 abbrev pub a-128th : Float
-a-128th = float 0x3f80_0000_0000_0000
+a-128th = fromBits 0x3f80_0000_0000_0000
 
 abbrev pub a-64th : Float
-a-64th = float 0x3f90_0000_0000_0000
+a-64th = fromBits 0x3f90_0000_0000_0000
 
 abbrev pub a-32nd : Float
-a-32nd = float 0x3fa0_0000_0000_0000
+a-32nd = fromBits 0x3fa0_0000_0000_0000
 
 -- 1,048,576
 abbrev pub the-most : Float
-the-most = float 0x4130_0000_0000_0000
+the-most = fromBits 0x4130_0000_0000_0000
 
 -- ---- drawings: horizontal segments, each by its fixed coordinate, start and end
-abbrev pub none : SegmentColumns
-none = segmentColumns [] [] [] [] []
+abbrev pub no-segments : SegmentColumns
+no-segments = segmentColumns [] [] [] [] []
 
 abbrev pub alone : ℕ → Float → Float → Float → SegmentColumns
 alone net fixed start end = segmentColumns (net ∷ []) (1 ∷ []) (fixed ∷ []) (start ∷ []) (end ∷ [])
@@ -89,8 +89,8 @@ abbrev pub D-exemptions : ExemptionColumns
 D-exemptions = exemptionColumns (2 ∷ []) (7 ∷ [])
 
 -- ---- the results: a measure on a drawing with its settings, under an allowance, with a scratch of the given number of words
-abbrev pub told : (m : Measure) → m .Drawing → m .Settings → m .Allowance → ℕ → m .Result
-told m drawing settings allowance words = m .result (m .answer drawing settings allowance words)
+abbrev pub resultOn : (m : Measure) → m .Drawing → m .Settings → m .Allowance → ℕ → m .Result
+resultOn m drawing settings allowance words = m .result (m .answer drawing settings allowance words)
 
 -- separation: least, least nonzero, visits
 abbrev pub separationIs : Gap → Gap → ℕ → separation .Result
@@ -106,31 +106,31 @@ congestionIs t c o p g n = density .accepted (record { «total_length» = t; «c
 
 pub record Marked : Type 0 where
   -- SCOPE 13.a: "(a) one segment, allowance 0: separation absent, 0 visits"
-  pub a : told separation (alone 1 zero zero ten) tt 0 96 ≡ separationIs Absent Absent 0
+  pub a : resultOn separation (alone 1 zero zero ten) tt 0 96 ≡ separationIs Absent Absent 0
   -- SCOPE 13.b: "(b) D's separation accepted at 16, refused at 15"
-  pub b-accepted : told separation D tt 16 128 ≡ separationIs (Present four) (Present four) 16
-  pub b-refused : told separation D tt 15 128 ≡ separation .refused 7
+  pub b-accepted : resultOn separation D tt 16 128 ≡ separationIs (Present four) (Present four) 16
+  pub b-refused : resultOn separation D tt 15 128 ≡ separation .refused 7
   -- SCOPE 13.c: "(c) D's congestion at 4 and 3"
-  pub c-accepted : told density D six 4 128 ≡ congestionIs twenty ten five 1 (Present four) 4
-  pub c-refused : told density D six 3 128 ≡ density .refused 7
+  pub c-accepted : resultOn density D six 4 128 ≡ congestionIs twenty ten five 1 (Present four) 4
+  pub c-refused : resultOn density D six 3 128 ≡ density .refused 7
   -- SCOPE 13.d: "(d) 0 to 5 and 5 to 9, nets 1 and 2: absent"
-  pub d : told separation (pair 1 2 (zero, zero, five) (four, five, nine)) tt 1000 128 ≡ separationIs Absent Absent 14
+  pub d : resultOn separation (pair 1 2 (zero, zero, five) (four, five, nine)) tt 1000 128 ≡ separationIs Absent Absent 14
   -- SCOPE 13.e: "(e) equal fixed, overlapping, two nets: least 0, nonzero absent"
-  pub e : told separation (pair 1 2 (four, zero, ten) (four, five, nine)) tt 1000 128 ≡ separationIs (Present zero) Absent 10
+  pub e : resultOn separation (pair 1 2 (four, zero, ten) (four, five, nine)) tt 1000 128 ≡ separationIs (Present zero) Absent 10
   -- SCOPE 13.f: "(f) one net, gap 1: absent"
-  pub f : told separation (pair 1 1 (zero, zero, ten) (one, five, nine)) tt 1000 128 ≡ separationIs Absent Absent 14
+  pub f : resultOn separation (pair 1 1 (zero, zero, ten) (one, five, nine)) tt 1000 128 ≡ separationIs Absent Absent 14
   -- SCOPE 13.g: "(g) distance 2, threshold 2: no violation"
-  pub g : told clearance (record { segments = alone 1 zero zero ten; nodes = node-7 two; exemptions = D-exemptions }) two 1000 160 ≡ clearanceIs (Present two) 0 1
+  pub g : resultOn clearance (record { segments = alone 1 zero zero ten; nodes = node-7 two; exemptions = D-exemptions }) two 1000 160 ≡ clearanceIs (Present two) 0 1
   -- SCOPE 13.h: "(h) no nodes, threshold -1: 5"
-  pub h : told clearance (record { segments = D; nodes = no-nodes; exemptions = D-exemptions }) minus-one 1000 160 ≡ clearance .refused 5
+  pub h : resultOn clearance (record { segments = D; nodes = no-nodes; exemptions = D-exemptions }) minus-one 1000 160 ≡ clearance .refused 5
   -- SCOPE 13.i: "(i) no segments, threshold 0: absent, 0, 0"
-  pub i : told clearance (record { segments = none; nodes = node-7 one; exemptions = D-exemptions }) zero 0 160 ≡ clearanceIs Absent 0 0
+  pub i : resultOn clearance (record { segments = no-segments; nodes = node-7 one; exemptions = D-exemptions }) zero 0 160 ≡ clearanceIs Absent 0 0
   -- SCOPE 13.j: "(j) gap 4, cutoff 4, two overlapping segments: congested 0, 2 visits"
-  pub j : told density D four 2 128 ≡ congestionIs twenty zero zero 0 Absent 2
+  pub j : resultOn density D four 2 128 ≡ congestionIs twenty zero zero 0 Absent 2
   -- SCOPE 13.k: "(k) 1/64 and 1,048,576 pass, 1/128 gives 6"
-  pub k-passes : told density (alone 1 the-most a-64th a-32nd) a-64th 0 96 ≡ congestionIs a-64th zero zero 0 Absent 0
-  pub k-off-the-grid : told density (alone 1 the-most a-128th a-32nd) a-64th 0 96 ≡ density .refused 6
+  pub k-passes : resultOn density (alone 1 the-most a-64th a-32nd) a-64th 0 96 ≡ congestionIs a-64th zero zero 0 Absent 0
+  pub k-off-the-grid : resultOn density (alone 1 the-most a-128th a-32nd) a-64th 0 96 ≡ density .refused 6
   -- SCOPE 13.l: "(l) fixed -1 and -0, cutoff 1: not close"
-  pub l : told density (pair 1 2 (minus-one, zero, ten) (minus-zero, zero, ten)) one 2 128 ≡ congestionIs twenty zero zero 0 Absent 2
+  pub l : resultOn density (pair 1 2 (minus-one, zero, ten) (minus-zero, zero, ten)) one 2 128 ≡ congestionIs twenty zero zero 0 Absent 2
   -- SCOPE 11.5, D's sheet: "clearance 3ff0000000000000 1 2", "separation 4010000000000000 4010000000000000 16", "congestion 4034000000000000 4024000000000000 4014000000000000 1 4010000000000000 4"; the last two are (b) and (c)
-  pub sheet : told clearance (record { segments = D; nodes = node-7 one; exemptions = D-exemptions }) two 1000 160 ≡ clearanceIs (Present one) 1 2
+  pub sheet : resultOn clearance (record { segments = D; nodes = node-7 one; exemptions = D-exemptions }) two 1000 160 ≡ clearanceIs (Present one) 1 2

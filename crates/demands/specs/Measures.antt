@@ -33,7 +33,7 @@ use Rattle.congestion.specs.declared.report.CongestionReport.{CongestionReport}
 use Rattle.congestion.specs.declared.report.CongestionAnswer.{CongestionAnswer}
 use Rattle.congestion.specs.Conditions.{congestionConditions}
 use Rattle.congestion.specs.Visits as congestionVisits
-use Rattle.congestion.specs.Profile.{allPairs}
+use Rattle.congestion.specs.AllPairs.{allPairs}
 use Rattle.congestion.specs.Walk as congestionWalk
 use Rattle.congestion.specs.Answer.{densityAnswer, profileAnswer, congestionAnswer, withoutDensity, reportOf, zeros, resultOf}
 
@@ -181,12 +181,12 @@ congestion = ofCongestion (λ c. c) (Unit {0}) (λ always n. true) (λ s cutoff 
 pub data Call : Type 0 where
   edge-node-clearance parallel-separation parallel-density-profile parallel-congestion-profile parallel-congestion : Call
 
-abbrev pub measured : Call → Measure
-measured edge-node-clearance = clearance
-measured parallel-separation = separation
-measured parallel-density-profile = density
-measured parallel-congestion-profile = profile
-measured parallel-congestion = congestion
+abbrev pub measureOf : Call → Measure
+measureOf edge-node-clearance = clearance
+measureOf parallel-separation = separation
+measureOf parallel-density-profile = density
+measureOf parallel-congestion-profile = profile
+measureOf parallel-congestion = congestion
 
 -- ---- what a call's contract says of one call (SCOPE 8.5): one equation for what is returned, one for the scratch at exit, and that the floats of a drawing that passes the checks are values of binary64, as the type `f64` implies
 pub record Says (m : Measure) (drawing : m .Drawing) (settings : m .Settings) (allowance : m .Allowance) (before : List ℕ) (returned : m .Answer) (after : List ℕ) : Type 0 where

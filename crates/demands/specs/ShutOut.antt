@@ -13,7 +13,7 @@ use Rattle.congestion.specs.declared.report.ParallelCongestion.{ParallelCongest
 use Rattle.congestion.specs.Answer.{withoutDensity}
 use Rattle.demands.specs.Measures.{Measure, Run, resultOfRun, clearance, separation, density, profile, congestion}
 use Rattle.demands.specs.Demand1.{Returns, cleared}
-use Rattle.demands.specs.Marked.{zero, minus-zero, one, minus-one, two, three, four, five, six, nine, ten, twenty, a-128th, a-64th, a-32nd, the-most, none, alone, pair, D, node-7, no-nodes, D-exemptions}
+use Rattle.demands.specs.Marked.{zero, minus-zero, one, minus-one, two, three, four, five, six, nine, ten, twenty, a-128th, a-64th, a-32nd, the-most, no-segments, alone, pair, D, node-7, no-nodes, D-exemptions}
 
 -- a call on this drawing with these settings, with a scratch of at least the given number of words
 pub record On (m : Measure) (drawing : m .Drawing) (settings : m .Settings) (words : ℕ) (r : Run m) : Type 0 where
@@ -33,13 +33,13 @@ pub record Measured (m : Measure) (drawing : m .Drawing) (settings : m .Settings
   pub scratch : (r : Run m) → On m drawing settings words r → r .after ≡ cleared (r .before)
 
 -- a drawing that is refused by that number, for every allowance, and the scratch is as it was
-abbrev pub TurnedDown : (m : Measure) → m .Drawing → m .Settings → ℕ → ℕ → Type 0
-TurnedDown m drawing settings words number = (r : Run m) → On m drawing settings words r → Returns m r (m .refused number) (r .before)
+abbrev pub RefusedWith : (m : Measure) → m .Drawing → m .Settings → ℕ → ℕ → Type 0
+RefusedWith m drawing settings words number = (r : Run m) → On m drawing settings words r → Returns m r (m .refused number) (r .before)
 
 -- ---- congestion, by all three calls
 -- total, congested, pair overlap, peak; and the least nonzero close gap
-abbrev figuresOf : Float → Float → Float → ℕ → Gap → ParallelCongestion × Gap
-figuresOf t c o p g = (record { «total_length» = t; «congested_length» = c; «pair_overlap_length» = o; «peak_close_neighbors» = p }, g)
+abbrev congestionFigures : Float → Float → Float → ℕ → Gap → ParallelCongestion × Gap
+congestionFigures t c o p g = (record { «total_length» = t; «congested_length» = c; «pair_overlap_length» = o; «peak_close_neighbors» = p }, g)
 
 pub record Congestion (drawing : SegmentColumns) (cutoff : Float) (words : ℕ) (figures : ParallelCongestion × Gap) (visits : ℕ) : Type 0 where
   pub by-density : Measured density drawing cutoff words figures visits
@@ -49,9 +49,9 @@ pub record Congestion (drawing : SegmentColumns) (cutoff : Float) (words : ℕ) 
   pub by-congestion : Measured congestion drawing cutoff words figures visits
 
 pub record OffTheGrid (drawing : SegmentColumns) (cutoff : Float) (words : ℕ) : Type 0 where
-  pub by-density : TurnedDown density drawing cutoff words 6
-  pub by-profile : TurnedDown profile drawing cutoff words 6
-  pub by-congestion : TurnedDown congestion drawing cutoff words 6
+  pub by-density : RefusedWith density drawing cutoff words 6
+  pub by-profile : RefusedWith profile drawing cutoff words 6
+  pub by-congestion : RefusedWith congestion drawing cutoff words 6
 
 -- D's node 7, and a node 8 below it, farther from D's first segment
 abbrev nodes-7-and-8 : NodeColumns
@@ -61,7 +61,7 @@ pub record ShutOut : Type 0 where
   -- ---- drawing D (SCOPE 11.5), each line of its sheet: every gap is present. Its sweeps begin with net 1 alone: the first event finds no pair.
   pub D-clearance : Measured clearance (record { segments = D; nodes = node-7 one; exemptions = D-exemptions }) two 160 (record { least = Present one; violations = 1 }) 2
   pub D-separation : Measured separation D tt 128 (record { least = Present four; leastNonzero = Present four }) 16
-  pub D-congestion : Congestion D six 128 (figuresOf twenty ten five 1 (Present four)) 4
+  pub D-congestion : Congestion D six 128 (congestionFigures twenty ten five 1 (Present four)) 4
   -- a node that the walk prunes: one visit for one segment and two nodes
   pub one-pruned : Measured clearance (record { segments = alone 1 zero zero ten; nodes = nodes-7-and-8; exemptions = D-exemptions }) zero 160 (record { least = Present one; violations = 0 }) 1
   -- ---- the drawings of SCOPE 13, by the letters of the cases; (b) and (c) are D's
@@ -70,9 +70,9 @@ pub record ShutOut : Type 0 where
   pub e : Measured separation (pair 1 2 (four, zero, ten) (four, five, nine)) tt 128 (record { least = Present zero; leastNonzero = Absent }) 10
   pub f : Measured separation (pair 1 1 (zero, zero, ten) (one, five, nine)) tt 128 (record { least = Absent; leastNonzero = Absent }) 14
   pub g : Measured clearance (record { segments = alone 1 zero zero ten; nodes = node-7 two; exemptions = D-exemptions }) two 128 (record { least = Present two; violations = 0 }) 1
-  pub h : TurnedDown clearance (record { segments = D; nodes = no-nodes; exemptions = D-exemptions }) minus-one 128 5
-  pub i : Measured clearance (record { segments = none; nodes = node-7 one; exemptions = D-exemptions }) zero 96 (record { least = Absent; violations = 0 }) 0
-  pub j : Congestion D four 128 (figuresOf twenty zero zero 0 Absent) 2
-  pub k-passes : Congestion (alone 1 the-most a-64th a-32nd) a-64th 96 (figuresOf a-64th zero zero 0 Absent) 0
+  pub h : RefusedWith clearance (record { segments = D; nodes = no-nodes; exemptions = D-exemptions }) minus-one 128 5
+  pub i : Measured clearance (record { segments = no-segments; nodes = node-7 one; exemptions = D-exemptions }) zero 96 (record { least = Absent; violations = 0 }) 0
+  pub j : Congestion D four 128 (congestionFigures twenty zero zero 0 Absent) 2
+  pub k-passes : Congestion (alone 1 the-most a-64th a-32nd) a-64th 96 (congestionFigures a-64th zero zero 0 Absent) 0
   pub k-off-the-grid : OffTheGrid (alone 1 the-most a-128th a-32nd) a-64th 96
-  pub l : Congestion (pair 1 2 (minus-one, zero, ten) (minus-zero, zero, ten)) one 128 (figuresOf twenty zero zero 0 Absent) 2
+  pub l : Congestion (pair 1 2 (minus-one, zero, ten) (minus-zero, zero, ten)) one 128 (congestionFigures twenty zero zero 0 Absent) 2

@@ -24,12 +24,12 @@ module _ (s : SegmentColumns) (n : NodeColumns) (e : ExemptionColumns) (r : Tigh
   pub record Pair : Type 0 where
     pub segment : ℕ
     pub node : ℕ
-    pub told : resultOf r ≡ (0, some (segment, node))
+    pub returned : resultOf r ≡ (0, some (segment, node))
     pub tight : Tight (exemptions e) (segments s) (nodes n) segment node
 
   pub record Holds : Type 0 where
     -- SCOPE 12.1: "for the tight pair, an absent pair"
-    pub unfit : (why : Refusal) → First (tightPairConditions s n e) why → resultOf r ≡ (numberOf why, none)
+    pub unfit : (refusal : Refusal) → First (tightPairConditions s n e) refusal → resultOf r ≡ (numberOf refusal, none)
     -- SCOPE 12.2: "or absent if there is none"
     pub no-pair : NoneApplies (tightPairConditions s n e) → (threshold : Float) → leastClearance threshold ≡ Absent → resultOf r ≡ (0, none)
     -- SCOPE 12.2: "any pair .. that is not exempt and whose distance is the least clearance"

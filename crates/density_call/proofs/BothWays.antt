@@ -32,11 +32,11 @@ use Rattle.congestion.specs.declared.found.Swept.{Swept}
 use Rattle.congestion.specs.declared.found.Swept.the-variants.{Went, Spent}
 use Rattle.congestion.specs.Wires.{wireOf, cutoffOf}
 use Rattle.congestion.specs.Figures.{total}
-use Rattle.congestion.specs.Profile.{lengths, allPairs}
+use Rattle.congestion.specs.AllPairs.{lengths, allPairs}
 use Rattle.congestion.specs.Walk.{State, along, sweepWires, only, gapOfUnits}
-use Rattle.congestion.specs.Inner.Keys.{Held}
+use Rattle.congestion.specs.Inner.Keys.{Representable}
 use Rattle.density_call.specs.Inner.Sweeping.{sweptOf}
-use Rattle.density_call.specs.Inner.Measuring.{wireOfRow, foundOf, togetherOf}
+use Rattle.density_call.specs.Inner.Measuring.{wireOfRow, foundOf, combinedOf}
 use Rattle.congestion.proofs.Fitness.{FitList, sound-wires}
 use Rattle.congestion.proofs.Beginning.{Sound}
 use Rattle.congestion.proofs.Bounds.{Small, congested-small, overlap-small}
@@ -179,11 +179,11 @@ module _ (cutoff : Float) (grid : T (onGrid cutoff)) (l : List Segment) (fit : F
         add-units (h .pairOverlapLength) (v .pairOverlapLength) (below-left _ _ _ _ _ a b t k) (below-right _ _ _ _ _ a b t k)
 
     -- the least gaps of both are numbers that a float holds: the lesser gap is that of the lesser number
-    held-way : (b : Bool) → Held (leastUnits c (only b (wiresInRows l)))
+    held-way : (b : Bool) → Representable (leastUnits c (only b (wiresInRows l)))
     held-way b = held-least c (only b (wiresInRows l)) (λ w m. low-wires l fit w (perm-mem w same-wires (of-only b w (wiresInRows l) m .0)))
 
     least-lesser : lesserGap (gapOfUnits (h .minimumPositive)) (gapOfUnits (v .minimumPositive)) ≡ gapOfUnits (lesser ltb (h .minimumPositive) (v .minimumPositive))
-    least-lesser = lesser-gap (h .minimumPositive) (v .minimumPositive) (subst Held (sym (across-right .least-right)) (held-way true)) (subst Held (sym (down-right .least-right)) (held-way false))
+    least-lesser = lesser-gap (h .minimumPositive) (v .minimumPositive) (subst Representable (sym (across-right .least-right)) (held-way true)) (subst Representable (sym (down-right .least-right)) (held-way false))
 
     -- ---- too few visits, whatever the sweeps find
     cost-least : atLeastTwo (length (oriented 1 l)) + atLeastTwo (length (oriented 0 l)) ≤ allPairs cutoff l .cost
@@ -220,13 +220,13 @@ module _ (cutoff : Float) (grid : T (onGrid cutoff)) (l : List Segment) (fit : F
             let z : second c some l h (a .remaining) ≡ spent = rw (spent-is (within (a .remaining) (down c some l)) (sym e ∙ other)) (onward-spent (λ w r. left (together c some l h w) r)) in
             sym (ap foundOf (on ∙ z))
 
-        pub went-both : (d r : Found) → next ≡ Went d → r ≡ togetherOf a d → Went r ≡ foundOf (within m (allPairs cutoff l))
+        pub went-both : (d r : Found) → next ≡ Went d → r ≡ combinedOf a d → Went r ≡ foundOf (within m (allPairs cutoff l))
         unfolding foundOf lengths
         went-both d r e t =
             let p = reached m (across c some l) a (sym went ∙ one) in
             let q = reached (a .remaining) (down c some l) d (sym e ∙ other) in
             let z : second c some l h (a .remaining) ≡ left (together c some l h v) (d .remaining) = rw (q .paid) (onward-left v (d .remaining) (λ w r. left (together c some l h w) r)) in
-            ap Went (t ∙ (λ i. togetherOf (p .is i) (q .is i)))
+            ap Went (t ∙ (λ i. combinedOf (p .is i) (q .is i)))
             ∙ (λ i. Went (record {
               «congested_length» = congested-sum i;
               «pair_overlap_length» = overlap-sum i;

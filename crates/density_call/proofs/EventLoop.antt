@@ -30,9 +30,9 @@ use Rattle.density_call.specs.declared.sweep.Handled.{Handled}
 use Rattle.density_call.specs.declared.sweep.Handled.the-variants.{Went, Spent}
 use Rattle.congestion.specs.declared.found.Swept.the-variants.{Went as Done, Spent as Over}
 use Rattle.congestion.specs.Wires.{Wire}
-use Rattle.congestion.specs.Walk.{Item, Event, State, numbered, at, events, inOrder, step, firstAt, begin, sweep}
+use Rattle.congestion.specs.Walk.{Item, WireEvent, State, numbered, at, wireEvents, inOrder, step, firstAt, begin, sweep}
 use Rattle.congestion.specs.Inner.Keys.{Key}
-use Rattle.density_call.specs.Inner.Tables.{noWire, itemAt, eventAt, Tabled, rowFrom, rowsFrom, Stored}
+use Rattle.density_call.specs.Inner.Tables.{noWire, itemAt, eventAt, Tabled, wireStateFrom, wireStatesFrom, Stored}
 use Rattle.density_call.specs.Inner.Sweeping.{Follows, AtEvent, Steps, Handles, AtFirst, sweptOf}
 use Rattle.congestion.proofs.Moments.{Fit, event}
 use Rattle.congestion.proofs.Passing.{run}
@@ -63,11 +63,11 @@ module _ (L : List Wire) (w : List ℕ) (clear : (i : ℕ) → i < 2 * length L 
   unfolding member
   none-active i h = rw (getD-drop (length L) w (i / 64) 0 ∙ clear (length L + i / 64) (omega arith)) (bit-zero (i % 64))
 
-  begin-rows : begin (numbered 0 L) .rows ≡ rowsFrom L w
+  begin-rows : begin (numbered 0 L) .wires ≡ wireStatesFrom L w
   begin-rows =
       ap (map (λ (i : Item). record { item = i; active = false; neighbors = 0 })) (places L)
       ∙ map-map (λ (i : Item). record { item = i; active = false; neighbors = 0 }) (itemAt L) (upTo (length L))
-      ∙ map-same (λ i. record { item = itemAt L i; active = false; neighbors = 0 }) (rowFrom L w) (upTo (length L)) (λ i m.
+      ∙ map-same (λ i. record { item = itemAt L i; active = false; neighbors = 0 }) (wireStateFrom L w) (upTo (length L)) (λ i m.
       let h = upTo-below (length L) i m in
       ap₂ (λ (b : Bool) (k : ℕ). record { item = itemAt L i; active = b; neighbors = k }) (sym (none-active i h)) (sym (clear i (omega arith))))
 
@@ -87,13 +87,13 @@ small-wires c L s tabled w m =
 -- ---- the coordinate of an event is the float of the word at its number after the event numbers
 event-key : (c : ℕ) (L : List Wire) (s : List ℕ) → Tabled c L s → (e : ℕ) → e < 2 * length L → Key (getD s (2 * length L + e) 0) (at (eventAt L e))
 event-key c L s tabled e h = elim (le-or-lt (length L) e) [
-  | inr l ↦ subst (λ (z : Event). Key (getD s (2 * length L + e) 0) (at z)) (sym (ends-at L e l)) (tabled .ends e l)
+  | inr l ↦ subst (λ (z : WireEvent). Key (getD s (2 * length L + e) 0) (at z)) (sym (ends-at L e l)) (tabled .ends e l)
   | inl l ↦
       let j = e - length L in
       let n : length L + j ≡ e = omega arith in
       let k : 3 * length L + j ≡ 2 * length L + e = omega arith in
       let is : eventAt L e ≡ event false (itemAt L j) = ap (eventAt L) (sym n) ∙ starts-at L (length L) j refl in
-      subst (λ (z : Event). Key (getD s (2 * length L + e) 0) (at z)) (sym is) (subst (λ (m : ℕ). Key (getD s m 0) (itemAt L j .wire .start)) k (tabled .starts j (omega arith)))
+      subst (λ (z : WireEvent). Key (getD s (2 * length L + e) 0) (at z)) (sym is) (subst (λ (m : ℕ). Key (getD s m 0) (itemAt L j .wire .start)) k (tabled .starts j (omega arith)))
 ]
 
 -- ---- an event from n on is a start
@@ -115,8 +115,8 @@ module _ (s₀ : List ℕ) (n allowance : ℕ) (a : AtFirst s₀ n) where
   abbrev items : List Item
   items = numbered 0 (a .L)
 
-  abbrev order : List Event
-  order = inOrder (events items)
+  abbrev order : List WireEvent
+  order = inOrder (wireEvents items)
 
   abbrev all : Charged State
   all = sweep (a .c) (a .L)
@@ -172,7 +172,7 @@ module _ (s₀ : List ℕ) (n allowance : ℕ) (a : AtFirst s₀ n) where
     room = a .room;
     tabled = a .tabled;
     stored = record {
-      rows = begin-rows (a .L) (drop (8 * n) s₀) (λ i h. getD-drop (8 * n) s₀ i 0 ∙ a .cleared i (omega (arith, a .size)));
+      wires = begin-rows (a .L) (drop (8 * n) s₀) (λ i h. getD-drop (8 * n) s₀ i 0 ∙ a .cleared i (omega (arith, a .size)));
       room = omega (arith, a .room, a .size, length-drop (8 * n) s₀);
     };
     follows = record {
@@ -196,27 +196,27 @@ module _ (s₀ : List ℕ) (n allowance : ℕ) (a : AtFirst s₀ n) where
       first = next-is s₀ (a .room) (a .tabled) 0 (omega (arith, a .some))
 
       first-key : Key (getD s₀ (2 * n + getD s₀ 0 0) 0) (firstAt order)
-      first-key = subst (λ (l : List Event). Key (getD s₀ (2 * n + getD s₀ 0 0) 0) (firstAt l)) (sym first)
+      first-key = subst (λ (l : List WireEvent). Key (getD s₀ (2 * n + getD s₀ 0 0) 0) (firstAt l)) (sym first)
           (subst (λ (m : ℕ). Key (getD s₀ (2 * m + getD s₀ 0 0) 0) (at (eventAt (a .L) (getD s₀ 0 0)))) (a .size)
           (event-key (a .c) (a .L) s₀ (a .tabled) (getD s₀ 0 0) (omega (arith, a .size, number-small s₀ (a .room) (a .tabled) 0 (omega (arith, a .some))))))
 
   module _ (state : Sweeping) (s : List ℕ) (q : ℕ) (g : Going state s q) where
     -- ---- one event
     module _ (less : q < 2 * n) where
-      abbrev now : Event
+      abbrev now : WireEvent
       now = eventAt (a .L) (getD s q 0)
 
-      abbrev rest : List Event
+      abbrev rest : List WireEvent
       rest = drop (q + 1) order
 
       ahead : drop q order ≡ now ∷ rest
       ahead = next-is s (g .room) (g .tabled) q less
 
       reached-now : Reached (a .c) items (now ∷ rest) (g .st)
-      reached-now = subst (λ (l : List Event). Reached (a .c) items l (g .st)) ahead (g .reached)
+      reached-now = subst (λ (l : List WireEvent). Reached (a .c) items l (g .st)) ahead (g .reached)
 
       whole-now : run (a .c) (now ∷ rest) (g .st) ≡ all .value
-      whole-now = sym (ap (λ (l : List Event). run (a .c) l (g .st)) ahead) ∙ g .whole
+      whole-now = sym (ap (λ (l : List WireEvent). run (a .c) l (g .st)) ahead) ∙ g .whole
 
       pub event-due : AtEvent s n (getD s q 0) state
       event-due = record {

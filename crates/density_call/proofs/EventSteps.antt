@@ -27,9 +27,9 @@ use Rattle.density_call.specs.declared.sweep.Sweeping.{Sweeping}
 use Rattle.density_call.specs.declared.sweep.Handled.the-variants.{Went, Spent}
 use Rattle.congestion.specs.Wires.{Wire}
 use Rattle.congestion.specs.Figures.{apart}
-use Rattle.congestion.specs.Walk.{Item, Event, Row, State, at, neighbor, neighbors, gap, leastHere, wasCongested, risen, fallen, atStart, atEnd, step}
-use Rattle.congestion.specs.Inner.Keys.{Key, Held}
-use Rattle.density_call.specs.Inner.Tables.{itemAt, eventAt, Tabled, rowFrom, rowsFrom, Stored}
+use Rattle.congestion.specs.Walk.{Item, WireEvent, WireState, State, at, neighbor, neighbors, gap, leastHere, wasCongested, risen, fallen, afterStart, afterEnd, step}
+use Rattle.congestion.specs.Inner.Keys.{Key, Representable}
+use Rattle.density_call.specs.Inner.Tables.{itemAt, eventAt, Tabled, wireStateFrom, wireStatesFrom, Stored}
 use Rattle.density_call.specs.Inner.Meeting.{visitsOf, leastFloat, Meetable, CountsOnly, Meets}
 use Rattle.density_call.specs.Inner.Sweeping.{passedTo, startedBy, endedBy, activated, deactivated, Follows, Ending, Due, AtEvent, Onward, Steps, Handles}
 use Rattle.congestion.proofs.Moments.{event}
@@ -78,14 +78,14 @@ module _ (c : ℕ) (st : State) (state : Sweeping) (f : Follows state st) (b : B
   overlap-passed = grown (st .closePairs) (λ t. t .pairOverlapLength) (state .«pair_overlap_length») (state .«close_pairs») (f .overlap) (f .pairs) (due .pairs) (elim b [ true ↦ refl | false ↦ refl ]) (due .overlap)
 
 -- ---- the least gap here is one that a float can hold
-module _ (c : ℕ) (L : List Wire) (s w : List ℕ) (st : State) (tabled : Tabled c L s) (rows : st .rows ≡ rowsFrom L w) where
+module _ (c : ℕ) (L : List Wire) (s w : List ℕ) (st : State) (tabled : Tabled c L s) (rows : st .wires ≡ wireStatesFrom L w) where
   fixed-small : (i : ℕ) → i < length L → itemAt L i .wire .fixed ≤ 134217728
   fixed-small i h = let k = tabled .fixed i h in subst (λ (u : ℕ). u ≤ 134217728) (k .is) (unit-bound (floatAt (getD s (4 * length L + i) 0)) (k .grid))
 
-  held-here : (j : ℕ) → j < length L → Held (leastHere c (itemAt L j) st)
-  held-here j h = held-fold (λ r. cond (neighbor c (itemAt L j .wire) r) (gap (itemAt L j .wire) (r .item .wire)) none) (st .rows) (λ r m.
+  held-here : (j : ℕ) → j < length L → Representable (leastHere c (itemAt L j) st)
+  held-here j h = held-fold (λ r. cond (neighbor c (itemAt L j .wire) r) (gap (itemAt L j .wire) (r .item .wire)) none) (st .wires) (λ r m.
       let p = row-place L w r (subst (Mem r) rows m) in
-      let e : r .item .wire .fixed ≡ itemAt L (p .0) .wire .fixed = ap (λ (z : Row). z .item .wire .fixed) (p .2) in
+      let e : r .item .wire .fixed ≡ itemAt L (p .0) .wire .fixed = ap (λ (z : WireState). z .item .wire .fixed) (p .2) in
       let near : apart (itemAt L j .wire .fixed) (r .item .wire .fixed) < 2 ^ 53 = omega (arith, fixed-small j h, fixed-small (p .0) (p .1)) in
       held-gap (neighbor c (itemAt L j .wire) r) (eqb (itemAt L j .wire .fixed) (r .item .wire .fixed)) (apart (itemAt L j .wire .fixed) (r .item .wire .fixed)) near)
 
@@ -94,19 +94,19 @@ module _ (s : List ℕ) (n e : ℕ) (state : Sweeping) (a : AtEvent s n e state)
   counts-small : (i : ℕ) → i < n → getD s (8 * n + i) 0 ≤ 4096
   counts-small i h =
       let w = drop (8 * n) s in
-      let m : Mem (rowFrom (a .L) w i) (a .st .rows) = subst (Mem (rowFrom (a .L) w i)) (sym (a .stored .rows)) (row-there (a .L) w i (omega (arith, a .size))) in
-      subst (λ (k : ℕ). k ≤ 4096) (getD-drop (8 * n) s i 0) (a .due .counts (rowFrom (a .L) w i) m)
+      let m : Mem (wireStateFrom (a .L) w i) (a .st .wires) = subst (Mem (wireStateFrom (a .L) w i)) (sym (a .stored .wires)) (row-there (a .L) w i (omega (arith, a .size))) in
+      subst (λ (k : ℕ). k ≤ 4096) (getD-drop (8 * n) s i 0) (a .due .counts (wireStateFrom (a .L) w i) m)
 
-  meetable : (starts : Bool) → (starts ≡ false → (r : Row) → Mem r (a .st .rows) → neighbor (a .c) (itemAt (a .L) j .wire) r ≡ true → 1 ≤ r .neighbors) → Meetable starts s n j
+  meetable : (starts : Bool) → (starts ≡ false → (r : WireState) → Mem r (a .st .wires) → neighbor (a .c) (itemAt (a .L) j .wire) r ≡ true → 1 ≤ r .neighbors) → Meetable starts s n j
   meetable starts some = record { c = a .c; L = a .L; st = a .st; size = a .size; few = a .few; inside = inside; tabled = a .tabled; stored = a .stored; room = a .room; counts = counts-small; some = some }
 
   -- a count of wires is at most their number
-  count-few : (p : Row → Bool) → count p (a .st .rows) ≤ 4096
-  count-few p = omega (arith, count-at-most p (a .st .rows), ap length (a .stored .rows) ∙ rows-length (a .L) (drop (8 * n) s), a .size, a .few)
+  count-few : (p : WireState → Bool) → count p (a .st .wires) ≤ 4096
+  count-few p = omega (arith, count-at-most p (a .st .wires), ap length (a .stored .wires) ∙ rows-length (a .L) (drop (8 * n) s), a .size, a .few)
 
   -- the lesser gap is one that a float can hold
-  held-next : Held (lesser ltb (a .st .minimumPositive) (leastHere (a .c) (itemAt (a .L) j) (a .st)))
-  held-next = held-lesser (a .st .minimumPositive) (leastHere (a .c) (itemAt (a .L) j) (a .st)) (a .follows .held) (held-here (a .c) (a .L) s (drop (8 * n) s) (a .st) (a .tabled) (a .stored .rows) j (omega (arith, a .size)))
+  held-next : Representable (lesser ltb (a .st .minimumPositive) (leastHere (a .c) (itemAt (a .L) j) (a .st)))
+  held-next = held-lesser (a .st .minimumPositive) (leastHere (a .c) (itemAt (a .L) j) (a .st)) (a .follows .held) (held-here (a .c) (a .L) s (drop (8 * n) s) (a .st) (a .tabled) (a .stored .wires) j (omega (arith, a .size)))
 
   -- the tables when only counts changed, and then the words after them
   tabled-then : (t u : List ℕ) → CountsOnly n s t → take (8 * n) u ≡ take (8 * n) t → Tabled (a .c) (a .L) u
@@ -123,7 +123,7 @@ same-meeting m k e = cc
 abbrev Answered : ℕ → ℕ → Met → Meeting → Type 0 → Type 0
 Answered m cost met M R = (m < cost → met ≡ Over) × (cost ≤ m → (met ≡ Paid M) × R)
 
-module _ (c : ℕ) (L : List Wire) (n : ℕ) (st : State) (e : Event) (m : ℕ) (met : Met) (M : Meeting) (R : Type 0) (answer : Answered m (step c st e .cost) met M R) where
+module _ (c : ℕ) (L : List Wire) (n : ℕ) (st : State) (e : WireEvent) (m : ℕ) (met : Met) (M : Meeting) (R : Type 0) (answer : Answered m (step c st e .cost) met M R) where
   known : (meeting : Meeting) → met ≡ Paid meeting → meeting ≡ M
   known meeting h = elim (le-or-lt (step c st e .cost) m) [ inl l ↦ same-meeting meeting M (sym h ∙ answer .1 l .0) | inr l ↦ never meeting (sym h ∙ answer .0 l) ]
 
@@ -158,16 +158,16 @@ module _ (s : List ℕ) (n j : ℕ) (state : Sweeping) where
     abbrev metAtStart : ℕ → Meeting
     metAtStart m = record {
       neighbors = neighbors (a .c) starting (a .st);
-      changed = count (λ x. neighbor (a .c) (starting .wire) x && eqb (x .neighbors) 0) (a .st .rows);
-      highest = fold max 0 (λ x. cond (neighbor (a .c) (starting .wire) x) (x .neighbors + 1) 0) (a .st .rows);
+      changed = count (λ x. neighbor (a .c) (starting .wire) x && eqb (x .neighbors) 0) (a .st .wires);
+      highest = fold max 0 (λ x. cond (neighbor (a .c) (starting .wire) x) (x .neighbors + 1) 0) (a .st .wires);
       least = leastFloat (lesser ltb (a .st .minimumPositive) (leastHere (a .c) starting (a .st)));
       remaining = m - visitsOf (a .c) (a .L) j (a .st);
     }
 
     abbrev rowsAtStart : List ℕ → Type 0
-    rowsAtStart t = rowsFrom (a .L) (drop (8 * n) t) ≡ map (λ r. risen false (neighbor (a .c) (starting .wire) r) 0 r) (a .st .rows)
+    rowsAtStart t = wireStatesFrom (a .L) (drop (8 * n) t) ≡ map (λ r. risen false (neighbor (a .c) (starting .wire) r) 0 r) (a .st .wires)
 
-    follows-start : (m : ℕ) → Follows (startedBy (passedTo state (floatAt startWord)) (metAtStart m)) (atStart (a .c) starting (a .st) (starting .wire .start))
+    follows-start : (m : ℕ) → Follows (startedBy (passedTo state (floatAt startWord)) (metAtStart m)) (afterStart (a .c) starting (a .st) (starting .wire .start))
     follows-start m = record {
       active = ap (λ (k : ℕ). k + bit (not (eqb (metAtStart m .neighbors) 0)) + metAtStart m .changed) (a .follows .active);
       pairs = ap (λ (k : ℕ). k + metAtStart m .neighbors) (a .follows .pairs);
@@ -189,7 +189,7 @@ module _ (s : List ℕ) (n j : ℕ) (state : Sweeping) where
 
     pub start-stops : met ≡ Over → Handles s t n (n + j) state Spent
     start-stops h a =
-        subst (λ (e : Event). Steps (a .c) (a .L) n (a .st) e t (state .remaining) Spent) (sym (starts-at (a .L) n j (a .size)))
+        subst (λ (e : WireEvent). Steps (a .c) (a .L) n (a .st) e t (state .remaining) Spent) (sym (starts-at (a .L) n j (a .size)))
         (stops (a .c) (a .L) n (a .st) (event false (starting a)) (state .remaining) met (metAtStart a (state .remaining)) (rowsAtStart a t) (start-answer a) t h)
 
     module _ (meeting : Meeting) (went : met ≡ Paid meeting) where
@@ -207,7 +207,7 @@ module _ (s : List ℕ) (n j : ℕ) (state : Sweeping) where
 
       pub start-goes : (u : List ℕ) (to : Sweeping) → CountsOnly n s t → length t ≡ length s → u ≡ activated n j (meeting .neighbors) t → to ≡ startedBy passed meeting → Handles s u n (n + j) state (Went to)
       start-goes u to only long put done a =
-          subst (λ (e : Event). Steps (a .c) (a .L) n (a .st) e u (state .remaining) (Went to)) (sym (starts-at (a .L) n j (a .size)))
+          subst (λ (e : WireEvent). Steps (a .c) (a .L) n (a .st) e u (state .remaining) (Went to)) (sym (starts-at (a .L) n j (a .size)))
           (goes (a .c) (a .L) n (a .st) (event false (starting a)) (state .remaining) met (metAtStart a (state .remaining)) (rowsAtStart a t) (start-answer a) meeting to u went (λ q rows.
           let room : 10 * n + 1 ≤ length t = omega (arith, a .room) in
           let some : 10 * n ≤ length t = omega arith in
@@ -217,9 +217,9 @@ module _ (s : List ℕ) (n j : ℕ) (state : Sweeping) where
             to = to;
             went = refl;
             remaining = ap (λ (z : Sweeping). z .remaining) is;
-            follows = subst (λ (z : Sweeping). Follows z (atStart (a .c) (starting a) (a .st) (starting a .wire .start))) (sym is) (follows-start a (state .remaining));
+            follows = subst (λ (z : Sweeping). Follows z (afterStart (a .c) (starting a) (a .st) (starting a .wire .start))) (sym is) (follows-start a (state .remaining));
             tabled = tabled-then s n (n + j) state a j (start-inside a) t u only (ap (take (8 * n)) put ∙ activated-front n j t (start-inside a) some (meeting .neighbors));
-            stored = subst (λ (z : List ℕ). Stored (a .L) (atStart (a .c) (starting a) (a .st) (starting a .wire .start)) (drop (8 * n) z)) (sym new) (activated-rows n j t (start-inside a) some (a .c) (a .L) (a .st) (drop (8 * n) s) (starting a .wire .start) (a .size) (a .stored .rows) room rows);
+            stored = subst (λ (z : List ℕ). Stored (a .L) (afterStart (a .c) (starting a) (a .st) (starting a .wire .start)) (drop (8 * n) z)) (sym new) (activated-rows n j t (start-inside a) some (a .c) (a .L) (a .st) (drop (8 * n) s) (starting a .wire .start) (a .size) (a .stored .wires) room rows);
           }))
 
 -- ---- an end
@@ -247,7 +247,7 @@ module _ (s : List ℕ) (n j : ℕ) (state : Sweeping) (inside : j < n) where
     key-end = subst (λ (m : ℕ). Key (getD s (2 * m + j) 0) (ending .wire .end)) (a .size) (a .tabled .ends j place)
 
     was-congested : wasCongested (a .c) ending (a .st) ≡ bit (not (eqb ownCount 0))
-    was-congested = own-congested (a .L) (a .c) j (a .st) (drop (8 * n) s) (a .stored .rows) place ∙ ap (λ (k : ℕ). bit (not (eqb k 0))) (getD-drop (8 * n) s j 0)
+    was-congested = own-congested (a .L) (a .c) j (a .st) (drop (8 * n) s) (a .stored .wires) place ∙ ap (λ (k : ℕ). bit (not (eqb k 0))) (getD-drop (8 * n) s j 0)
 
     pub end-meetable : Meetable false s n j
     end-meetable = meetable s n j state a j inside false (λ e. takes .some)
@@ -255,16 +255,16 @@ module _ (s : List ℕ) (n j : ℕ) (state : Sweeping) (inside : j < n) where
     abbrev metAtEnd : ℕ → Meeting
     metAtEnd m = record {
       neighbors = neighbors (a .c) ending (a .st);
-      changed = count (λ x. neighbor (a .c) (ending .wire) x && eqb (x .neighbors) 1) (a .st .rows);
+      changed = count (λ x. neighbor (a .c) (ending .wire) x && eqb (x .neighbors) 1) (a .st .wires);
       highest = 0;
       least = leastFloat (lesser ltb (a .st .minimumPositive) (leastHere (a .c) ending (a .st)));
       remaining = m - visitsOf (a .c) (a .L) j (a .st);
     }
 
     abbrev rowsAtEnd : List ℕ → Type 0
-    rowsAtEnd t = rowsFrom (a .L) (drop (8 * n) t) ≡ map (λ r. fallen false (neighbor (a .c) (ending .wire) r) r) (a .st .rows)
+    rowsAtEnd t = wireStatesFrom (a .L) (drop (8 * n) t) ≡ map (λ r. fallen false (neighbor (a .c) (ending .wire) r) r) (a .st .wires)
 
-    follows-end : (m : ℕ) → Follows (endedBy (passedTo state (floatAt endWord)) ownCount (metAtEnd m)) (atEnd (a .c) ending (a .st) (ending .wire .end))
+    follows-end : (m : ℕ) → Follows (endedBy (passedTo state (floatAt endWord)) ownCount (metAtEnd m)) (afterEnd (a .c) ending (a .st) (ending .wire .end))
     follows-end m = record {
       active = ap₂ (λ (k i : ℕ). k - i - metAtEnd m .changed) (a .follows .active) (sym was-congested);
       pairs = ap (λ (k : ℕ). k - metAtEnd m .neighbors) (a .follows .pairs);
@@ -286,7 +286,7 @@ module _ (s : List ℕ) (n j : ℕ) (state : Sweeping) (inside : j < n) where
 
     pub end-stops : met ≡ Over → Handles s t n j state Spent
     end-stops h a =
-        subst (λ (e : Event). Steps (a .c) (a .L) n (a .st) e t (state .remaining) Spent) (sym (ends-at (a .L) j (place a)))
+        subst (λ (e : WireEvent). Steps (a .c) (a .L) n (a .st) e t (state .remaining) Spent) (sym (ends-at (a .L) j (place a)))
         (stops (a .c) (a .L) n (a .st) (event true (ending a)) (state .remaining) met (metAtEnd a (state .remaining)) (rowsAtEnd a t) (end-answer a) t h)
 
     module _ (meeting : Meeting) (went : met ≡ Paid meeting) where
@@ -303,7 +303,7 @@ module _ (s : List ℕ) (n j : ℕ) (state : Sweeping) (inside : j < n) where
 
       pub end-goes : (u : List ℕ) (to : Sweeping) → CountsOnly n s t → length t ≡ length s → u ≡ deactivated n j t → to ≡ endedBy passed own meeting → Handles s u n j state (Went to)
       end-goes u to only long put done a =
-          subst (λ (e : Event). Steps (a .c) (a .L) n (a .st) e u (state .remaining) (Went to)) (sym (ends-at (a .L) j (place a)))
+          subst (λ (e : WireEvent). Steps (a .c) (a .L) n (a .st) e u (state .remaining) (Went to)) (sym (ends-at (a .L) j (place a)))
           (goes (a .c) (a .L) n (a .st) (event true (ending a)) (state .remaining) met (metAtEnd a (state .remaining)) (rowsAtEnd a t) (end-answer a) meeting to u went (λ q rows.
           let room : 10 * n + 1 ≤ length t = omega (arith, a .room) in
           let some : 10 * n ≤ length t = omega arith in
@@ -312,7 +312,7 @@ module _ (s : List ℕ) (n j : ℕ) (state : Sweeping) (inside : j < n) where
             to = to;
             went = refl;
             remaining = ap (λ (z : Sweeping). z .remaining) is;
-            follows = subst (λ (z : Sweeping). Follows z (atEnd (a .c) (ending a) (a .st) (ending a .wire .end))) (sym is) (follows-end a (state .remaining));
+            follows = subst (λ (z : Sweeping). Follows z (afterEnd (a .c) (ending a) (a .st) (ending a .wire .end))) (sym is) (follows-end a (state .remaining));
             tabled = tabled-then s n j state a j inside t u only (ap (take (8 * n)) put ∙ deactivated-front n j t inside some);
-            stored = subst (λ (z : List ℕ). Stored (a .L) (atEnd (a .c) (ending a) (a .st) (ending a .wire .end)) (drop (8 * n) z)) (sym put) (deactivated-rows n j t inside some (a .c) (a .L) (a .st) (drop (8 * n) s) (ending a .wire .end) (a .size) (a .stored .rows) room rows);
+            stored = subst (λ (z : List ℕ). Stored (a .L) (afterEnd (a .c) (ending a) (a .st) (ending a .wire .end)) (drop (8 * n) z)) (sym put) (deactivated-rows n j t inside some (a .c) (a .L) (a .st) (drop (8 * n) s) (ending a .wire .end) (a .size) (a .stored .wires) room rows);
           }))

@@ -19,8 +19,8 @@ use Rattle.floats.proofs.Units.{of-units-value}
 use Rattle.drawing.specs.Inner.LeastFloats.{Number, gapOfFloat}
 use Rattle.drawing.proofs.LeastFloatLaws.{none-absent, number-present}
 use Rattle.congestion.specs.Figures.{apart}
-use Rattle.congestion.specs.Walk.{nonzero, gapOfUnits}
-use Rattle.congestion.specs.Inner.Keys.{Key, Held}
+use Rattle.congestion.specs.Walk.{gapUnlessZero, gapOfUnits}
+use Rattle.congestion.specs.Inner.Keys.{Key, Representable}
 use Rattle.density_call.specs.Inner.Meeting.{leastFloat, withGap}
 use Rattle.congestion.proofs.FoldLaws.{fewest}
 use Rattle.congestion.proofs.Oriented.{apart-turn}
@@ -41,12 +41,12 @@ unfolding ofUnits
 units-number n h = value-number (ofUnits n) false n 64 (of-units-value false n h)
 
 -- ---- after the sweep it becomes a gap
-pub gap-again : (o : Option ℕ) → Held o → gapOfFloat (leastFloat o) ≡ gapOfUnits o
+pub gap-again : (o : Option ℕ) → Representable o → gapOfFloat (leastFloat o) ≡ gapOfUnits o
 gap-again none h = none-absent
 gap-again (some n) h = number-present (ofUnits n) (units-number n h)
 
 -- ---- a gap joins it
-lesser-float : (o : Option ℕ) (a : ℕ) → Held o → a < 2 ^ 53 → lesserOf (ofUnits a) (leastFloat o) ≡ leastFloat (lesser ltb o (some a))
+lesser-float : (o : Option ℕ) (a : ℕ) → Representable o → a < 2 ^ 53 → lesserOf (ofUnits a) (leastFloat o) ≡ leastFloat (lesser ltb o (some a))
 unfolding lesserOf lt lesser
 lesser-float none a h k = refl
 lesser-float (some n) a h k = ap (λ (t : Bool). cond t (ofUnits n) (ofUnits a)) (lt-units n a h k) ∙ either (ltb n a) ∙ ap ofUnits (turned n a)
@@ -68,11 +68,11 @@ lesser-float (some n) a h k = ap (λ (t : Bool). cond t (ofUnits n) (ofUnits a))
         less : (a ≡ n → ⊥) → a ≤ n → a < n
         less d h = omega arith
 
-joined-units : (o : Option ℕ) (b : Bool) (a : ℕ) (g : Float) → Held o → a < 2 ^ 53 → g ≡ ofUnits a → lt plusZero g ≡ not b → (withGap (leastFloat o) g ≡ leastFloat (lesser ltb o (nonzero b a))) × Held (lesser ltb o (nonzero b a))
-joined-units o true a g h k e z = (cond-false (lt plusZero g) (lesserOf g (leastFloat o)) (leastFloat o) z ∙ sym (ap leastFloat (lesser-none o)), subst Held (sym (lesser-none o)) h)
+joined-units : (o : Option ℕ) (b : Bool) (a : ℕ) (g : Float) → Representable o → a < 2 ^ 53 → g ≡ ofUnits a → lt plusZero g ≡ not b → (withGap (leastFloat o) g ≡ leastFloat (lesser ltb o (gapUnlessZero b a))) × Representable (lesser ltb o (gapUnlessZero b a))
+joined-units o true a g h k e z = (cond-false (lt plusZero g) (lesserOf g (leastFloat o)) (leastFloat o) z ∙ sym (ap leastFloat (lesser-none o)), subst Representable (sym (lesser-none o)) h)
 joined-units o false a g h k e z = (cond-true (lt plusZero g) (lesserOf g (leastFloat o)) (leastFloat o) z ∙ ap (λ (z : Float). lesserOf z (leastFloat o)) e ∙ lesser-float o a h k, held-lesser o (some a) h k)
 
-pub keys-join : (o : Option ℕ) (w w' u u' : ℕ) → Held o → Key w u → Key w' u' → (withGap (leastFloat o) (gapOf (floatAt w) (floatAt w')) ≡ leastFloat (lesser ltb o (nonzero (eqb u' u) (apart u' u)))) × Held (lesser ltb o (nonzero (eqb u' u) (apart u' u)))
+pub keys-join : (o : Option ℕ) (w w' u u' : ℕ) → Representable o → Key w u → Key w' u' → (withGap (leastFloat o) (gapOf (floatAt w) (floatAt w')) ≡ leastFloat (lesser ltb o (gapUnlessZero (eqb u' u) (apart u' u)))) × Representable (lesser ltb o (gapUnlessZero (eqb u' u) (apart u' u)))
 keys-join o w w' u u' h k k' =
     let g = grid-gap (floatAt w) (floatAt w') (k .grid) (k' .grid) in
     let e : apart (unit (floatAt w)) (unit (floatAt w')) ≡ apart u' u = ap₂ apart (k .is) (k' .is) ∙ apart-turn u u' in

@@ -15,8 +15,8 @@ use Rattle.laws.proofs.Parts.{tail-lent, tail-back}
 use Rattle.bitset.specs.Inner.Members.{member, inserted, removed}
 use Rattle.bitset.proofs.Sets.{length-inserted, length-removed, member-inserted, member-removed}
 use Rattle.congestion.specs.Wires.{Wire}
-use Rattle.congestion.specs.Walk.{Row, State, neighbor, neighbors, risen, fallen, atStart, atEnd}
-use Rattle.density_call.specs.Inner.Tables.{itemAt, rowFrom, rowsFrom, Stored}
+use Rattle.congestion.specs.Walk.{WireState, State, neighbor, neighbors, risen, fallen, afterStart, afterEnd}
+use Rattle.density_call.specs.Inner.Tables.{itemAt, wireStateFrom, wireStatesFrom, Stored}
 use Rattle.density_call.specs.Inner.Sweeping.{activated, deactivated}
 use Rattle.density_call.proofs.RowPlaces.{rows-are, rows-at}
 
@@ -58,23 +58,23 @@ module _ (n j k : ℕ) (t v : List ℕ) (inside : j < n) (room : 10 * n ≤ leng
 
   -- ---- the rows: a function f of those of w, where those of t are a function g of them
   module _ (L : List Wire) (size : length L ≡ n) (b : Bool) (own : member v j ≡ b) (others : (i : ℕ) → (i ≡ j → ⊥) → member v i ≡ member (drop (9 * n) t) i)
-      (w : List ℕ) (f g : Row → Row) (met : rowsFrom L (drop (8 * n) t) ≡ map g (rowsFrom L w))
-      (mine : f (rowFrom L w j) ≡ record { item = itemAt L j; active = b; neighbors = k }) (rest : (i : ℕ) → (i ≡ j → ⊥) → f (rowFrom L w i) ≡ g (rowFrom L w i)) where
+      (w : List ℕ) (f g : WireState → WireState) (met : wireStatesFrom L (drop (8 * n) t) ≡ map g (wireStatesFrom L w))
+      (mine : f (wireStateFrom L w j) ≡ record { item = itemAt L j; active = b; neighbors = k }) (rest : (i : ℕ) → (i ≡ j → ⊥) → f (wireStateFrom L w i) ≡ g (wireStateFrom L w i)) where
     old-set : drop (length L) (drop (8 * n) t) ≡ drop (9 * n) t
     old-set = let e : 8 * n + length L ≡ 9 * n = omega arith in drop-drop (length L) (8 * n) t ∙ ap (λ (m : ℕ). drop m t) e
 
     new-set : drop (length L) (drop (8 * n) marked) ≡ v
     new-set = ap (λ (m : ℕ). drop m (drop (8 * n) marked)) size ∙ set-there
 
-    own-row : rowFrom L (drop (8 * n) marked) j ≡ f (rowFrom L w j)
+    own-row : wireStateFrom L (drop (8 * n) marked) j ≡ f (wireStateFrom L w j)
     own-row = ap₂ (λ (a : Bool) (m : ℕ). record { item = itemAt L j; active = a; neighbors = m }) (ap (λ (l : List ℕ). member l j) new-set ∙ own) own-count ∙ sym mine
 
-    other-row : (i : ℕ) → i < n → (i ≡ j → ⊥) → rowFrom L (drop (8 * n) marked) i ≡ rowFrom L (drop (8 * n) t) i
+    other-row : (i : ℕ) → i < n → (i ≡ j → ⊥) → wireStateFrom L (drop (8 * n) marked) i ≡ wireStateFrom L (drop (8 * n) t) i
     other-row i h d = ap₂ (λ (a : Bool) (m : ℕ). record { item = itemAt L i; active = a; neighbors = m }) (ap (λ (l : List ℕ). member l i) new-set ∙ others i d ∙ sym (ap (λ (l : List ℕ). member l i) old-set)) (other-count i h d)
 
-    marked-rows : rowsFrom L (drop (8 * n) marked) ≡ map f (rowsFrom L w)
+    marked-rows : wireStatesFrom L (drop (8 * n) marked) ≡ map f (wireStatesFrom L w)
     marked-rows = rows-are L w (drop (8 * n) marked) f (λ i h. elim (same-or-not i j) [
-      | inl e ↦ ap (rowFrom L (drop (8 * n) marked)) e ∙ own-row ∙ ap (λ (z : ℕ). f (rowFrom L w z)) (sym e)
+      | inl e ↦ ap (wireStateFrom L (drop (8 * n) marked)) e ∙ own-row ∙ ap (λ (z : ℕ). f (wireStateFrom L w z)) (sym e)
       | inr d ↦ other-row i (omega arith) d ∙ rows-at L w (drop (8 * n) t) g met i h ∙ sym (rest i d)
     ])
 
@@ -99,45 +99,45 @@ module _ (n j : ℕ) (t : List ℕ) (inside : j < n) (room : 10 * n ≤ length t
   unfolding deactivated
   deactivated-front = marked-front n j 0 t (removed (drop (9 * n) t) j) inside room
 
-  module _ (c : ℕ) (L : List Wire) (st : State) (w : List ℕ) (x : ℕ) (size : length L ≡ n) (rows : st .rows ≡ rowsFrom L w) (more : 10 * n + 1 ≤ length t) where
-    abbrev near : Row → Bool
+  module _ (c : ℕ) (L : List Wire) (st : State) (w : List ℕ) (x : ℕ) (size : length L ≡ n) (rows : st .wires ≡ wireStatesFrom L w) (more : 10 * n + 1 ≤ length t) where
+    abbrev near : WireState → Bool
     near r = neighbor c (itemAt L j .wire) r
 
     behind : (u : List ℕ) → length u ≡ length t → 2 * length L + 1 ≤ length (drop (8 * n) u)
     behind u e = omega (arith, length-drop (8 * n) u)
 
-    pub activated-rows : rowsFrom L (drop (8 * n) t) ≡ map (λ r. risen false (near r) 0 r) (st .rows) → Stored L (atStart c (itemAt L j) st x) (drop (8 * n) (activated n j (neighbors c (itemAt L j) st) t))
+    pub activated-rows : wireStatesFrom L (drop (8 * n) t) ≡ map (λ r. risen false (near r) 0 r) (st .wires) → Stored L (afterStart c (itemAt L j) st x) (drop (8 * n) (activated n j (neighbors c (itemAt L j) st) t))
     unfolding activated
     activated-rows met =
         let k = neighbors c (itemAt L j) st in
         let v = inserted (drop (9 * n) t) j in
-        let f : Row → Row = λ r. risen (eqb j (r .item .index)) (near r) k r in
+        let f : WireState → WireState = λ r. risen (eqb j (r .item .index)) (near r) k r in
         record {
-          rows = ap (map f) rows ∙ sym (marked-rows n j k t v inside room L size true
+          wires = ap (map f) rows ∙ sym (marked-rows n j k t v inside room L size true
               (member-inserted (drop (9 * n) t) j word-there j ∙ ap (λ (b : Bool). b || member (drop (9 * n) t) j) (eq-eqb j j refl))
               (λ i d. member-inserted (drop (9 * n) t) j word-there i ∙ ap (λ (b : Bool). b || member (drop (9 * n) t) i) (ne-eqb i j d))
               w f (λ r. risen false (near r) 0 r) (met ∙ ap (map (λ r. risen false (near r) 0 r)) rows)
-              (ap (λ (b : Bool). risen b (near (rowFrom L w j)) k (rowFrom L w j)) (eq-eqb j j refl))
-              (λ i d. ap (λ (b : Bool). risen b (near (rowFrom L w i)) k (rowFrom L w i)) (ne-eqb j i (λ e. d (sym e))) ∙ not-own (near (rowFrom L w i)) k (rowFrom L w i)));
+              (ap (λ (b : Bool). risen b (near (wireStateFrom L w j)) k (wireStateFrom L w j)) (eq-eqb j j refl))
+              (λ i d. ap (λ (b : Bool). risen b (near (wireStateFrom L w i)) k (wireStateFrom L w i)) (ne-eqb j i (λ e. d (sym e))) ∙ not-own (near (wireStateFrom L w i)) k (wireStateFrom L w i)));
           room = behind (activated n j k t) (activated-long k);
         }
       where
-        not-own : (b : Bool) (k : ℕ) (r : Row) → risen false b k r ≡ risen false b 0 r
+        not-own : (b : Bool) (k : ℕ) (r : WireState) → risen false b k r ≡ risen false b 0 r
         not-own true k r = refl
         not-own false k r = refl
 
-    pub deactivated-rows : rowsFrom L (drop (8 * n) t) ≡ map (λ r. fallen false (near r) r) (st .rows) → Stored L (atEnd c (itemAt L j) st x) (drop (8 * n) (deactivated n j t))
+    pub deactivated-rows : wireStatesFrom L (drop (8 * n) t) ≡ map (λ r. fallen false (near r) r) (st .wires) → Stored L (afterEnd c (itemAt L j) st x) (drop (8 * n) (deactivated n j t))
     unfolding deactivated
     deactivated-rows met =
         let v = removed (drop (9 * n) t) j in
-        let f : Row → Row = λ r. fallen (eqb j (r .item .index)) (near r) r in
+        let f : WireState → WireState = λ r. fallen (eqb j (r .item .index)) (near r) r in
         record {
-          rows = ap (map f) rows ∙ sym (marked-rows n j 0 t v inside room L size false
+          wires = ap (map f) rows ∙ sym (marked-rows n j 0 t v inside room L size false
               (member-removed (drop (9 * n) t) j word-there j ∙ ap (λ (b : Bool). not b && member (drop (9 * n) t) j) (eq-eqb j j refl))
               (λ i d. member-removed (drop (9 * n) t) j word-there i ∙ ap (λ (b : Bool). not b && member (drop (9 * n) t) i) (ne-eqb i j d))
               w f (λ r. fallen false (near r) r) (met ∙ ap (map (λ r. fallen false (near r) r)) rows)
-              (ap (λ (b : Bool). fallen b (near (rowFrom L w j)) (rowFrom L w j)) (eq-eqb j j refl))
-              (λ i d. ap (λ (b : Bool). fallen b (near (rowFrom L w i)) (rowFrom L w i)) (ne-eqb j i (λ e. d (sym e)))));
+              (ap (λ (b : Bool). fallen b (near (wireStateFrom L w j)) (wireStateFrom L w j)) (eq-eqb j j refl))
+              (λ i d. ap (λ (b : Bool). fallen b (near (wireStateFrom L w i)) (wireStateFrom L w i)) (ne-eqb j i (λ e. d (sym e)))));
           room = behind (deactivated n j t) deactivated-long;
         }
 

@@ -26,10 +26,10 @@ use Rattle.density_call.specs.declared.meet.Meeting.{Meeting}
 use Rattle.density_call.specs.declared.meet.Met.the-variants.{Went, Spent}
 use Rattle.congestion.specs.Wires.{Wire}
 use Rattle.congestion.specs.Figures.{other}
-use Rattle.congestion.specs.Walk.{Row, State, inRange, visited, neighbor, gap, neighbors, leastHere}
-use Rattle.congestion.specs.Inner.Keys.{Key, Held}
-use Rattle.density_call.specs.Inner.Tables.{itemAt, Tabled, rowFrom, rowsFrom, Stored}
-use Rattle.density_call.specs.Inner.Meeting.{visitsOf, CountsOnly, moved, turning, topmost, leastFloat, withGap, countAfter, highestAfter, withNeighbor, paid, Visits}
+use Rattle.congestion.specs.Walk.{WireState, State, inRange, visited, neighbor, gap, neighbors, leastHere}
+use Rattle.congestion.specs.Inner.Keys.{Key, Representable}
+use Rattle.density_call.specs.Inner.Tables.{itemAt, Tabled, wireStateFrom, wireStatesFrom, Stored}
+use Rattle.density_call.specs.Inner.Meeting.{visitsOf, CountsOnly, moved, changingCount, topmost, leastFloat, withGap, countAfter, highestAfter, withNeighbor, paid, Visits}
 use Rattle.congestion.proofs.FoldLaws.{fewest}
 use Rattle.density_call.proofs.GapFloats.{lesser-none, keys-join}
 use Rattle.density_call.proofs.PlaceFolds.{since, since-none, since-next, since-all, since-at-most, since-below-all}
@@ -44,7 +44,7 @@ highest-top : (starts : Bool) (h k : ℕ) → highestAfter starts h k ≡ max h 
 highest-top true h k = refl
 highest-top false h k = omega arith
 
-topmost-is : (starts : Bool) (p : Row → Bool) (l : List Row) → fold max 0 (λ x. cond (p x) (top starts (x .neighbors)) 0) l ≡ topmost starts p l
+topmost-is : (starts : Bool) (p : WireState → Bool) (l : List WireState) → fold max 0 (λ x. cond (p x) (top starts (x .neighbors)) 0) l ≡ topmost starts p l
 topmost-is true p l = refl
 topmost-is false p l = fold-unit greatest (λ x. cond (p x) 0 0) l (λ x m. nothing (p x))
   where
@@ -52,16 +52,16 @@ topmost-is false p l = fold-unit greatest (λ x. cond (p x) 0 0) l (λ x m. noth
     nothing true = refl
     nothing false = refl
 
-moved-count : (starts : Bool) (r : Row) → moved starts true r .neighbors ≡ countAfter starts (r .neighbors)
+moved-count : (starts : Bool) (r : WireState) → moved starts true r .neighbors ≡ countAfter starts (r .neighbors)
 moved-count true r = refl
 moved-count false r = refl
 
-moved-not : (starts : Bool) (r : Row) → moved starts false r ≡ r
+moved-not : (starts : Bool) (r : WireState) → moved starts false r ≡ r
 moved-not true r = refl
 moved-not false r = refl
 
 -- nothing but the count changes
-moved-parts : (starts b : Bool) (r : Row) → record { item = r .item; active = r .active; neighbors = moved starts b r .neighbors } ≡ moved starts b r
+moved-parts : (starts b : Bool) (r : WireState) → record { item = r .item; active = r .active; neighbors = moved starts b r .neighbors } ≡ moved starts b r
 moved-parts true true r = refl
 moved-parts true false r = refl
 moved-parts false true r = refl
@@ -70,8 +70,8 @@ moved-parts false false r = refl
 -- ---- the invariant
 module _ (starts : Bool) (n j : ℕ) (s₀ : List ℕ) (least₀ : Float) (allowance c : ℕ) (L : List Wire) where
   -- the rows at the entry
-  abbrev row : ℕ → Row
-  row k = rowFrom L (drop (8 * n) s₀) k
+  abbrev row : ℕ → WireState
+  row k = wireStateFrom L (drop (8 * n) s₀) k
 
   abbrev wire : Wire
   wire = itemAt L j .wire
@@ -91,7 +91,7 @@ module _ (starts : Bool) (n j : ℕ) (s₀ : List ℕ) (least₀ : Float) (allow
 
   -- what the wire at index k contributes to each figure
   abbrev turned : ℕ → Bool
-  turned k = near k && eqb (row k .neighbors) (turning starts)
+  turned k = near k && eqb (row k .neighbors) (changingCount starts)
 
   abbrev reached : ℕ → ℕ
   reached k = cond (near k) (top starts (row k .neighbors)) 0
@@ -110,7 +110,7 @@ module _ (starts : Bool) (n j : ℕ) (s₀ : List ℕ) (least₀ : Float) (allow
     pub neighbors : met .neighbors ≡ since _+_ 0 n p (λ k. bit (near k))
     pub changed : met .changed ≡ since _+_ 0 n p (λ k. bit (turned k))
     pub highest : met .highest ≡ since max 0 n p reached
-    pub least : (m : Option ℕ) → least₀ ≡ leastFloat m → Held m → (met .least ≡ leastFloat (lesser ltb m (since (lesser ltb) none n p gapAt))) × Held (lesser ltb m (since (lesser ltb) none n p gapAt))
+    pub least : (m : Option ℕ) → least₀ ≡ leastFloat m → Representable m → (met .least ≡ leastFloat (lesser ltb m (since (lesser ltb) none n p gapAt))) × Representable (lesser ltb m (since (lesser ltb) none n p gapAt))
 
   pub going-few : (met : Meeting) (s : List ℕ) (p : ℕ) → Going met s p → (met .neighbors ≤ n) × (met .changed ≤ n)
   going-few met s p g = let a = g .neighbors in let b = g .changed in (omega (arith, since-at-most n p near), omega (arith, since-at-most n p turned))
@@ -121,7 +121,7 @@ module _ (starts : Bool) (n j : ℕ) (s₀ : List ℕ) (least₀ : Float) (allow
     unseen-near = sym (and-assoc (row k .active) (inRange c wire (row k .item .wire)) (other wire (row k .item .wire))) ∙ ap (λ (b : Bool). b && other wire (row k .item .wire)) e
 
     unseen-turned : bit (turned k) ≡ 0
-    unseen-turned = ap (λ (b : Bool). bit (b && eqb (row k .neighbors) (turning starts))) unseen-near
+    unseen-turned = ap (λ (b : Bool). bit (b && eqb (row k .neighbors) (changingCount starts))) unseen-near
 
     unseen-reached : reached k ≡ 0
     unseen-reached = cond-false (near k) (top starts (row k .neighbors)) 0 unseen-near
@@ -130,7 +130,7 @@ module _ (starts : Bool) (n j : ℕ) (s₀ : List ℕ) (least₀ : Float) (allow
     unseen-gap = cond-false (near k) (gap wire (row k .item .wire)) none unseen-near
 
     unseen-count : countAt k ≡ row k .neighbors
-    unseen-count = ap (λ (b : Bool). moved starts b (row k) .neighbors) unseen-near ∙ ap (λ (r : Row). r .neighbors) (moved-not starts (row k))
+    unseen-count = ap (λ (b : Bool). moved starts b (row k) .neighbors) unseen-near ∙ ap (λ (r : WireState). r .neighbors) (moved-not starts (row k))
 
   -- ---- one wire more: the scratch s becomes t
   pub record Adds (met next : Meeting) (s t : List ℕ) (i : ℕ) : Type 0 where
@@ -141,7 +141,7 @@ module _ (starts : Bool) (n j : ℕ) (s₀ : List ℕ) (least₀ : Float) (allow
     pub neighbors : next .neighbors ≡ met .neighbors + bit (near i)
     pub changed : next .changed ≡ met .changed + bit (turned i)
     pub highest : next .highest ≡ max (met .highest) (reached i)
-    pub least : (o : Option ℕ) → met .least ≡ leastFloat o → Held o → (next .least ≡ leastFloat (lesser ltb o (gapAt i))) × Held (lesser ltb o (gapAt i))
+    pub least : (o : Option ℕ) → met .least ≡ leastFloat o → Representable o → (next .least ≡ leastFloat (lesser ltb o (gapAt i))) × Representable (lesser ltb o (gapAt i))
 
   -- the next index below p that is visited
   pub record Next (p i : ℕ) : Type 0 where
@@ -170,13 +170,13 @@ module _ (starts : Bool) (n j : ℕ) (s₀ : List ℕ) (least₀ : Float) (allow
             ]
           ]
 
-      new-least : (m : Option ℕ) → least₀ ≡ leastFloat m → Held m → (next .least ≡ leastFloat (lesser ltb m (since (lesser ltb) none n i gapAt))) × Held (lesser ltb m (since (lesser ltb) none n i gapAt))
+      new-least : (m : Option ℕ) → least₀ ≡ leastFloat m → Representable m → (next .least ≡ leastFloat (lesser ltb m (since (lesser ltb) none n i gapAt))) × Representable (lesser ltb m (since (lesser ltb) none n i gapAt))
       new-least m e h =
           let old = since (lesser ltb) none n p gapAt in
           let l = g .least m e h in
           let k = a .least (lesser ltb m old) (l .0) (l .1) in
           let z : lesser ltb (lesser ltb m old) (gapAt i) ≡ lesser ltb m (since (lesser ltb) none n i gapAt) = fewest .assoc m old (gapAt i) ∙ ap (lesser ltb m) (sym (since-next fewest n i p gapAt (x .inside) (x .below) (λ q u v w. unseen-gap q (x .between q u v w)))) in
-          (k .0 ∙ ap leastFloat z, subst Held z (k .1))
+          (k .0 ∙ ap leastFloat z, subst Representable z (k .1))
 
       pub going-next : Going next t i
       going-next = record {
@@ -237,7 +237,7 @@ module _ (starts : Bool) (n j : ℕ) (s₀ : List ℕ) (least₀ : Float) (allow
       highest = sym (since-none greatest n hi reached (λ k h a. unseen-reached k (past-range k h a)));
       least = λ m f h.
           let z : m ≡ lesser ltb m (since (lesser ltb) none n hi gapAt) = sym (lesser-none m) ∙ ap (lesser ltb m) (sym (since-none fewest n hi gapAt (λ k h a. unseen-gap k (past-range k h a)))) in
-          (f ∙ ap leastFloat z, subst Held z h);
+          (f ∙ ap leastFloat z, subst Representable z h);
     })
 
     -- ---- in the loop
@@ -280,13 +280,13 @@ module _ (starts : Bool) (n j : ℕ) (s₀ : List ℕ) (least₀ : Float) (allow
           passing : 1 ≤ met .remaining → near i ≡ false → Adds met (paid met) s s i
           passing left e = record {
             only = record { front = refl; behind = refl };
-            count = getD-drop (8 * n) s i 0 ∙ old-count i (next-place .inside) (next-place .below) ∙ ap (λ (r : Row). r .neighbors) (sym (moved-not starts (row i))) ∙ ap (λ (b : Bool). moved starts b (row i) .neighbors) (sym e);
+            count = getD-drop (8 * n) s i 0 ∙ old-count i (next-place .inside) (next-place .below) ∙ ap (λ (r : WireState). r .neighbors) (sym (moved-not starts (row i))) ∙ ap (λ (b : Bool). moved starts b (row i) .neighbors) (sym e);
             counts = λ k d. refl;
             paid = omega arith;
             neighbors = rw e (omega arith);
             changed = rw e (omega arith);
             highest = rw e (omega arith);
-            least = λ o f h. rw e (f ∙ ap leastFloat (sym (lesser-none o)), subst Held (sym (lesser-none o)) h);
+            least = λ o f h. rw e (f ∙ ap leastFloat (sym (lesser-none o)), subst Representable (sym (lesser-none o)) h);
           }
 
           module _ (here : Float) (at : here ≡ floatAt (getD s₀ (4 * n + j) 0)) (room : 9 * n ≤ length s) where
@@ -312,7 +312,7 @@ module _ (starts : Bool) (n j : ℕ) (s₀ : List ℕ) (least₀ : Float) (allow
               counts = λ k d. getD-drop (8 * n) (set s (8 * n + i) (countAfter starts met-count)) k 0 ∙ getD-set-other s (8 * n + i) (8 * n + k) (countAfter starts met-count) 0 (λ q. d (omega arith)) ∙ sym (getD-drop (8 * n) s k 0);
               paid = omega arith;
               neighbors = rw e;
-              changed = rw e (ap (λ (z : ℕ). met .changed + bit (eqb z (turning starts))) count-is);
+              changed = rw e (ap (λ (z : ℕ). met .changed + bit (eqb z (changingCount starts))) count-is);
               highest = rw e (ap (highestAfter starts (met .highest)) count-is ∙ highest-top starts (met .highest) (row i .neighbors));
               least = λ o f h.
                   let k = keys-join o (getD s₀ (4 * n + i) 0) (getD s₀ (4 * n + j) 0) (itemAt L i .wire .fixed) (wire .fixed) h (fixed-is i (next-place .inside)) (fixed-is j j<n) in
@@ -337,8 +337,8 @@ module _ (starts : Bool) (n j : ℕ) (s₀ : List ℕ) (least₀ : Float) (allow
 
     -- ---- after the loop
     module _ (st : State) (stored : Stored L st (drop (8 * n) s₀)) where
-      over-rows : {M : Type 0} {_⊕_ : M → M → M} {u : M} (O : Monoid _⊕_ u) (f : Row → M) → fold _⊕_ u f (st .rows) ≡ fold _⊕_ u (λ k. f (row k)) (upTo n)
-      over-rows {_⊕_ = _⊕_} {u = u} O f = ap (fold _⊕_ u f) (stored .rows) ∙ fold-map O f row (upTo (length L)) ∙ ap (λ (z : ℕ). fold _⊕_ u (λ k. f (row k)) (upTo z)) size
+      over-rows : {M : Type 0} {_⊕_ : M → M → M} {u : M} (O : Monoid _⊕_ u) (f : WireState → M) → fold _⊕_ u f (st .wires) ≡ fold _⊕_ u (λ k. f (row k)) (upTo n)
+      over-rows {_⊕_ = _⊕_} {u = u} O f = ap (fold _⊕_ u f) (stored .wires) ∙ fold-map O f row (upTo (length L)) ∙ ap (λ (z : ℕ). fold _⊕_ u (λ k. f (row k)) (upTo z)) size
 
       abbrev visits : ℕ
       visits = visitsOf c L j st
@@ -349,13 +349,13 @@ module _ (starts : Bool) (n j : ℕ) (s₀ : List ℕ) (least₀ : Float) (allow
       abbrev outcome : Option ℕ → Meeting
       outcome m = record {
         neighbors = neighbors c (itemAt L j) st;
-        changed = count (λ x. neighbor c wire x && eqb (x .neighbors) (turning starts)) (st .rows);
-        highest = topmost starts (neighbor c wire) (st .rows);
+        changed = count (λ x. neighbor c wire x && eqb (x .neighbors) (changingCount starts)) (st .wires);
+        highest = topmost starts (neighbor c wire) (st .wires);
         least = leastFloat (lesser ltb m (leastHere c (itemAt L j) st));
         remaining = allowance - visits;
       }
 
-      pub spent-meets : allowance < fold _+_ 0 (λ k. bit (seen k)) (upTo n) → (m : Option ℕ) (t : List ℕ) → (allowance < visits → Spent ≡ Spent) × (visits ≤ allowance → (Spent ≡ Went (outcome m)) × (rowsFrom L (drop (8 * n) t) ≡ map (λ x. moved starts (neighbor c wire x) x) (st .rows)))
+      pub spent-meets : allowance < fold _+_ 0 (λ k. bit (seen k)) (upTo n) → (m : Option ℕ) (t : List ℕ) → (allowance < visits → Spent ≡ Spent) × (visits ≤ allowance → (Spent ≡ Went (outcome m)) × (wireStatesFrom L (drop (8 * n) t) ≡ map (λ x. moved starts (neighbor c wire x) x) (st .wires)))
       spent-meets h m t = (λ a. refl, λ a. absurd (omega (arith, visits-are)))
 
       module _ (met : Meeting) (s : List ℕ) (p : ℕ) (g : Going met s p) (last : NoneIn (drop (9 * n) s) lo p) where
@@ -368,11 +368,11 @@ module _ (starts : Bool) (n j : ℕ) (s₀ : List ℕ) (least₀ : Float) (allow
         left-is : met .remaining + visits ≡ allowance
         left-is = let e = visits-are in let d = since-all plus n p (λ k. bit (seen k)) (λ k h a. ap bit (rest-unseen k h a)) in let f = g .paid in omega arith
 
-        met-is : (m : Option ℕ) → least₀ ≡ leastFloat m → Held m → met ≡ outcome m
+        met-is : (m : Option ℕ) → least₀ ≡ leastFloat m → Representable m → met ≡ outcome m
         met-is m e h =
             let a : met .neighbors ≡ neighbors c (itemAt L j) st = g .neighbors ∙ since-all plus n p (λ k. bit (near k)) (λ k h a. ap bit (unseen-near k (rest-unseen k h a))) ∙ sym (over-rows plus (λ x. bit (neighbor c wire x))) in
-            let b : met .changed ≡ count (λ x. neighbor c wire x && eqb (x .neighbors) (turning starts)) (st .rows) = g .changed ∙ since-all plus n p (λ k. bit (turned k)) (λ k h a. unseen-turned k (rest-unseen k h a)) ∙ sym (over-rows plus (λ x. bit (neighbor c wire x && eqb (x .neighbors) (turning starts)))) in
-            let d : met .highest ≡ topmost starts (neighbor c wire) (st .rows) = g .highest ∙ since-all greatest n p reached (λ k h a. unseen-reached k (rest-unseen k h a)) ∙ sym (over-rows greatest (λ x. cond (neighbor c wire x) (top starts (x .neighbors)) 0)) ∙ topmost-is starts (neighbor c wire) (st .rows) in
+            let b : met .changed ≡ count (λ x. neighbor c wire x && eqb (x .neighbors) (changingCount starts)) (st .wires) = g .changed ∙ since-all plus n p (λ k. bit (turned k)) (λ k h a. unseen-turned k (rest-unseen k h a)) ∙ sym (over-rows plus (λ x. bit (neighbor c wire x && eqb (x .neighbors) (changingCount starts)))) in
+            let d : met .highest ≡ topmost starts (neighbor c wire) (st .wires) = g .highest ∙ since-all greatest n p reached (λ k h a. unseen-reached k (rest-unseen k h a)) ∙ sym (over-rows greatest (λ x. cond (neighbor c wire x) (top starts (x .neighbors)) 0)) ∙ topmost-is starts (neighbor c wire) (st .wires) in
             let k = g .least m e h in
             let f : met .least ≡ leastFloat (lesser ltb m (leastHere c (itemAt L j) st)) = k .0 ∙ ap (λ (o : Option ℕ). leastFloat (lesser ltb m o)) (since-all fewest n p gapAt (λ k h a. unseen-gap k (rest-unseen k h a)) ∙ sym (over-rows fewest (λ x. cond (neighbor c wire x) (gap wire (x .item .wire)) none))) in
             let l : met .remaining ≡ allowance - visits = omega (arith, left-is) in
@@ -387,13 +387,13 @@ module _ (starts : Bool) (n j : ℕ) (s₀ : List ℕ) (least₀ : Float) (allow
         same-bits : drop (length L) (drop (8 * n) s) ≡ drop (length L) (drop (8 * n) s₀)
         same-bits = let e : 8 * n + length L ≡ 9 * n = omega arith in drop-drop (length L) (8 * n) s ∙ ap (λ (z : ℕ). drop z s) e ∙ g .only .behind ∙ sym bits-are
 
-        rows-are : rowsFrom L (drop (8 * n) s) ≡ map (λ x. moved starts (neighbor c wire x) x) (st .rows)
+        rows-are : wireStatesFrom L (drop (8 * n) s) ≡ map (λ x. moved starts (neighbor c wire x) x) (st .wires)
         rows-are =
-            map-same (rowFrom L (drop (8 * n) s)) (λ k. moved starts (near k) (row k)) (upTo (length L)) (λ k m.
+            map-same (wireStateFrom L (drop (8 * n) s)) (λ k. moved starts (near k) (row k)) (upTo (length L)) (λ k m.
             let h : k < n = omega (arith, upTo-below (length L) k m) in
             ap₂ (λ (b : Bool) (z : ℕ). record { item = itemAt L k; active = b; neighbors = z }) (ap (λ (w : List ℕ). member w k) same-bits) (counted k h) ∙ moved-parts starts (near k) (row k))
             ∙ sym (map-map (λ x. moved starts (neighbor c wire x) x) row (upTo (length L)))
-            ∙ ap (map (λ x. moved starts (neighbor c wire x) x)) (sym (stored .rows))
+            ∙ ap (map (λ x. moved starts (neighbor c wire x) x)) (sym (stored .wires))
 
-        pub went-meets : (m : Option ℕ) → least₀ ≡ leastFloat m → Held m → (allowance < visits → Went met ≡ Spent) × (visits ≤ allowance → (Went met ≡ Went (outcome m)) × (rowsFrom L (drop (8 * n) s) ≡ map (λ x. moved starts (neighbor c wire x) x) (st .rows)))
+        pub went-meets : (m : Option ℕ) → least₀ ≡ leastFloat m → Representable m → (allowance < visits → Went met ≡ Spent) × (visits ≤ allowance → (Went met ≡ Went (outcome m)) × (wireStatesFrom L (drop (8 * n) s) ≡ map (λ x. moved starts (neighbor c wire x) x) (st .wires)))
         went-meets m e h = (λ a. absurd (omega (arith, left-is)), λ a. (ap Went (met-is m e h), rows-are))

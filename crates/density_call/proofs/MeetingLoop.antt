@@ -21,8 +21,8 @@ use Rattle.floats.specs.TotalOrder.{floatAt}
 use Rattle.density_call.specs.declared.meet.Meeting.{Meeting}
 use Rattle.density_call.specs.declared.meet.Met.the-variants.{Went, Spent}
 use Rattle.congestion.specs.Wires.{Wire}
-use Rattle.congestion.specs.Walk.{Row}
-use Rattle.density_call.specs.Inner.Tables.{Tabled, rowFrom}
+use Rattle.congestion.specs.Walk.{WireState}
+use Rattle.density_call.specs.Inner.Tables.{Tabled, wireStateFrom}
 use Rattle.density_call.specs.Inner.Meeting.{Meetable, CountsOnly, Meets, Visitable, Visits}
 use Rattle.density_call.proofs.RowPlaces.{upTo-mem}
 use Rattle.density_call.proofs.MeetingLaws.{Going, Next, going-few, going-none, old-count, next-place, differ, visit-next, visit-stops, spent-meets, went-meets}
@@ -79,8 +79,8 @@ module _ {starts : Bool} {n j : ℕ} {s₀ : List ℕ} {least₀ : Float} {allow
       place : Next starts n j s₀ least₀ allowance (known .c) (known .L) to i
       place = next-place starts n j s₀ least₀ allowance (known .c) (known .L) (known .size) (known .tabled) (known .inside) met s to the-going i (last .0)
 
-      abbrev the-row : Row
-      the-row = rowFrom (known .L) (drop (8 * n) s₀) i
+      abbrev the-row : WireState
+      the-row = wireStateFrom (known .L) (drop (8 * n) s₀) i
 
       count-was : getD s (8 * n + i) 0 ≡ getD s₀ (8 * n + i) 0
       count-was = old-count starts n j s₀ least₀ allowance (known .c) (known .L) (known .size) (known .tabled) (known .inside) met s to the-going i (place .inside) turn-falls ∙ getD-drop (8 * n) s₀ i 0
@@ -99,7 +99,7 @@ module _ {starts : Bool} {n j : ℕ} {s₀ : List ℕ} {least₀ : Float} {allow
           room = room;
           small = let e = count-was in let b = known .counts i (place .inside) in omega arith;
           some = λ b d.
-              let k : 1 ≤ the-row .neighbors = known .some b the-row (subst (Mem the-row) (sym (known .stored .rows)) (map-mem (rowFrom (known .L) (drop (8 * n) s₀)) (upTo (length (known .L))) i (upTo-mem (length (known .L)) i (omega (arith, known .size, place .inside))))) (differ starts n j s₀ least₀ allowance (known .c) (known .L) (known .size) (known .tabled) (known .inside) met s to the-going i (last .0) net of d) in
+              let k : 1 ≤ the-row .neighbors = known .some b the-row (subst (Mem the-row) (sym (known .stored .wires)) (map-mem (wireStateFrom (known .L) (drop (8 * n) s₀)) (upTo (length (known .L))) i (upTo-mem (length (known .L)) i (omega (arith, known .size, place .inside))))) (differ starts n j s₀ least₀ allowance (known .c) (known .L) (known .size) (known .tabled) (known .inside) met s to the-going i (last .0) net of d) in
               let e = count-was in
               let f = getD-drop (8 * n) s₀ i 0 in
               omega arith;

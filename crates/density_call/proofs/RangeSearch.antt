@@ -14,7 +14,7 @@ use Rattle.laws.proofs.Tests.{same-test, ltb-same, le-or-lt}
 use Rattle.floats.specs.TotalOrder.{keyOf, floatAt}
 use Rattle.floats.specs.Grid.{onGrid}
 use Rattle.key_ranges.specs.declared.range.Range.{Range}
-use Rattle.key_ranges.specs.Inner.Reach.{Ascending, Bound, Within, Reached}
+use Rattle.key_ranges.specs.Inner.Reach.{Ascending, LowerBound, InBounds, Reached}
 use Rattle.congestion.specs.Wires.{Wire, cutoffOf}
 use Rattle.congestion.specs.Inner.Keys.{Key}
 use Rattle.density_call.specs.Inner.Tables.{itemAt, Ranged}
@@ -29,13 +29,13 @@ pub record Found (n : ℕ) (cutoff : Float) (s : List ℕ) (j from to : ℕ) : T
 
 -- the keys are those of column 4
 module _ (n : ℕ) (s keys : List ℕ) (len : length keys ≡ n) (same : (i : ℕ) → i < n → getD keys i 0 ≡ getD s (4 * n + i) 0) where
-  by-low : (k r i : ℕ) → Bound keys (k + 1) r → i < n → leb r i ≡ ltb k (getD s (4 * n + i) 0)
+  by-low : (k r i : ℕ) → LowerBound keys (k + 1) r → i < n → leb r i ≡ ltb k (getD s (4 * n + i) 0)
   by-low k r i b h =
       let e = same i h in
       same-test (leb r i) (ltb k (getD s (4 * n + i) 0)) (λ t. lt→ltb k (getD s (4 * n + i) 0) (omega (arith, b .above i (leb→le r i t) (omega arith))))
       (λ t. le→leb r i (elim (le-or-lt r i) [ inl p ↦ p | inr p ↦ absurd (omega (arith, b .below i p, ltb→lt k (getD s (4 * n + i) 0) t)) ]))
 
-  by-high : (k r i : ℕ) → Bound keys k r → i < n → ltb i r ≡ ltb (getD s (4 * n + i) 0) k
+  by-high : (k r i : ℕ) → LowerBound keys k r → i < n → ltb i r ≡ ltb (getD s (4 * n + i) 0) k
   by-high k r i b h =
       let e = same i h in
       ltb-same i r (getD s (4 * n + i) 0) k (λ p. omega (arith, b .below i p)) (λ p. elim (le-or-lt r i) [ inl q ↦ absurd (omega (arith, b .above i q (omega arith))) | inr q ↦ q ])
@@ -43,15 +43,15 @@ module _ (n : ℕ) (s keys : List ℕ) (len : length keys ≡ n) (same : (i : �
   found : (cutoff : Float) (j : ℕ) (r : Range) → j < n → Reached keys j cutoff r → Found n cutoff s j (r .from) (r .to)
   found cutoff j r h f = record {
     inside = omega (arith, f .to .inside);
-    low = λ i q. by-low (keyOf (sub binary64 (floatAt (getD s (4 * n + j) 0)) cutoff)) (r .from) i (subst (λ (w : ℕ). Bound keys (keyOf (sub binary64 (floatAt w) cutoff) + 1) (r .from)) (same j h) (f .from)) q;
-    high = λ i q. by-high (keyOf (add binary64 (floatAt (getD s (4 * n + j) 0)) cutoff)) (r .to) i (subst (λ (w : ℕ). Bound keys (keyOf (add binary64 (floatAt w) cutoff)) (r .to)) (same j h) (f .to)) q;
+    low = λ i q. by-low (keyOf (sub binary64 (floatAt (getD s (4 * n + j) 0)) cutoff)) (r .from) i (subst (λ (w : ℕ). LowerBound keys (keyOf (sub binary64 (floatAt w) cutoff) + 1) (r .from)) (same j h) (f .from)) q;
+    high = λ i q. by-high (keyOf (add binary64 (floatAt (getD s (4 * n + j) 0)) cutoff)) (r .to) i (subst (λ (w : ℕ). LowerBound keys (keyOf (add binary64 (floatAt w) cutoff)) (r .to)) (same j h) (f .to)) q;
   }
 
 -- ---- the ranges of the first j wires are written, and the search for the next one begins at `last`
 pub record Filling (n : ℕ) (cutoff : Float) (s₀ s : List ℕ) (j : ℕ) (last : Range) : Type 0 where
   pub given : Rangeable s₀ n
   pub small : j ≤ n
-  pub near : Within n last
+  pub near : InBounds n last
   pub len : length s ≡ length s₀
   pub kept : RangesOnly n s₀ s
   pub done : (i : ℕ) → i < j → Found n cutoff s₀ i (getD s (6 * n + i) 0) (getD s (7 * n + i) 0)
@@ -73,7 +73,7 @@ module _ (n : ℕ) (cutoff : Float) (s₀ : List ℕ) where
         getD-take (5 * n - 4 * n) (drop (4 * n) s) i 0 (omega arith) ∙ getD-drop (4 * n) s i 0
         ∙ sym (getD-take (6 * n) s (4 * n + i) 0 (omega arith)) ∙ ap (λ (l : List ℕ). getD l (4 * n + i) 0) (f .kept .front) ∙ getD-take (6 * n) s₀ (4 * n + i) 0 (omega arith)
 
-    pub askable : j < n → Ascending column × (j < length column) × Within (length column) last
+    pub askable : j < n → Ascending column × (j < length column) × InBounds (length column) last
     askable h = (
       λ i k p q. let r : k < n = omega (arith, column-length) in rw (column-at i (omega arith), column-at k r) (f .given .ascending i k p r),
       omega (arith, column-length),

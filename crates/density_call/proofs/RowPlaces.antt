@@ -16,9 +16,9 @@ use Rattle.laws.proofs.Folds.{plus, fold-append, fold-map, fold-unit}
 use Rattle.sorting.specs.Inner.Sorted.{upTo}
 use Rattle.sorting.proofs.Entries.{length-upTo, upTo-below}
 use Rattle.congestion.specs.Wires.{Wire}
-use Rattle.congestion.specs.Walk.{Row, State, wasCongested}
+use Rattle.congestion.specs.Walk.{WireState, State, wasCongested}
 use Rattle.congestion.specs.Inner.Keys.{Key}
-use Rattle.density_call.specs.Inner.Tables.{itemAt, eventAt, Tabled, rowFrom, rowsFrom}
+use Rattle.density_call.specs.Inner.Tables.{itemAt, eventAt, Tabled, wireStateFrom, wireStatesFrom}
 
 -- ---- indices
 pub upTo-mem : (n i : ℕ) → i < n → Mem i (upTo n)
@@ -51,28 +51,28 @@ along f g (y ∷ l) e x (inr m) = let h : map f l ≡ map g l = cc in along f g 
 
 -- ---- rows
 module _ (L : List Wire) where
-  pub row-there : (w : List ℕ) (i : ℕ) → i < length L → Mem (rowFrom L w i) (rowsFrom L w)
-  row-there w i h = map-mem (rowFrom L w) (upTo (length L)) i (upTo-mem (length L) i h)
+  pub row-there : (w : List ℕ) (i : ℕ) → i < length L → Mem (wireStateFrom L w i) (wireStatesFrom L w)
+  row-there w i h = map-mem (wireStateFrom L w) (upTo (length L)) i (upTo-mem (length L) i h)
 
-  pub row-place : (w : List ℕ) (r : Row) → Mem r (rowsFrom L w) → (i : ℕ) × (i < length L) × (r ≡ rowFrom L w i)
-  row-place w r m = let k = mem-map (rowFrom L w) (upTo (length L)) r m in (k .0, upTo-below (length L) (k .0) (k .1), k .2)
+  pub row-place : (w : List ℕ) (r : WireState) → Mem r (wireStatesFrom L w) → (i : ℕ) × (i < length L) × (r ≡ wireStateFrom L w i)
+  row-place w r m = let k = mem-map (wireStateFrom L w) (upTo (length L)) r m in (k .0, upTo-below (length L) (k .0) (k .1), k .2)
 
-  pub rows-length : (w : List ℕ) → length (rowsFrom L w) ≡ length L
-  rows-length w = length-map (upTo (length L)) (rowFrom L w) ∙ length-upTo (length L)
+  pub rows-length : (w : List ℕ) → length (wireStatesFrom L w) ≡ length L
+  rows-length w = length-map (upTo (length L)) (wireStateFrom L w) ∙ length-upTo (length L)
 
   -- the words v hold the rows of w under a function f, where they do so at each index
-  module _ (w v : List ℕ) (f : Row → Row) where
-    pub rows-are : ((i : ℕ) → i < length L → rowFrom L v i ≡ f (rowFrom L w i)) → rowsFrom L v ≡ map f (rowsFrom L w)
-    rows-are h = map-same (rowFrom L v) (λ i. f (rowFrom L w i)) (upTo (length L)) (λ i m. h i (upTo-below (length L) i m)) ∙ sym (map-map f (rowFrom L w) (upTo (length L)))
+  module _ (w v : List ℕ) (f : WireState → WireState) where
+    pub rows-are : ((i : ℕ) → i < length L → wireStateFrom L v i ≡ f (wireStateFrom L w i)) → wireStatesFrom L v ≡ map f (wireStatesFrom L w)
+    rows-are h = map-same (wireStateFrom L v) (λ i. f (wireStateFrom L w i)) (upTo (length L)) (λ i m. h i (upTo-below (length L) i m)) ∙ sym (map-map f (wireStateFrom L w) (upTo (length L)))
 
-    pub rows-at : rowsFrom L v ≡ map f (rowsFrom L w) → (i : ℕ) → i < length L → rowFrom L v i ≡ f (rowFrom L w i)
-    rows-at e i h = along (rowFrom L v) (λ i. f (rowFrom L w i)) (upTo (length L)) (e ∙ map-map f (rowFrom L w) (upTo (length L))) i (upTo-mem (length L) i h)
+    pub rows-at : wireStatesFrom L v ≡ map f (wireStatesFrom L w) → (i : ℕ) → i < length L → wireStateFrom L v i ≡ f (wireStateFrom L w i)
+    rows-at e i h = along (wireStateFrom L v) (λ i. f (wireStateFrom L w i)) (upTo (length L)) (e ∙ map-map f (wireStateFrom L w) (upTo (length L))) i (upTo-mem (length L) i h)
 
   -- a wire's own count says whether it was congested
-  pub own-congested : (c j : ℕ) (st : State) (w : List ℕ) → st .rows ≡ rowsFrom L w → j < length L → wasCongested c (itemAt L j) st ≡ bit (not (eqb (getD w j 0) 0))
+  pub own-congested : (c j : ℕ) (st : State) (w : List ℕ) → st .wires ≡ wireStatesFrom L w → j < length L → wasCongested c (itemAt L j) st ≡ bit (not (eqb (getD w j 0) 0))
   own-congested c j st w e h =
       ap (count (λ r. eqb j (r .item .index) && not (eqb (r .neighbors) 0))) e
-      ∙ fold-map plus (λ r. bit (eqb j (r .item .index) && not (eqb (r .neighbors) 0))) (rowFrom L w) (upTo (length L))
+      ∙ fold-map plus (λ r. bit (eqb j (r .item .index) && not (eqb (r .neighbors) 0))) (wireStateFrom L w) (upTo (length L))
       ∙ count-one (λ i. not (eqb (getD w i 0) 0)) (length L) j h
 
 -- ---- the tables stay

@@ -31,7 +31,7 @@ use Rattle.rows.specs.Inner.Tables.{noRow, rowFrom, eventFrom, column}
 use Rattle.rows.proofs.SpreadTables.{Spread}
 use Rattle.rows.proofs.ColumnParts.{getD-map, column-at}
 use Rattle.congestion.specs.Wires.{Wire}
-use Rattle.congestion.specs.Walk.{Event, numbered, events, inOrder, eventRow}
+use Rattle.congestion.specs.Walk.{WireEvent, numbered, wireEvents, inOrder, eventRow}
 use Rattle.congestion.specs.Inner.Keys.{Key}
 use Rattle.density_call.specs.Inner.Tables.{noWire, itemAt, eventAt, Ranged, Tabled}
 use Rattle.density_call.specs.Inner.Measuring.{wireOfRow, Coordinate, Proper}
@@ -109,7 +109,7 @@ row-proper s h f = record {
 }
 
 module _ (h : Bool) where
-  abbrev pub eventOf : rows.Event → Event
+  abbrev pub eventOf : rows.Event → WireEvent
   eventOf (ends i r) = record { ends = true; item = record { wire = wireOfRow h r; index = i } }
   eventOf (starts i r) = record { ends = false; item = record { wire = wireOfRow h r; index = i } }
 
@@ -124,10 +124,10 @@ module _ (h : Bool) where
   same-order (starts i r) (ends j t) p q = first-word-same (r .start) (t .end) (p .start) (q .end) (1 ∷ i ∷ []) (0 ∷ j ∷ [])
   same-order (starts i r) (starts j t) p q = first-word-same (r .start) (t .start) (p .start) (q .start) (1 ∷ i ∷ []) (1 ∷ j ∷ [])
 
-  events-map : (k : ℕ) (l : List Row) → map eventOf (eventsFrom k l) ≡ events (numbered k (map (wireOfRow h) l))
+  events-map : (k : ℕ) (l : List Row) → map eventOf (eventsFrom k l) ≡ wireEvents (numbered k (map (wireOfRow h) l))
   unfolding eventsFrom
   events-map k [] = refl
-  events-map k (r ∷ l) = ap (λ (t : List Event). eventOf (ends k r) ∷ eventOf (starts k r) ∷ t) (events-map (suc k) l)
+  events-map k (r ∷ l) = ap (λ (t : List WireEvent). eventOf (ends k r) ∷ eventOf (starts k r) ∷ t) (events-map (suc k) l)
 
   event-row : (k : ℕ) (l : List Row) (e : rows.Event) → Mem e (eventsFrom k l) → Mem (rowIn e) l
   unfolding eventsFrom
@@ -136,7 +136,7 @@ module _ (h : Bool) where
   event-row k (r ∷ l) e (inr (inl p)) = inl (ap rowIn p)
   event-row k (r ∷ l) e (inr (inr m)) = inr (event-row (suc k) l e m)
 
-  pub events-in-order : (l : List Row) → ((r : Row) → Mem r l → Proper r) → map eventOf (rows.events l) ≡ inOrder (events (numbered 0 (map (wireOfRow h) l)))
+  pub events-in-order : (l : List Row) → ((r : Row) → Mem r l → Proper r) → map eventOf (rows.events l) ≡ inOrder (wireEvents (numbered 0 (map (wireOfRow h) l)))
   unfolding rows.events inOrder
   events-in-order l fit =
       sort-map eventsInOrder (λ a b. rowLe (eventRow a) (eventRow b)) eventOf (eventsFrom 0 l) (λ d e m n. same-order d e (fit (rowIn d) (event-row 0 l d m)) (fit (rowIn e) (event-row 0 l e n)))

@@ -28,7 +28,7 @@ use Rattle.congestion.specs.declared.found.Swept.the-variants.{Went}
 use Rattle.congestion.specs.Conditions.{congestionConditions}
 use Rattle.congestion.specs.Wires.{wireOf, cutoffOf}
 use Rattle.congestion.specs.Figures.{total}
-use Rattle.congestion.specs.Profile.{lengths, allPairs}
+use Rattle.congestion.specs.AllPairs.{lengths, allPairs}
 use Rattle.density_call.specs.Inner.Measuring.{Proper, Cutoff, AtColumns, foundOf}
 use Rattle.congestion.proofs.Fitness.{zero-stands, segments-passed, agree, fit-list, fit-cutoff}
 use Rattle.congestion.proofs.RoundedSums.{zero-units}

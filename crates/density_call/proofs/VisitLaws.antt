@@ -14,7 +14,7 @@ use Rattle.laws.proofs.Tests.{same-or-not, cond-true, cond-false}
 use Rattle.floats.specs.Values.{plusZero, lesserOf, absOf, gapOf}
 use Rattle.floats.specs.TotalOrder.{floatAt}
 use Rattle.density_call.specs.declared.meet.Meeting.{Meeting}
-use Rattle.density_call.specs.Inner.Meeting.{turning, withGap, countAfter, highestAfter, withNeighbor, paid, Countable, Visitable, Visits}
+use Rattle.density_call.specs.Inner.Meeting.{changingCount, withGap, countAfter, highestAfter, withNeighbor, paid, Countable, Visitable, Visits}
 
 pub one-more : (n : ℕ) (b : Bool) → b ≡ true → n + 1 ≡ n + bit b
 one-more n b e = ap (λ (z : Bool). n + bit z) (sym e)
@@ -32,7 +32,7 @@ module _ (least gap : Float) where
 
 -- ---- a neighbor
 -- the count changes between 0 and 1 where the lesser of the counts before and after is 0
-lower-turning : (starts : Bool) (k : ℕ) → (starts ≡ false → 1 ≤ k) → eqb (cond starts k (countAfter starts k)) 0 ≡ eqb k (turning starts)
+lower-turning : (starts : Bool) (k : ℕ) → (starts ≡ false → 1 ≤ k) → eqb (cond starts k (countAfter starts k)) 0 ≡ eqb k (changingCount starts)
 lower-turning true k h = refl
 lower-turning false k h =
     let l : 1 ≤ k = h refl in
@@ -50,7 +50,7 @@ pub neighbor-met : (starts : Bool) (s : List ℕ) (at after lower x z : ℕ) (ga
     → (record { neighbors = t .neighbors + 1; changed = x; highest = z; least = y; remaining = t .remaining - 1 } ≡ withNeighbor starts (getD s at 0) gap t) × (set s at after ≡ set s at (countAfter starts (getD s at 0)))
 neighbor-met starts s at after lower x z gap y t some a l e h f =
     let k = getD s at 0 in
-    let turns : x ≡ t .changed + bit (eqb k (turning starts)) = e ∙ ap (λ (q : ℕ). t .changed + bit (eqb q 0)) (l ∙ ap (cond starts k) a) ∙ ap (λ (q : Bool). t .changed + bit q) (lower-turning starts k some) in
+    let turns : x ≡ t .changed + bit (eqb k (changingCount starts)) = e ∙ ap (λ (q : ℕ). t .changed + bit (eqb q 0)) (l ∙ ap (cond starts k) a) ∙ ap (λ (q : Bool). t .changed + bit q) (lower-turning starts k some) in
     let top : z ≡ highestAfter starts (t .highest) k = h ∙ ap (λ (q : ℕ). cond starts (max (t .highest) q) (t .highest)) a ∙ highest-of starts (t .highest) k in
     ((λ i. record { neighbors = t .neighbors + 1; changed = turns i; highest = top i; least = f i; remaining = t .remaining - 1 }), ap (set s at) a)
 

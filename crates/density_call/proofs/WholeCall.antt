@@ -17,7 +17,7 @@ use Rattle.congestion.specs.declared.report.CongestionAnswer.{CongestionAnswer}
 use Rattle.congestion.specs.declared.report.CongestionAnswer.the-variants.{Report, Refused}
 use Rattle.congestion.specs.declared.found.Swept.{Swept}
 use Rattle.congestion.specs.Conditions.{congestionConditions}
-use Rattle.congestion.specs.Profile.{allPairs}
+use Rattle.congestion.specs.AllPairs.{allPairs}
 use Rattle.congestion.specs.Rounded.{roundedTotal}
 use Rattle.congestion.specs.Answer.{reportOf, settled, densityAnswer}
 use Rattle.congestion.specs.Inner.Answering.{answerOf}

@@ -7,9 +7,9 @@ ghost use Rattle.drawing.specs.Refusals.{firstOf, scratchAfter};
 ghost use Rattle.drawing.specs.Entries.{segmentColumns, segments};
 ghost use Rattle.drawing.specs.Held.{Binary64, SegmentsHeld};
 ghost use Rattle.congestion.specs.Conditions.{congestionConditions};
-ghost use Rattle.congestion.specs.Profile.{allPairs};
+ghost use Rattle.congestion.specs.AllPairs.{allPairs};
 ghost use Rattle.congestion.specs.Answer.{densityAnswer};
-ghost use Rattle.density_call.specs.Inner.Measuring.{foundOf, togetherOf};
+ghost use Rattle.density_call.specs.Inner.Measuring.{foundOf, combinedOf};
 use crate::along::sweep_along;
 use crate::counts::greater;
 use congestion::CongestionAnswer;
@@ -25,8 +25,8 @@ use drawing::minimum_option;
 use rows::segments_to_sweep;
 
 // The figures of both orientations, with the remaining visits of the second sweep.
-fn together(across: Found, down: Found) -> Found
-    ensures { λ r. ⌜ r ≡ togetherOf across down ⌝ }
+fn combined(across: Found, down: Found) -> Found
+    ensures { λ r. ⌜ r ≡ combinedOf across down ⌝ }
 {
     let one = across.minimum_positive;
     let other = down.minimum_positive;
@@ -96,7 +96,7 @@ fn walk_segments(
     let Swept::Went(down) = second else {
         return Swept::Spent;
     };
-    Swept::Went(together(across, down))
+    Swept::Went(combined(across, down))
 }
 
 pub fn measure_parallel_density_profile_bounded(

@@ -10,7 +10,7 @@ use Rattle.drawing.specs.declared.refusal.Refusal.the-variants.{ShortScr
 use Rattle.drawing.specs.declared.refusal.Check.the-variants.{Refused}
 use Rattle.drawing.specs.Entries.{SegmentColumns, segmentColumns, segmentsOf}
 use Rattle.drawing.specs.Refusals.{firstOf}
-use Rattle.drawing.specs.Conditions.{differ, tooMany, shortScratch, unfitLine, unfitSegment, unfitThreshold, offGridLine}
+use Rattle.drawing.specs.Conditions.{differ, tooMany, shortScratch, unfitFields, unfitSegment, unfitThreshold, offGridFields}
 use Rattle.drawing.specs.Checks.{segmentsDiffer, segmentConditions}
 
 abbrev float : ℕ → Float
@@ -21,17 +21,17 @@ one-segment fixed start end = segmentColumns (1 ∷ []) (1 ∷ []) (float fixed 
 
 -- of two faults the earlier refusal: the scratch is short, and the start is not below the end
 pub two-faults : firstOf (segmentConditions (one-segment 0 0 0) 95) ≡ Refused ShortScratch
-unfolding firstOf segmentConditions segmentsDiffer differ some-of tooMany shortScratch segmentsOf unfitSegment unfitLine ofBits lt
+unfolding firstOf segmentConditions segmentsDiffer differ some-of tooMany shortScratch segmentsOf unfitSegment unfitFields ofBits lt
 two-faults = refl
 
 -- with one word more the second refusal is returned
 pub second-fault : firstOf (segmentConditions (one-segment 0 0 0) 96) ≡ Refused InvalidInput
-unfolding firstOf segmentConditions segmentsDiffer differ some-of tooMany shortScratch segmentsOf unfitSegment unfitLine ofBits lt
+unfolding firstOf segmentConditions segmentsDiffer differ some-of tooMany shortScratch segmentsOf unfitSegment unfitFields ofBits lt
 second-fault = refl
 
 -- a start of -0 is not below an end of +0
 pub zeros-are-equal : firstOf (segmentConditions (one-segment 0 0x8000_0000_0000_0000 0) 96) ≡ Refused InvalidInput
-unfolding firstOf segmentConditions segmentsDiffer differ some-of tooMany shortScratch segmentsOf unfitSegment unfitLine ofBits lt
+unfolding firstOf segmentConditions segmentsDiffer differ some-of tooMany shortScratch segmentsOf unfitSegment unfitFields ofBits lt
 zeros-are-equal = refl
 
 -- SCOPE 7.5: "a threshold below 0 (-0 passes)"
@@ -45,10 +45,10 @@ unfolding unfitThreshold ofBits lt
 negative-threshold = refl
 
 -- SCOPE 13.k: "1/64 and 1,048,576 pass, 1/128 gives 6"
-pub on-the-grid : offGridLine (float 0) (float 0x3f90_0000_0000_0000) (float 0x4130_0000_0000_0000) ≡ false
-unfolding offGridLine onGrid ofBits
+pub on-the-grid : offGridFields (float 0) (float 0x3f90_0000_0000_0000) (float 0x4130_0000_0000_0000) ≡ false
+unfolding offGridFields onGrid ofBits
 on-the-grid = refl
 
-pub off-the-grid : offGridLine (float 0) (float 0x3f80_0000_0000_0000) (float 0x4130_0000_0000_0000) ≡ true
-unfolding offGridLine onGrid ofBits
+pub off-the-grid : offGridFields (float 0) (float 0x3f80_0000_0000_0000) (float 0x4130_0000_0000_0000) ≡ true
+unfolding offGridFields onGrid ofBits
 off-the-grid = refl

@@ -11,7 +11,7 @@ use Rattle.laws.proofs.Tests.{of-true, neither-left, neither-right}
 use Rattle.floats.specs.Values.{plusZero}
 use Rattle.floats.proofs.Rank.{Num, Fin, fin-num}
 use Rattle.drawing.specs.Entries.{Segment, Node}
-use Rattle.drawing.specs.Conditions.{unfitLine, unfitSegment, unfitExtent, unfitBox, unfitNode, unfitThreshold}
+use Rattle.drawing.specs.Conditions.{unfitFields, unfitSegment, unfitExtent, unfitBox, unfitNode, unfitThreshold}
 use Rattle.drawing.specs.Held.{SegmentHeld, NodeHeld}
 
 -- ---- fit entries: their floats are values of binary64, and the conditions of refusal 5 do not hold of them
@@ -42,7 +42,7 @@ pub record Line (s : Segment) : Type 0 where
   pub rising : T (lt (s .start) (s .end))
 
 pub line-of : (s : Segment) → unfitSegment s ≡ false → Line s
-unfolding unfitSegment unfitLine
+unfolding unfitSegment unfitFields
 line-of s e =
     let a = ltb 1 (s .orientation) in
     let b = a || not (finite (s .fixed)) in

@@ -23,11 +23,11 @@ unfoldable pub shortScratch : ℕ → ℕ → ℕ → Bool
 shortScratch words segments nodes = ltb words (32 * (segments + nodes) + 64)
 
 -- SCOPE 7.5: "an orientation byte above 1, a non-finite number, start not below end"
-unfoldable pub unfitLine : ℕ → Float → Float → Float → Bool
-unfitLine orientation fixed start end = ltb 1 orientation || not (finite fixed) || not (finite start) || not (finite end) || not (lt start end)
+unfoldable pub unfitFields : ℕ → Float → Float → Float → Bool
+unfitFields orientation fixed start end = ltb 1 orientation || not (finite fixed) || not (finite start) || not (finite end) || not (lt start end)
 
 unfoldable pub unfitSegment : Segment → Bool
-unfitSegment s = unfitLine (s .orientation) (s .fixed) (s .start) (s .end)
+unfitSegment s = unfitFields (s .orientation) (s .fixed) (s .start) (s .end)
 
 -- SCOPE 7.5, along one axis of a node's box: "a non-finite number, .. width or height not above 0, a non-finite right or bottom edge"
 unfoldable pub unfitExtent : Float → Float → Bool
@@ -49,11 +49,11 @@ unfoldable pub unfitCutoff : Float → Bool
 unfitCutoff c = not (finite c)
 
 -- SCOPE 7.6: "a coordinate or the cutoff is off the grid"
-unfoldable pub offGridLine : Float → Float → Float → Bool
-offGridLine fixed start end = not (onGrid fixed) || not (onGrid start) || not (onGrid end)
+unfoldable pub offGridFields : Float → Float → Float → Bool
+offGridFields fixed start end = not (onGrid fixed) || not (onGrid start) || not (onGrid end)
 
 unfoldable pub offGridSegment : Segment → Bool
-offGridSegment s = offGridLine (s .fixed) (s .start) (s .end)
+offGridSegment s = offGridFields (s .fixed) (s .start) (s .end)
 
 unfoldable pub offGridCutoff : Float → Bool
 offGridCutoff c = not (onGrid c)

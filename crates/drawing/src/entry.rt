@@ -5,7 +5,7 @@ use floats::is_finite;
 
 // A segment: an orientation byte above 1, a number that is not finite, or a start not below the end.
 pub fn segment_unfit(orientation: u8, fixed: f64, start: f64, end: f64) -> bool
-    ensures { λ r. ⌜ r ≡ Conditions.unfitLine orientation fixed start end ⌝ }
+    ensures { λ r. ⌜ r ≡ Conditions.unfitFields orientation fixed start end ⌝ }
 {
     if 1 < orientation {
         return true;

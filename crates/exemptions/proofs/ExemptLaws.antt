@@ -31,7 +31,7 @@ use Rattle.drawing.specs.Checks.{exemptionsDiffer}
 use Rattle.drawing.proofs.EntryLaws.{length-exemptions}
 use Rattle.exemptions.specs.declared.Range.{Range}
 use Rattle.clearance.specs.Figures.{exempt}
-use Rattle.exemptions.specs.Inner.Exempting.{word, unpacked, wordAt, nodeOf, Ascending, Rising, Holds, Gathered, Bound, Own, Listed}
+use Rattle.exemptions.specs.Inner.Exempting.{word, unpacked, wordAt, nodeOf, Ascending, Rising, Holds, Gathered, LowerBound, Own, Listed}
 
 -- ---- the search by halving: if the keys ascend, the index sought is one of the n from `at` on, or the one after them
 pub record Halving (key : ℕ → ℕ) (a b v at n : ℕ) : Type 0 where
@@ -45,7 +45,7 @@ module _ (key : ℕ → ℕ) (a b v : ℕ) where
   halving-start h = record { from = omega arith; to = omega arith; below = λ o i p q. absurd (omega arith); above = λ o i p q. absurd (omega arith) }
 
   module _ (at n : ℕ) (s : Halving key a b v at n) where
-    pub halving-end : n ≤ 0 → Ascending key a b → Bound key a b v at
+    pub halving-end : n ≤ 0 → Ascending key a b → LowerBound key a b v at
     halving-end h o = record { from = s .from; to = omega (arith, s .to); below = s .below o; above = λ i p q. s .above o i (omega arith) q }
 
     -- the key in the middle is compared
@@ -79,12 +79,12 @@ module _ (words : List ℕ) (a b id at n : ℕ) (s : Halving (nodeOf words) a b 
   nodes-halved = halving-step (nodeOf words) a b id at n s h _ (λ k. omega arith) (λ k. omega arith)
 
 -- ---- the range of a net: between its least word and the least word of the next net
-module _ (words : List ℕ) (k net from : ℕ) (f : Bound (wordAt words) 0 k (net * 4294967296) from) where
+module _ (words : List ℕ) (k net from : ℕ) (f : LowerBound (wordAt words) 0 k (net * 4294967296) from) where
   -- no word of the net is before it
   own-from : (i : ℕ) → wordAt words i / 4294967296 ≡ net → from ≤ i
   own-from i e = elim (le-or-lt from i) [ inl p ↦ p | inr p ↦ absurd (omega (arith, f .below i (omega arith) p)) ]
 
-  pub own-between : (to : ℕ) → Bound (wordAt words) from k ((net + 1) * 4294967296) to → Own words k net (record { from = from; to = to })
+  pub own-between : (to : ℕ) → LowerBound (wordAt words) from k ((net + 1) * 4294967296) to → Own words k net (record { from = from; to = to })
   own-between to t = record {
     ordered = t .from;
     inside = t .to;
@@ -147,8 +147,8 @@ module _ (words : List ℕ) (ex : List Exemption) (net : ℕ) (r : Range) (l : L
   order : Ascending (nodeOf words) (r .from) (r .to)
   order = nodes-ascend words (length ex) net r (l .holds .rising) (l .places)
 
-  module _ (at : ℕ) (search : Ascending (nodeOf words) (r .from) (r .to) → Bound (nodeOf words) (r .from) (r .to) id at) where
-    b : Bound (nodeOf words) (r .from) (r .to) id at
+  module _ (at : ℕ) (search : Ascending (nodeOf words) (r .from) (r .to) → LowerBound (nodeOf words) (r .from) (r .to) id at) where
+    b : LowerBound (nodeOf words) (r .from) (r .to) id at
     b = search order
 
     pub not-found : r .to ≤ at → false ≡ exempt ex net id

@@ -6,7 +6,7 @@ ghost use lib.ListN.{length};
 ghost use Rattle.drawing.specs.Entries.{Exemption, exemptionColumns};
 ghost use Rattle.drawing.specs.Inner.Lengths.{ExemptionsAgree};
 ghost use Rattle.clearance.specs.Figures.{exempt};
-ghost use Rattle.exemptions.specs.Inner.Exempting.{word, wordAt, nodeOf, Ascending, Rising, Gathered, Bound, Own, Listed};
+ghost use Rattle.exemptions.specs.Inner.Exempting.{word, wordAt, nodeOf, Ascending, Rising, Gathered, LowerBound, Own, Listed};
 use sorting::sort_indices;
 
 // 2 to the power 32: the upper half of a word is the net, the lower the node.
@@ -45,7 +45,7 @@ pub fn gather(words: &mut [u64], exempt_net: &[u32], exempt_node: &[u32])
 
 // The first index from a on, and before b, whose word is at least v; b where there is none. The caller put the words in ascending order. Where they do not ascend, some index from a to b is returned; where a to b is no range of the words, a is.
 pub fn first_at_least(words: &[u64], a: usize, b: usize, v: u64) -> usize
-    ensures { λ r. ⌜ (a ≤ b → b ≤ length (now (words .entry)) → Ascending (wordAt (now (words .entry))) a b → Bound (wordAt (now (words .entry))) a b v r) ⌝ }
+    ensures { λ r. ⌜ (a ≤ b → b ≤ length (now (words .entry)) → Ascending (wordAt (now (words .entry))) a b → LowerBound (wordAt (now (words .entry))) a b v r) ⌝ }
 {
     if b < a {
         return a;
@@ -70,7 +70,7 @@ pub fn first_at_least(words: &[u64], a: usize, b: usize, v: u64) -> usize
 // The same for the nodes of the words. `below` is 1 where the node in the middle is below id, and 0 where it is not: a comparison here would become a branch, mispredicted half of the time.
 fn first_node(words: &[u64], a: usize, b: usize, id: u32) -> usize
     requires { ⌜ (a ≤ b) × (b ≤ length (now words)) ⌝ }
-    ensures { λ r. ⌜ (Ascending (nodeOf (now (words .entry))) a b → Bound (nodeOf (now (words .entry))) a b id r) ⌝ }
+    ensures { λ r. ⌜ (Ascending (nodeOf (now (words .entry))) a b → LowerBound (nodeOf (now (words .entry))) a b id r) ⌝ }
 {
     let limit = id as u64 + (HALF - 1);
     let mut at = a;
@@ -86,7 +86,7 @@ fn first_node(words: &[u64], a: usize, b: usize, id: u32) -> usize
 }
 
 // The indices of that net's exemptions among the first k words, which ascend once they are gathered.
-pub fn range_of(words: &[u64], k: usize, net: u32) -> Range
+pub fn net_range(words: &[u64], k: usize, net: u32) -> Range
     ensures { λ r. ⌜ (Rising (now (words .entry)) k → Own (now (words .entry)) k net r) ⌝ }
 {
     let from = first_at_least(words, 0, k, net as u64 * HALF);
@@ -98,7 +98,7 @@ pub fn range_of(words: &[u64], k: usize, net: u32) -> Range
     Range { from: from, to: to }
 }
 
-// Whether a node of that id is exempt for the net whose exemptions are in the range that `range_of` returns for gathered words. Where the range is empty or extends beyond the words, no node is.
+// Whether a node of that id is exempt for the net whose exemptions are in the range that `net_range` returns for gathered words. Where the range is empty or extends beyond the words, no node is.
 pub fn is_exempt(words: &[u64], range: Range, id: u32) -> bool
     ensures { λ r. ⌜ ((ex : List Exemption) (net : ℕ) → Listed (now (words .entry)) ex net range → r ≡ exempt ex net id) ⌝ }
 {

@@ -14,8 +14,8 @@ use Rattle.laws.specs.Lists.{some-of}
 use Rattle.laws.proofs.Tests.{le-or-lt, decide, cond-true, cond-false}
 use Rattle.drawing.specs.declared.refusal.Refusal.{Refusal}
 use Rattle.drawing.specs.declared.refusal.Refusal.the-variants.{MalformedFile, TooManyEntries}
-use Rattle.file.specs.declared.scan.Counted.{Counted}
-use Rattle.file.specs.declared.scan.Counted.the-variants.{Entries, Refused}
+use Rattle.file.specs.declared.scan.ListCount.{ListCount}
+use Rattle.file.specs.declared.scan.ListCount.the-variants.{Entries, Refused}
 use Rattle.file.specs.Reading.{Read, got, refused, bigEndian, number, entries, counted}
 use Rattle.file.specs.Inner.Places.{places, countOf}
 use Rattle.file.proofs.Fixed.{Fixed, then-got, then-refused, fixed-number, fixed-entries}
@@ -145,7 +145,7 @@ module _ {A : Type 0} {w : ℕ} {bad : List ℕ → Bool} {value : List ℕ → 
       go (missing h k m) = so MalformedFile (counted-missing (fixed-number w) limit l (countIn l) h refl k m) (counted-missing f limit l (countIn l) h refl k m)
       go (here m t) = let g = counted-there (fixed-number w) limit l m t (some-never (places w m (drop 4 l))) in let d : Entries m ≡ countOf (counted limit (number w) l) = count-got _ _ _ m (g .reads) (length-map (places w m (drop 4 l)) _ ∙ length-places w m (drop 4 l)) in cc
 
-  pub refused-same : (x : Counted) (r : Refusal) → x ≡ countOf (counted limit (number w) l) → x ≡ Refused r → x ≡ countOf (counted limit entry l)
+  pub refused-same : (x : ListCount) (r : Refusal) → x ≡ countOf (counted limit (number w) l) → x ≡ Refused r → x ≡ countOf (counted limit entry l)
   refused-same x r e g = g ∙ count-refused _ r (refused-as r (sym g ∙ e))
 
 -- entries without a fault of their own

@@ -13,8 +13,8 @@ use Rattle.laws.specs.Lists.{some-of}
 use Rattle.laws.proofs.Tests.{le-or-lt}
 use Rattle.drawing.specs.declared.refusal.Refusal.{Refusal}
 use Rattle.drawing.specs.declared.refusal.Refusal.the-variants.{MalformedFile}
-use Rattle.file.specs.declared.scan.Counted.{Counted}
-use Rattle.file.specs.declared.scan.Counted.the-variants.{Entries, Refused}
+use Rattle.file.specs.declared.scan.ListCount.{ListCount}
+use Rattle.file.specs.declared.scan.ListCount.the-variants.{Entries, Refused}
 use Rattle.file.specs.declared.reading.Header.{Header}
 use Rattle.file.specs.declared.reading.Reading.the-variants as answers
 use Rattle.file.specs.Reading.{got, refused, number, version, counted, segment, node, exemption, Drawing, parts, ended, read}
@@ -27,7 +27,7 @@ use Rattle.file.proofs.FixedLists.{There, PartAt, listed-of, listed-as,
 use Rattle.file.proofs.ColumnsFilled.{above, byte-is}
 
 -- ---- the orientation bytes of the segments
-pub counted-of : (l : List ℕ) (x : Counted) (n : ℕ) → x ≡ countOf (counted 120 (number 29) l) → x ≡ Entries n → There 120 29 l n
+pub counted-of : (l : List ℕ) (x : ListCount) (n : ℕ) → x ≡ countOf (counted 120 (number 29) l) → x ≡ Entries n → There 120 29 l n
 counted-of l x n e g = listed-of (fixed-number 29) 120 l n (sym g ∙ e) .there
 
 pub orientation-room : (l : List ℕ) (n : ℕ) → 1 ≤ length l → There 120 29 (drop 1 l) n → Room 1 29 n 9 l
@@ -124,27 +124,27 @@ has-version l h k =
 
 -- ---- what is known from the counts that were found
 module _ (l : List ℕ) where
-  pub segments-of : HasVersion l → (x : Counted) (s : ℕ) → x ≡ countOf (counted 120 segment (drop 1 l)) → x ≡ Entries s → HasSegments l s
+  pub segments-of : HasVersion l → (x : ListCount) (s : ℕ) → x ≡ countOf (counted 120 segment (drop 1 l)) → x ≡ Entries s → HasSegments l s
   segments-of v x s e g = part-of (v .some) (listed-of fixed-segment 120 (drop 1 l) s (sym g ∙ e))
 
-  pub nodes-of : (s : ℕ) → HasSegments l s → (x : Counted) (n : ℕ) → x ≡ countOf (counted 120 (number 36) (drop (nodesPlace s) l)) → x ≡ Entries n → HasNodes l s n
+  pub nodes-of : (s : ℕ) → HasSegments l s → (x : ListCount) (n : ℕ) → x ≡ countOf (counted 120 (number 36) (drop (nodesPlace s) l)) → x ≡ Entries n → HasNodes l s n
   nodes-of s a x n e g = part-of (a .room) (listed-as fixed-node 120 (drop (nodesPlace s) l) n (sym g ∙ e))
 
-  pub exemptions-of : (s n : ℕ) → HasNodes l s n → (x : Counted) (e : ℕ) → x ≡ countOf (counted 240 (number 8) (drop (exemptionsPlace s n) l)) → x ≡ Entries e → HasExemptions l s n e
+  pub exemptions-of : (s n : ℕ) → HasNodes l s n → (x : ListCount) (e : ℕ) → x ≡ countOf (counted 240 (number 8) (drop (exemptionsPlace s n) l)) → x ≡ Entries e → HasExemptions l s n e
   exemptions-of s n b x k e g = part-of (b .room) (listed-as fixed-exemption 240 (drop (exemptionsPlace s n) l) k (sym g ∙ e))
 
 module _ (l : List ℕ) (v : HasVersion l) where
-  pub no-segments : (x : Counted) (r : Refusal) → x ≡ countOf (counted 120 segment (drop 1 l)) → x ≡ Refused r → answers.Refused r ≡ readingOf (read l)
+  pub no-segments : (x : ListCount) (r : Refusal) → x ≡ countOf (counted 120 segment (drop 1 l)) → x ≡ Refused r → answers.Refused r ≡ readingOf (read l)
   unfolding parts
   no-segments x r e g = refused-reading l r (then-got _ _ _ _ (v .reads) ∙ then-refused _ _ r (refused-of (counted 120 segment (drop 1 l)) r (sym g ∙ e)))
 
   module _ (s : ℕ) (a : HasSegments l s) where
-    pub no-nodes : (x : Counted) (r : Refusal) → x ≡ countOf (counted 120 (number 36) (drop (nodesPlace s) l)) → x ≡ Refused r → answers.Refused r ≡ readingOf (read l)
+    pub no-nodes : (x : ListCount) (r : Refusal) → x ≡ countOf (counted 120 (number 36) (drop (nodesPlace s) l)) → x ≡ Refused r → answers.Refused r ≡ readingOf (read l)
     unfolding parts
     no-nodes x r e g = refused-reading l r (then-got _ _ _ _ (v .reads) ∙ then-got _ _ _ _ (a .reads) ∙ then-refused _ _ r (refused-as fixed-node 120 (drop (nodesPlace s) l) r (sym g ∙ e)))
 
     module _ (n : ℕ) (b : HasNodes l s n) where
-      pub no-exemptions : (x : Counted) (r : Refusal) → x ≡ countOf (counted 240 (number 8) (drop (exemptionsPlace s n) l)) → x ≡ Refused r → answers.Refused r ≡ readingOf (read l)
+      pub no-exemptions : (x : ListCount) (r : Refusal) → x ≡ countOf (counted 240 (number 8) (drop (exemptionsPlace s n) l)) → x ≡ Refused r → answers.Refused r ≡ readingOf (read l)
       unfolding parts
       no-exemptions x r e g = refused-reading l r (then-got _ _ _ _ (v .reads) ∙ then-got _ _ _ _ (a .reads) ∙ then-got _ _ _ _ (b .reads) ∙ then-refused _ _ r (refused-as fixed-exemption 240 (drop (exemptionsPlace s n) l) r (sym g ∙ e)))
 

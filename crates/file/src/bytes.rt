@@ -5,7 +5,7 @@ ghost use Prim.Native.Nat.{_+_, _≤_};
 ghost use lib.ListN.{length, take, drop};
 ghost use Rattle.file.specs.Reading.{bigEndian};
 
-fn joined(a: u8, b: u8, c: u8, d: u8) -> u32
+fn from_bytes(a: u8, b: u8, c: u8, d: u8) -> u32
     ensures { λ r. ⌜ r ≡ bigEndian 0 (a ∷ b ∷ c ∷ d ∷ []) ⌝ }
 {
     256 * (256 * (256 * (a as u32) + (b as u32)) + (c as u32)) + (d as u32)
@@ -15,7 +15,7 @@ pub(crate) fn be32(bytes: &[u8], at: usize) -> u32
     requires { ⌜ at + 4 ≤ length (now bytes) ⌝ }
     ensures { λ r. ⌜ r ≡ bigEndian 0 (take 4 (drop at (now (bytes .entry)))) ⌝ }
 {
-    joined(bytes[at], bytes[at + 1], bytes[at + 2], bytes[at + 3])
+    from_bytes(bytes[at], bytes[at + 1], bytes[at + 2], bytes[at + 3])
 }
 
 pub(crate) fn be64(bytes: &[u8], at: usize) -> u64

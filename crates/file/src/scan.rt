@@ -16,28 +16,28 @@ use drawing::Refusal;
 use floats::float_of_bits;
 
 // What is found about one list: its number of entries, none of them missing, or why the file is refused.
-enum Counted {
+enum ListCount {
     Entries(usize),
     Refused(Refusal),
 }
 
 // The list whose count is at `at`, its entries read as plain numbers of `width` bytes. Missing bytes are a malformed file, but a count above the limit comes first.
-fn count_at(bytes: &[u8], at: usize, limit: usize, width: usize) -> Counted
+fn count_at(bytes: &[u8], at: usize, limit: usize, width: usize) -> ListCount
     requires { ⌜ (at ≤ length (now bytes)) × (limit ≤ 240) × (width ≤ 36) ⌝ }
     ensures { λ r. ⌜ r ≡ countOf (counted limit (number width) (drop at (now (bytes .entry)))) ⌝ }
 {
     let left = bytes.len() - at;
     if left < 4 {
-        return Counted::Refused(Refusal::MalformedFile);
+        return ListCount::Refused(Refusal::MalformedFile);
     }
     let n = be32(bytes, at) as usize;
     if limit < n {
-        return Counted::Refused(Refusal::TooManyEntries);
+        return ListCount::Refused(Refusal::TooManyEntries);
     }
     if left - 4 < width * n {
-        return Counted::Refused(Refusal::MalformedFile);
+        return ListCount::Refused(Refusal::MalformedFile);
     }
-    Counted::Entries(n)
+    ListCount::Entries(n)
 }
 
 // Whether some byte is above 1, of n bytes that are `width` apart.
@@ -56,16 +56,16 @@ fn above_one(bytes: &[u8], n: usize, at: usize, width: usize) -> bool
 }
 
 // The segments, which follow the version byte. The orientation byte of the first one is byte 9.
-fn count_segments(bytes: &[u8]) -> Counted
+fn count_segments(bytes: &[u8]) -> ListCount
     requires { ⌜ 1 ≤ length (now bytes) ⌝ }
     ensures { λ r. ⌜ r ≡ countOf (counted 120 segment (drop 1 (now (bytes .entry)))) ⌝ }
 {
     let found = count_at(bytes, 1, 120, 29);
-    let Counted::Entries(n) = found else {
+    let ListCount::Entries(n) = found else {
         return found;
     };
     if above_one(bytes, n, 9, 29) {
-        return Counted::Refused(Refusal::MalformedFile);
+        return ListCount::Refused(Refusal::MalformedFile);
     }
     found
 }
@@ -99,20 +99,20 @@ pub(crate) fn scan(bytes: &[u8]) -> Reading
     }
     let found = count_segments(bytes);
     let segments = match found {
-        Counted::Refused(why) => return Reading::Refused(why),
-        Counted::Entries(n) => n,
+        ListCount::Refused(why) => return Reading::Refused(why),
+        ListCount::Entries(n) => n,
     };
     let nodes_at = 5 + 29 * segments;
     let found = count_at(bytes, nodes_at, 120, 36);
     let nodes = match found {
-        Counted::Refused(why) => return Reading::Refused(why),
-        Counted::Entries(n) => n,
+        ListCount::Refused(why) => return Reading::Refused(why),
+        ListCount::Entries(n) => n,
     };
     let exemptions_at = nodes_at + 4 + 36 * nodes;
     let found = count_at(bytes, exemptions_at, 240, 8);
     let exemptions = match found {
-        Counted::Refused(why) => return Reading::Refused(why),
-        Counted::Entries(n) => n,
+        ListCount::Refused(why) => return Reading::Refused(why),
+        ListCount::Entries(n) => n,
     };
     let at = exemptions_at + 4 + 8 * exemptions;
     if bytes.len() != at + 40 {

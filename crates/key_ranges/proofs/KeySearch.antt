@@ -11,7 +11,7 @@ use lib.ListN.{length, getD}
 use Rattle.laws.proofs.Tests.{le-or-lt, same-or-not}
 use Rattle.floats.specs.TotalOrder.{key, patternAt, keyOf, floatAt}
 use Rattle.floats.proofs.NumberKeys.{float-back, key-of-small}
-use Rattle.key_ranges.specs.Inner.Reach.{Ascending, Passed, Bound, Reached}
+use Rattle.key_ranges.specs.Inner.Reach.{Ascending, Passed, LowerBound, Reached}
 
 -- ---- a search from any index: down to where all words before are less than v, then up to the first that is not
 module _ (l : List ℕ) (v : ℕ) where
@@ -30,10 +30,10 @@ module _ (l : List ℕ) (v : ℕ) where
     }
 
     -- the words after it are no less
-    pub bound-here : Ascending l → v ≤ getD l at 0 → Bound l v at
+    pub bound-here : Ascending l → v ≤ getD l at 0 → LowerBound l v at
     bound-here o k = record { inside = s .inside; below = s .below; above = λ i p q. let z = o at i p q in omega arith }
 
-    pub bound-end : length l ≤ at → Bound l v at
+    pub bound-end : length l ≤ at → LowerBound l v at
     bound-end h = record { inside = s .inside; below = s .below; above = λ i p q. absurd (omega arith) }
 
 -- ---- one key's range
@@ -57,8 +57,8 @@ pub next-fits : (b : ℕ) (x y : Float) → b ≡ keyOf (sub binary64 x y) → b
 next-fits b x y e = omega (arith, key-next (sub binary64 x y) (sub-fits binary64 x y))
 
 pub reached : (keys : List ℕ) (j : ℕ) (cutoff fixed : Float) (b a : ℕ) (from to : ℕ) → fixed ≡ floatAt (getD keys j 0) → b ≡ keyOf (sub binary64 fixed cutoff) → a ≡ keyOf (add binary64 fixed cutoff)
-    → Bound keys (b + 1) from → Bound keys a to → Reached keys j cutoff (record { from = from; to = to })
+    → LowerBound keys (b + 1) from → LowerBound keys a to → Reached keys j cutoff (record { from = from; to = to })
 reached keys j cutoff fixed b a from to e p q f t = record {
-  from = subst (λ (v : ℕ). Bound keys (v + 1) from) (p ∙ ap (λ (x : Float). keyOf (sub binary64 x cutoff)) e) f;
-  to = subst (λ (v : ℕ). Bound keys v to) (q ∙ ap (λ (x : Float). keyOf (add binary64 x cutoff)) e) t;
+  from = subst (λ (v : ℕ). LowerBound keys (v + 1) from) (p ∙ ap (λ (x : Float). keyOf (sub binary64 x cutoff)) e) f;
+  to = subst (λ (v : ℕ). LowerBound keys v to) (q ∙ ap (λ (x : Float). keyOf (add binary64 x cutoff)) e) t;
 }

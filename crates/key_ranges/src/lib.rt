@@ -2,4 +2,4 @@
 pub mod range;
 
 pub use range::Range;
-pub use range::range_of;
+pub use range::cutoff_range;

@@ -8,7 +8,7 @@ use lib.Ieee.{Float, nan}
 use lib.ListN.{length, getD, set, take}
 use Rattle.drawing.specs.Entries.{segmentColumns, columnsOf}
 use Rattle.lines.specs.declared.line.Line.{Line}
-use Rattle.lines.specs.Inner.Lines.{entryOf, enough}
+use Rattle.lines.specs.Inner.Lines.{entryOf, unpackCount}
 use Rattle.lines.proofs.Copying.{Copied, copied-none, copied-next}
 use Rattle.lines.proofs.LineColumns.{columns-of-lines, laid-out}
 
@@ -49,7 +49,7 @@ unpacking-next p h k ln lo lf ls le = record {
 column : {A : Type 0} (f : Line → A) {lines : List Line} {s₀ s : List A} {n : ℕ} → Copied as-it-is f lines s₀ s n → take n s ≡ map f (take n lines)
 column f {lines} {s₀} {s} {n} p = sym (map-id (take n s)) ∙ p .is
 
-pub unpacking-all : {lines : List Line} {net₀ orientation₀ : List ℕ} {fixed₀ start₀ end₀ : List Float} {net orientation : List ℕ} {fixed start end : List Float} {i : ℕ} (n m : ℕ) → Unpacking lines net₀ orientation₀ fixed₀ start₀ end₀ net orientation fixed start end i → i ≤ m → m ≤ i → m ≡ enough n → length lines ≡ 4097
+pub unpacking-all : {lines : List Line} {net₀ orientation₀ : List ℕ} {fixed₀ start₀ end₀ : List Float} {net orientation : List ℕ} {fixed start end : List Float} {i : ℕ} (n m : ℕ) → Unpacking lines net₀ orientation₀ fixed₀ start₀ end₀ net orientation fixed start end i → i ≤ m → m ≤ i → m ≡ unpackCount n → length lines ≡ 4097
     → segmentColumns (take m net) (take m orientation) (take m fixed) (take m start) (take m end) ≡ columnsOf (map entryOf (take n lines))
 unpacking-all {lines} {net₀} {orientation₀} {fixed₀} {start₀} {end₀} {net} {orientation} {fixed} {start} {end} {i} n m p small large e l =
     let same : i ≡ m = le-antisymm small large in

@@ -4,4 +4,4 @@ pub mod line;
 pub use line::Line;
 pub use line::orientation_byte;
 pub use line::unpack;
-pub use line::unpacked;
+pub use line::unpack_count;

@@ -5,7 +5,7 @@ ghost use Prim.Native.Nat.{_≤_};
 ghost use lib.ListN.{length, take};
 ghost use Rattle.drawing.specs.Entries.{segmentColumns, columnsOf};
 ghost use Rattle.lines.specs.Orientation.{orientationByte};
-ghost use Rattle.lines.specs.Inner.Lines.{entryOf, enough};
+ghost use Rattle.lines.specs.Inner.Lines.{entryOf, unpackCount};
 
 // A segment in the form that the columns have.
 pub struct Line {
@@ -17,8 +17,8 @@ pub struct Line {
 }
 
 // How many of n records are unpacked.
-pub fn unpacked(n: usize) -> usize
-    ensures { λ r. ⌜ r ≡ enough n ⌝ }
+pub fn unpack_count(n: usize) -> usize
+    ensures { λ r. ⌜ r ≡ unpackCount n ⌝ }
     ensures { λ r. ⌜ (r ≤ 4097) × (r ≤ n) ⌝ }
 {
     if n <= 4097 { n } else { 4097 }
@@ -44,7 +44,7 @@ pub fn unpack(
     ensures { λ _. ⌜ (length (now (net .exit)) ≡ length (now (net .entry))) × (length (now (orientation .exit)) ≡ length (now (orientation .entry))) × (length (now (fixed .exit)) ≡ length (now (fixed .entry))) × (length (now (start .exit)) ≡ length (now (start .entry))) × (length (now (end .exit)) ≡ length (now (end .entry))) ⌝ }
     ensures { λ r. ⌜ (length (now (net .entry)) ≡ 4097 → length (now (orientation .entry)) ≡ 4097 → length (now (fixed .entry)) ≡ 4097 → length (now (start .entry)) ≡ 4097 → length (now (end .entry)) ≡ 4097 → segmentColumns (take r (now (net .exit))) (take r (now (orientation .exit))) (take r (now (fixed .exit))) (take r (now (start .exit))) (take r (now (end .exit))) ≡ columnsOf (map entryOf (take n lines))) ⌝ }
 {
-    let m = unpacked(n);
+    let m = unpack_count(n);
     let mut i = 0;
     while i < m {
         let line = lines[i];

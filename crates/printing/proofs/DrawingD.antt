@@ -11,9 +11,9 @@ use Rattle.separation.proofs.Examples as OfSeparation
 use Rattle.congestion.specs.Answer.{densityAnswer}
 use Rattle.congestion.proofs.Examples as OfCongestion
 use Rattle.file.specs.Reading.{got, Drawing, then, bigEndian, number, float as readFloat, version, orientation, segment, node, exemption, entries, counted, settings, parts, ended, read}
-use Rattle.text.specs.Text.{glyph, hexadecimal, leading, decimal, float}
-use Rattle.printing.specs.Fields.{gap, fields}
-use Rattle.printing.specs.Sheet.{clearanceWord, separationWord, congestionWord, clearanceLine, separationLine, congestionLine, scratchWords, measured, lines, printed, sheet}
+use Rattle.text.specs.Text.{glyph, hexadecimal, leading, decimal, floatText}
+use Rattle.printing.specs.Fields.{gapText, fields}
+use Rattle.printing.specs.Sheet.{clearanceLabel, separationLabel, congestionLabel, clearanceLine, separationLine, congestionLine, scratchWords, linesOfColumns, linesOfDrawing, printed, sheet}
 use Rattle.printing.proofs.Printing.{three}
 
 -- version; two segments; one node; one exemption; threshold 2, cutoff 6; allowances 1,000: a line for each count and for each entry
@@ -56,18 +56,18 @@ unfolding then bigEndian number readFloat version orientation segment node exemp
 file-of-d = refl
 
 pub clearance-of-d : clearanceLine (clearanceAnswer (columnsOf (drawing .segments)) (nodeColumnsOf (drawing .nodes)) (exemptionColumnsOf (drawing .exemptions)) (drawing .settings .threshold) 1000 7744) ≡ clearanceText
-unfolding columnsOf nodeColumnsOf exemptionColumnsOf clearanceLine clearanceWord fields gap float decimal leading hexadecimal glyph accepted ofBits toBits
+unfolding columnsOf nodeColumnsOf exemptionColumnsOf clearanceLine clearanceLabel fields gapText floatText decimal leading hexadecimal glyph accepted ofBits toBits
 clearance-of-d = ap clearanceLine (OfClearance.marked .d-sheet)
 
 pub separation-of-d : separationLine (separationAnswer (columnsOf (drawing .segments)) 1000 7744) ≡ separationText
-unfolding columnsOf separationLine separationWord fields gap float decimal leading hexadecimal glyph ofBits toBits
+unfolding columnsOf separationLine separationLabel fields gapText floatText decimal leading hexadecimal glyph ofBits toBits
 separation-of-d = ap separationLine (OfSeparation.marked .d-sheet)
 
 pub congestion-of-d : congestionLine (densityAnswer (columnsOf (drawing .segments)) (drawing .settings .cutoff) 1000 7744) ≡ congestionText
-unfolding columnsOf congestionLine congestionWord fields gap float decimal leading hexadecimal glyph ofBits toBits
+unfolding columnsOf congestionLine congestionLabel fields gapText floatText decimal leading hexadecimal glyph ofBits toBits
 congestion-of-d = ap congestionLine (OfCongestion.marked .D-sheet)
 
 -- SCOPE 11.5, the sheet of D: "Output", byte by byte
 pub sheet-of-d : sheet bytes ≡ clearanceText ++ (separationText ++ congestionText)
-unfolding sheet printed lines measured scratchWords
+unfolding sheet printed linesOfDrawing linesOfColumns scratchWords
 sheet-of-d = ap printed file-of-d ∙ three clearance-of-d separation-of-d congestion-of-d

@@ -20,7 +20,7 @@ use Rattle.separation.specs.declared.report.SeparationAnswer.{SeparationAnswer}
 use Rattle.separation.specs.Answer.{separationAnswer}
 use Rattle.congestion.specs.declared.report.CongestionAnswer.{CongestionAnswer}
 use Rattle.congestion.specs.Answer.{densityAnswer}
-use Rattle.printing.specs.Sheet.{fileWord, refusal, clearanceLine, separationLine, congestionLine, scratchWords, measured, lines, printed}
+use Rattle.printing.specs.Sheet.{fileLabel, refusal, clearanceLine, separationLine, congestionLine, scratchWords, linesOfColumns, linesOfDrawing, printed}
 use Rattle.text.specs.Inner.TextPut.{Put}
 use Rattle.text.proofs.TextPuts.{put-same}
 
@@ -38,10 +38,10 @@ refusalFrom other (answers.Read h) = other
 refusalFrom other (answers.Refused r) = r
 
 -- a refused file's text
-pub refused-sheet : (r : Read Drawing) (why : Refusal) → answers.Refused why ≡ readingOf r → refusal fileWord why ≡ printed r
+pub refused-sheet : (r : Read Drawing) (why : Refusal) → answers.Refused why ≡ readingOf r → refusal fileLabel why ≡ printed r
 unfolding readingOf printed
 refused-sheet (got d rest) why e = absurd (subst IsRead (sym e) tt)
-refused-sheet (refused w) why e = ap (refusal fileWord) (ap (refusalFrom why) e)
+refused-sheet (refused w) why e = ap (refusal fileLabel) (ap (refusalFrom why) e)
 
 -- the front of a filled column is f of its list
 column-front : {A B : Type 0} (f : A → B) (l : List A) (old : List B) → take (length l) (map f l ++ drop (length l) old) ≡ map f l
@@ -135,9 +135,9 @@ module _ {r : Read Drawing} {h : Header} (q : Said r h) where
       ∙ ap (exemptionColumns (map (λ z. z .net) (q .drawing .exemptions))) (lent-column l (λ z. z .node) _ exemption-count m m′ b)
 
   -- the lines of the lent columns are the file's sheet
-  pub lines-lent : {s : SegmentColumns} {n : NodeColumns} {e : ExemptionColumns} → s ≡ columnsOf (q .drawing .segments) → n ≡ nodeColumnsOf (q .drawing .nodes) → e ≡ exemptionColumnsOf (q .drawing .exemptions) → measured s n e (settingsOf h) ≡ printed r
-  unfolding printed lines settingsOf headerOf
-  lines-lent a b c = four measured a b c (ap settingsOf (q .header)) ∙ sym (ap printed (q .is))
+  pub lines-lent : {s : SegmentColumns} {n : NodeColumns} {e : ExemptionColumns} → s ≡ columnsOf (q .drawing .segments) → n ≡ nodeColumnsOf (q .drawing .nodes) → e ≡ exemptionColumnsOf (q .drawing .exemptions) → linesOfColumns s n e (settingsOf h) ≡ printed r
+  unfolding printed linesOfDrawing settingsOf headerOf
+  lines-lent a b c = four linesOfColumns a b c (ap settingsOf (q .header)) ∙ sym (ap printed (q .is))
 
 -- three texts, each replaced by an equal one
 pub three : {a b c d e f : List ℕ} → a ≡ d → b ≡ e → c ≡ f → a ++ (b ++ c) ≡ d ++ (e ++ f)
@@ -149,8 +149,8 @@ pub lines-put : (s : SegmentColumns) (n : NodeColumns) (e : ExemptionColumns) (h
     → 7744 ≡ j → y ≡ separationAnswer s (h .separation) j
     → 7744 ≡ k → z ≡ densityAnswer s (h .cutoff) (h .congestion) k
     → Put 256 before 0 (clearanceLine x ++ (separationLine y ++ congestionLine z)) after next
-    → Put 256 before 0 (measured s n e (settingsOf h)) after next
-unfolding measured settingsOf scratchWords
+    → Put 256 before 0 (linesOfColumns s n e (settingsOf h)) after next
+unfolding linesOfColumns settingsOf scratchWords
 lines-put s n e h x y z i j k li lx lj ly lk lz p =
     put-same
     (three

@@ -3,15 +3,15 @@ use mathlib.Core.List.{List, [], _∷_, _++_}
 use Prim.Native.Nat.{ℕ}
 use Rattle.drawing.specs.declared.gap.Gap.{Gap}
 use Rattle.drawing.specs.declared.gap.Gap.the-variants.{Absent, Present}
-use Rattle.text.specs.Text.{float}
+use Rattle.text.specs.Text.{floatText}
 
--- SCOPE 11.3: "an absent gap is `none`"
-unfoldable pub none : List ℕ
-none = 110 ∷ 111 ∷ 110 ∷ 101 ∷ []
+-- SCOPE 11.3: "an absent gap is `noneText`"
+unfoldable pub noneText : List ℕ
+noneText = 110 ∷ 111 ∷ 110 ∷ 101 ∷ []
 
-unfoldable pub gap : Gap → List ℕ
-gap Absent = none
-gap (Present x) = float x
+unfoldable pub gapText : Gap → List ℕ
+gapText Absent = noneText
+gapText (Present x) = floatText x
 
 -- SCOPE 11.3: "one space parts two fields, a line feed closes each line": the fields after the first one of a line
 unfoldable pub fields : List (List ℕ) → List ℕ

@@ -17,7 +17,7 @@ use text::put_float;
 use text::put_word;
 
 fn put_gap(gap: Gap, text: &mut [u8], at: usize) -> usize
-    ensures { λ r. ⌜ Put 16 (now (text .entry)) at (Fields.gap gap) (now (text .exit)) r ⌝ }
+    ensures { λ r. ⌜ Put 16 (now (text .entry)) at (Fields.gapText gap) (now (text .exit)) r ⌝ }
 {
     match gap {
         Gap::Absent => put_word(b"none", text, at),
@@ -27,14 +27,14 @@ fn put_gap(gap: Gap, text: &mut [u8], at: usize) -> usize
 
 // Fields, each with the space before it.
 fn gap_field(gap: Gap, text: &mut [u8], at: usize) -> usize
-    ensures { λ r. ⌜ Put 17 (now (text .entry)) at (32 ∷ Fields.gap gap) (now (text .exit)) r ⌝ }
+    ensures { λ r. ⌜ Put 17 (now (text .entry)) at (32 ∷ Fields.gapText gap) (now (text .exit)) r ⌝ }
 {
     let next = put_byte(b' ', text, at);
     put_gap(gap, text, next)
 }
 
 fn float_field(x: f64, text: &mut [u8], at: usize) -> usize
-    ensures { λ r. ⌜ Put 17 (now (text .entry)) at (32 ∷ Text.float x) (now (text .exit)) r ⌝ }
+    ensures { λ r. ⌜ Put 17 (now (text .entry)) at (32 ∷ Text.floatText x) (now (text .exit)) r ⌝ }
 {
     let next = put_byte(b' ', text, at);
     put_float(x, text, next)
@@ -49,7 +49,7 @@ fn count_field(count: usize, text: &mut [u8], at: usize) -> usize
 
 // The end of a line: a gap and the visits.
 fn gap_and_visits(gap: Gap, visits: usize, text: &mut [u8], at: usize) -> usize
-    ensures { λ r. ⌜ Put 39 (now (text .entry)) at (Fields.fields (Fields.gap gap ∷ Text.decimal visits ∷ [])) (now (text .exit)) r ⌝ }
+    ensures { λ r. ⌜ Put 39 (now (text .entry)) at (Fields.fields (Fields.gapText gap ∷ Text.decimal visits ∷ [])) (now (text .exit)) r ⌝ }
 {
     let next = gap_field(gap, text, at);
     let end = count_field(visits, text, next);
@@ -58,7 +58,7 @@ fn gap_and_visits(gap: Gap, visits: usize, text: &mut [u8], at: usize) -> usize
 
 // What follows the name in the line of a refused measure or file.
 fn refused_fields(why: Refusal, text: &mut [u8], at: usize) -> usize
-    ensures { λ r. ⌜ Put 30 (now (text .entry)) at (Fields.fields (Sheet.refusedWord ∷ Text.decimal (numberOf why) ∷ [])) (now (text .exit)) r ⌝ }
+    ensures { λ r. ⌜ Put 30 (now (text .entry)) at (Fields.fields (Sheet.refusedLabel ∷ Text.decimal (numberOf why) ∷ [])) (now (text .exit)) r ⌝ }
 {
     let at = put_word(b" refused", text, at);
     let next = count_field(number(why) as usize, text, at);
@@ -66,7 +66,7 @@ fn refused_fields(why: Refusal, text: &mut [u8], at: usize) -> usize
 }
 
 pub(crate) fn file_refused(why: Refusal, text: &mut [u8], at: usize) -> usize
-    ensures { λ r. ⌜ Put 34 (now (text .entry)) at (Sheet.refusal Sheet.fileWord why) (now (text .exit)) r ⌝ }
+    ensures { λ r. ⌜ Put 34 (now (text .entry)) at (Sheet.refusal Sheet.fileLabel why) (now (text .exit)) r ⌝ }
 {
     let at = put_word(b"file", text, at);
     refused_fields(why, text, at)

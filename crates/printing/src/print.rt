@@ -5,7 +5,7 @@ ghost use lib.ListN.{length, drop};
 ghost use Rattle.drawing.specs.Entries.{segmentColumns, nodeColumns, exemptionColumns};
 ghost use Rattle.file.specs.Inner.Columns.{settingsOf};
 ghost use Rattle.text.specs.Inner.TextPut.{Put};
-ghost use Rattle.printing.specs.Sheet.{measured, sheet};
+ghost use Rattle.printing.specs.Sheet.{linesOfColumns, sheet};
 use crate::lines::file_refused;
 use crate::lines::three_lines;
 use clearance_call::measure_edge_node_clearance_bounded;
@@ -32,7 +32,7 @@ fn put_lines(
     header: Header,
     text: &mut [u8],
 ) -> usize
-    ensures { λ r. ⌜ Put 256 (now (text .entry)) 0 (measured (segmentColumns (now (net .entry)) (now (orientation .entry)) (now (fixed .entry)) (now (start .entry)) (now (end .entry))) (nodeColumns (now (id .entry)) (now (x .entry)) (now (y .entry)) (now (width .entry)) (now (height .entry))) (exemptionColumns (now («exempt_net» .entry)) (now («exempt_node» .entry))) (settingsOf header)) (now (text .exit)) r ⌝ }
+    ensures { λ r. ⌜ Put 256 (now (text .entry)) 0 (linesOfColumns (segmentColumns (now (net .entry)) (now (orientation .entry)) (now (fixed .entry)) (now (start .entry)) (now (end .entry))) (nodeColumns (now (id .entry)) (now (x .entry)) (now (y .entry)) (now (width .entry)) (now (height .entry))) (exemptionColumns (now («exempt_net» .entry)) (now («exempt_node» .entry))) (settingsOf header)) (now (text .exit)) r ⌝ }
 {
     let mut scratch = [0u64; 7744];
     let clearance = measure_edge_node_clearance_bounded(

@@ -53,13 +53,13 @@ use Rattle.records.specs.Records.{parallelColumns, edgeNodeColumns}
 use Rattle.demands.specs.Measures.{Says, clearance, separation, density, profile, congestion}
 
 -- in every model and under every name: the routine, called where P holds of its arguments, does nothing undefined and returns, and Q holds then. It is the checker's statement of total correctness, which it derives of a function from the function's theorem.
-abbrev pub Meets : (n : ℕ) (ps : List (PK n)) (r : RK n) → Routine → In n ps → Out n ps r → Type 2
-Meets n ps r routine P Q = (w : World) (γ : Env) (k : Name) → γ k ≡ routine → Known (w .𝓤) (w .H) (w .𝓖 .A) (givenOf (w .𝓤) (w .H) (w .𝓜) (w .𝓖)) (Over (w .𝓤) (w .H) (w .𝓜) (w .𝓖) (w .𝓡) γ) n ps r P Q k
+abbrev pub TotallyCorrect : (n : ℕ) (ps : List (PK n)) (r : RK n) → Routine → In n ps → Out n ps r → Type 2
+TotallyCorrect n ps r routine P Q = (w : World) (γ : Env) (k : Name) → γ k ≡ routine → Known (w .𝓤) (w .H) (w .𝓖 .A) (givenOf (w .𝓤) (w .H) (w .𝓜) (w .𝓖)) (Over (w .𝓤) (w .H) (w .𝓜) (w .𝓖) (w .𝓡) γ) n ps r P Q k
 
 -- a function of n lifetimes with these parameters and this result; `Asked` is what it requires of a caller, and `Learnt` what a caller knows after the call
 pub record Contract (n : ℕ) (ps : List (PK n)) (r : RK n) (routine : Routine) (Asked : In n ps) (Learnt : Out n ps r) (Claim : Out n ps r) : Type 2 where
   -- SCOPE 8.1: "every call ends, for all inputs"
-  pub ends : Meets n ps r routine Asked Learnt
+  pub ends : TotallyCorrect n ps r routine Asked Learnt
   -- SCOPE 8.1: "with no condition laid on its caller"
   pub asks-nothing : (κs : Lfts n) (a : Dens κs ps) → Asked κs a
   -- what a caller knows

@@ -16,7 +16,7 @@ use clearance::ClearanceAnswer;
 use clearance_lines::clearance_of_lines;
 use lines::Line;
 use lines::orientation_byte;
-use lines::unpacked;
+use lines::unpack_count;
 
 // A straight wire segment, as clearance takes it.
 #[repr(C)]
@@ -51,7 +51,7 @@ pub(crate) fn edge_node_line(p: EdgeNodeSegment) -> Line
 pub(crate) fn edge_node_lines(records: &[EdgeNodeSegment]) -> [Line; 4097]
     ensures { λ r. ⌜ map entryOf (take (length (now (records .entry))) r) ≡ take 4097 (map ofEdgeNode (now (records .entry))) ⌝ }
 {
-    let n = unpacked(records.len());
+    let n = unpack_count(records.len());
     let blank = Line {
         net: 0,
         orientation: 0,

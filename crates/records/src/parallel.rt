@@ -19,7 +19,7 @@ use congestion_lines::density_of_lines;
 use congestion_lines::profile_of_lines;
 use lines::Line;
 use lines::orientation_byte;
-use lines::unpacked;
+use lines::unpack_count;
 use separation::SeparationAnswer;
 use separation_lines::separation_of_lines;
 
@@ -56,7 +56,7 @@ pub(crate) fn parallel_line(p: ParallelSegment) -> Line
 pub(crate) fn parallel_lines(records: &[ParallelSegment]) -> [Line; 4097]
     ensures { λ r. ⌜ map entryOf (take (length (now (records .entry))) r) ≡ take 4097 (map ofParallel (now (records .entry))) ⌝ }
 {
-    let n = unpacked(records.len());
+    let n = unpack_count(records.len());
     let blank = Line {
         net: 0,
         orientation: 0,

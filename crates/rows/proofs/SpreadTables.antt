@@ -15,7 +15,7 @@ use Rattle.laws.proofs.Tests.{decide, clash, cond-true, cond-false, and-left, a
 use Rattle.laws.proofs.Columns.{Written, written-none, written-next, written-all}
 use Rattle.laws.proofs.Places.{at-first}
 use Rattle.laws.proofs.Parts.{tail-lent, drop-past, getD-past, part-same}
-use Rattle.sorting.specs.Inner.Sorted.{within, sortable}
+use Rattle.sorting.specs.Inner.Sorted.{hasRow, sortable}
 use Rattle.sorting.proofs.Fitting.{fits-of, is-sortable, row-at}
 use Rattle.sorting.proofs.Tables.{row-there}
 use Rattle.rows.specs.Rows.{Row, words}
@@ -57,9 +57,9 @@ module _ (n from table : ℕ) (s : List ℕ) where
       let a = f .apart in
       let b = f .inside in
       let long = length-drop from s in
-      let row : (j : ℕ) → j < n → within (drop table (drop from s)) 4 (getD (drop from s) j 0) ≡ true = λ j h.
+      let row : (j : ℕ) → j < n → hasRow (drop table (drop from s)) 4 (getD (drop from s) j 0) ≡ true = λ j h.
       le-leb (getD (drop from s) j 0 * 4 + 4) (length (drop table (drop from s))) (omega (arith, f .rows j h, getD-drop from s j 0, length-drop table (drop from s))) in
-      is-sortable (drop from s) n table 4 (record { apart = a; long = omega arith; rows = at-first (λ i. within (drop table (drop from s)) 4 i ≡ true) 0 n (drop from s) (omega arith) row })
+      is-sortable (drop from s) n table 4 (record { apart = a; long = omega arith; rows = at-first (λ i. hasRow (drop table (drop from s)) 4 i ≡ true) 0 n (drop from s) (omega arith) row })
 
   pub no-rows : sortable (midOf from (length s - from) s) n table 4 ≡ false → Spreadable n from table s → ⊥
   no-rows e f = clash (sortable (drop from s) n table 4) (fitting f) (sym lent ∙ e)

@@ -13,9 +13,9 @@ use Rattle.drawing.specs.Entries.{Segment}
 use Rattle.rows.specs.Rows.{Row, oriented, events}
 use Rattle.separation.specs.declared.search.Search.the-variants.{Found, Empty, Spent}
 use Rattle.separation.specs.Lines.{lines, levels}
-use Rattle.separation.specs.Searches.{leaf, orElse, node, setRun}
+use Rattle.separation.specs.Searches.{searchLeaf, orElse, searchNode, setRun}
 use Rattle.separation.specs.Inner.Searches.{searchOf}
-use Rattle.separation.specs.Walk.{nothing, lesserFigures, Sweep, remove, endsAt, step, sweep, along, walkAll}
+use Rattle.separation.specs.Walk.{noFigures, lesserFigures, Sweep, remove, endsAt, step, sweep, along, walkAll}
 
 -- ---- SCOPE 15.6: "a search answers found, empty or spent"
 pub answer-spent : searchOf spent ≡ Spent
@@ -31,32 +31,32 @@ unfolding searchOf
 answer-empty m = refl
 
 -- ---- a leaf and a node, with no visit left and with at least one
-pub leaf-spent : (t : Bool) (s : ℕ) → within 0 (leaf t s) ≡ spent
+pub leaf-spent : (t : Bool) (s : ℕ) → within 0 (searchLeaf t s) ≡ spent
 leaf-spent true s = visit-spent (free (some s))
 leaf-spent false s = visit-spent (free none)
 
-pub leaf-found : (m s : ℕ) → within (suc m) (leaf true s) ≡ left (some s) m
+pub leaf-found : (m s : ℕ) → within (suc m) (searchLeaf true s) ≡ left (some s) m
 leaf-found m s = visit-paid m (free (some s)) ∙ within-free m (some s)
 
 pub empty-paid : (m : ℕ) → within {A = Option ℕ} (suc m) (visit (free none)) ≡ left none m
 empty-paid m = visit-paid m (free none) ∙ within-free m none
 
 module _ (one two : Charged (Option ℕ)) where
-  pub node-spent : (t : Bool) → within 0 (node t one two) ≡ spent
+  pub node-spent : (t : Bool) → within 0 (searchNode t one two) ≡ spent
   node-spent true = visit-spent (after one (λ r. orElse r two))
   node-spent false = visit-spent (free none)
 
   -- the first child's search, and what its answer leads to
-  node-on : (m : ℕ) → within (suc m) (node true one two) ≡ onward (within m one) (λ v r. within r (orElse v two))
+  node-on : (m : ℕ) → within (suc m) (searchNode true one two) ≡ onward (within m one) (λ v r. within r (orElse v two))
   node-on m = visit-paid m (after one (λ r. orElse r two)) ∙ within-after m one (λ r. orElse r two)
 
-  pub first-spent : (m : ℕ) → within m one ≡ spent → within (suc m) (node true one two) ≡ spent
+  pub first-spent : (m : ℕ) → within m one ≡ spent → within (suc m) (searchNode true one two) ≡ spent
   first-spent m e = node-on m ∙ rw e (onward-spent (λ v r. within r (orElse v two)))
 
-  pub first-found : (m i r : ℕ) → within m one ≡ left (some i) r → within (suc m) (node true one two) ≡ left (some i) r
+  pub first-found : (m i r : ℕ) → within m one ≡ left (some i) r → within (suc m) (searchNode true one two) ≡ left (some i) r
   first-found m i r e = node-on m ∙ rw e (onward-left (some i) r (λ v r. within r (orElse v two)) ∙ within-free r (some i))
 
-  pub first-empty : (m r : ℕ) → within m one ≡ left none r → within (suc m) (node true one two) ≡ within r two
+  pub first-empty : (m r : ℕ) → within m one ≡ left none r → within (suc m) (searchNode true one two) ≡ within r two
   first-empty m r e = node-on m ∙ rw e (onward-left none r (λ v r. within r (orElse v two)))
 
 -- ---- `set`: the nodes from a leaf up, h of them above it
@@ -83,14 +83,14 @@ unfolding endsAt
 end-within h m s x = then-read m (setRun h) (λ done. record { active = remove x (s .active); met = s .met })
 
 -- ---- a sweep, an orientation and the walk
-pub sweep-within : (m : ℕ) (l : List Row) → within m (sweep l) ≡ onward (within m (runs (step (lines l) (levels (length (lines l)))) (record { active = []; met = nothing }) (events l))) (λ s r. left (s .met) r)
+pub sweep-within : (m : ℕ) (l : List Row) → within m (sweep l) ≡ onward (within m (runs (step (lines l) (levels (length (lines l)))) (record { active = []; met = noFigures }) (events l))) (λ s r. left (s .met) r)
 unfolding sweep
-sweep-within m l = then-read m (runs (step (lines l) (levels (length (lines l)))) (record { active = []; met = nothing }) (events l)) (λ s. s .met)
+sweep-within m l = then-read m (runs (step (lines l) (levels (length (lines l)))) (record { active = []; met = noFigures }) (events l)) (λ s. s .met)
 
-pub along-few : (m : ℕ) (l : List Row) → length l < 2 → within m (along l) ≡ left nothing m
+pub along-few : (m : ℕ) (l : List Row) → length l < 2 → within m (along l) ≡ left noFigures m
 unfolding along
-along-few m [] h = within-free m nothing
-along-few m (r ∷ []) h = within-free m nothing
+along-few m [] h = within-free m noFigures
+along-few m (r ∷ []) h = within-free m noFigures
 along-few m (r ∷ t ∷ l) h = absurd (omega arith)
 
 pub along-more : (l : List Row) → 2 ≤ length l → along l ≡ sweep l

@@ -17,13 +17,13 @@ use Rattle.rows.proofs.Oriented.{oriented-length}
 use Rattle.rows.proofs.ToSweep.{two-or-more}
 use Rattle.separation.specs.Lines.{lines, index, levels}
 use Rattle.separation.specs.Searches.{otherIn}
-use Rattle.separation.specs.Walk.{Sweep, nothing, looking, startsAt, endsAt, step, sweep, along, walkAll, visitCount}
+use Rattle.separation.specs.Walk.{Sweep, noFigures, withNearest, startsAt, endsAt, step, sweep, along, walkAll, visitCount}
 use Rattle.separation.proofs.Lines.{other-splits}
 use Rattle.separation.proofs.Searches.{set-cost, right-least, left-least, right-cost, left-cost}
 
 -- a start takes `has_other_at`, two searches and a `set`
 start-cost : (ls : List ℕ) (h : ℕ) (s : Sweep) (x : Row) → startsAt ls h s x .cost ≤ 9 * h + 4
-unfolding startsAt looking
+unfolding startsAt withNearest
 start-cost ls h s x =
     let has = otherIn ls (s .active) (x .net) in
     let i = index ls (x .line) in
@@ -35,7 +35,7 @@ unfolding endsAt
 end-cost h s x = omega (arith, set-cost h)
 
 start-least : (ls : List ℕ) (h : ℕ) (s : Sweep) (x : Row) → 4 ≤ startsAt ls h s x .cost
-unfolding startsAt looking
+unfolding startsAt withNearest
 start-least ls h s x =
     let has = otherIn ls (s .active) (x .net) in
     let i = index ls (x .line) in
@@ -90,7 +90,7 @@ unfolding sweep events
 sweep-bound l =
     let h = levels (length (lines l)) in
     let p = sort-perm eventsInOrder (eventsFrom 0 l) in
-    let g = runs-bound (lines l) h (record { active = []; met = nothing }) (events l) in
+    let g = runs-bound (lines l) h (record { active = []; met = noFigures }) (events l) in
     let e : count is-end (events l) ≡ length l = perm-count is-end p ∙ ends-count 0 l in
     let s : count is-start (events l) ≡ length l = perm-count is-start p ∙ starts-count 0 l in
     le-trans (omega arith) (le-trans (rw (e, s) at g) (le-of-eq (join (length l) h)))
@@ -105,7 +105,7 @@ sweep-least : (l : List Row) → 5 * length l ≤ sweep l .cost
 unfolding sweep events
 sweep-least l =
     let p = sort-perm eventsInOrder (eventsFrom 0 l) in
-    let g = runs-least (lines l) (levels (length (lines l))) (record { active = []; met = nothing }) (events l) in
+    let g = runs-least (lines l) (levels (length (lines l))) (record { active = []; met = noFigures }) (events l) in
     omega (arith, g, perm-count is-end p, ends-count 0 l, perm-count is-start p, starts-count 0 l)
 
 along-least : (l : List Row) → 5 * atLeastTwo (length l) ≤ along l .cost

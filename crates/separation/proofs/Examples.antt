@@ -20,15 +20,15 @@ use Rattle.drawing.specs.Entries.{SegmentColumns, segmentColumns, segmentsOf}
 use Rattle.drawing.specs.Orders.{segmentRow, segmentsInOrder}
 use Rattle.drawing.specs.Gaps.{gapFrom, leastGap, lesserGap}
 use Rattle.drawing.specs.Refusals.{numberOf, firstOf}
-use Rattle.drawing.specs.Conditions.{differ, tooMany, shortScratch, unfitLine, unfitSegment}
+use Rattle.drawing.specs.Conditions.{differ, tooMany, shortScratch, unfitFields, unfitSegment}
 use Rattle.drawing.specs.Checks.{segmentsDiffer, segmentConditions}
 use Rattle.rows.specs.Rows.{fixedOf, startOf, endOf, rowOf, words, oriented, moment, eventsFrom, events}
 use Rattle.separation.specs.declared.report.SeparationAnswer.the-variants.{Refused}
 use Rattle.separation.specs.Conditions.{separationConditions}
-use Rattle.separation.specs.Figures.{overlapping, counted, gapBetween, gaps, nonzero, leastOf, figures}
+use Rattle.separation.specs.Figures.{overlapping, isCounted, gapBetween, gaps, nonzero, leastOf, figures}
 use Rattle.separation.specs.Lines.{lines, index, levels}
 use Rattle.separation.specs.Searches.{otherIn, rightmost, leftmost, setRun}
-use Rattle.separation.specs.Walk.{nothing, lesserFigures, same, remove, looking, startsAt, endsAt, step, sweep, along, walkAll, visitCount}
+use Rattle.separation.specs.Walk.{noFigures, lesserFigures, same, remove, withNearest, startsAt, endsAt, step, sweep, along, walkAll, visitCount}
 use Rattle.separation.specs.Answer.{accepted, allPairs, separationAnswer, resultOf}
 
 abbrev float : ℕ → Float
@@ -71,23 +71,23 @@ four = Present (float 0x4010_0000_0000_0000)
 -- columns, allowance and words of scratch
 pub record Marked : Type 0 where
   -- SCOPE 13.a: "one segment, allowance 0: separation absent, 0 visits"
-  pub a : separationAnswer alone 0 96 ≡ accepted nothing 0
+  pub a : separationAnswer alone 0 96 ≡ accepted noFigures 0
   -- SCOPE 13.b: "D's separation accepted at 16, refused at 15"
   pub b-accepted : separationAnswer D 16 128 ≡ accepted (record { least = four; leastNonzero = four }) 16
   pub b-refused : separationAnswer D 15 128 ≡ Refused WorkLimitExceeded
   -- SCOPE 11.5: D as the program `sheet` measures it
   pub d-sheet : separationAnswer D 1000 7744 ≡ accepted (record { least = four; leastNonzero = four }) 16
   -- SCOPE 13.d: "0 to 5 and 5 to 9, nets 1 and 2: absent"
-  pub d : separationAnswer touching 1000 128 ≡ accepted nothing 14
+  pub d : separationAnswer touching 1000 128 ≡ accepted noFigures 14
   -- SCOPE 13.e: "equal fixed, overlapping, two nets: least 0, nonzero absent"
   pub e : separationAnswer level 1000 128 ≡ accepted (record { least = Present plusZero; leastNonzero = Absent }) 10
   pub e-zeros : separationAnswer zeros 1000 128 ≡ accepted (record { least = Present plusZero; leastNonzero = Absent }) 10
   -- SCOPE 13.f: "one net, gap 1: absent"
-  pub f : separationAnswer related 1000 128 ≡ accepted nothing 14
+  pub f : separationAnswer related 1000 128 ≡ accepted noFigures 14
   pub overflow : separationAnswer far 1000 128 ≡ accepted (record { least = Present (inf false); leastNonzero = Present (inf false) }) 16
   -- SCOPE 6.3, 7.4: a refusal's number and values, one word of scratch too few
   pub short : resultOf (separationAnswer D 16 127) ≡ (4, record { minimum = Absent; «minimum_positive» = Absent; visits = 0 })
 
 pub marked : Marked
-unfolding ofBits ofFields toBits round units odd size span climb neg sum add sub lt eq trailingZeros some-of chosen pairs rowLe insertBy sortBy lesser least runs settle canonicalZero lesserOf greaterOf absOf gapOf key keyOf patternAt floatAt segmentsOf segmentRow segmentsInOrder gapFrom leastGap lesserGap numberOf firstOf differ tooMany shortScratch unfitLine unfitSegment segmentsDiffer segmentConditions separationConditions fixedOf startOf endOf overlapping counted gapBetween gaps nonzero leastOf figures rowOf words oriented distinct lines index levels moment eventsFrom events otherIn rightmost leftmost setRun lesserFigures same remove looking startsAt endsAt step sweep along walkAll visitCount allPairs separationAnswer resultOf
+unfolding ofBits ofFields toBits round units odd size span climb neg sum add sub lt eq trailingZeros some-of chosen pairs rowLe insertBy sortBy lesser least runs settle canonicalZero lesserOf greaterOf absOf gapOf key keyOf patternAt floatAt segmentsOf segmentRow segmentsInOrder gapFrom leastGap lesserGap numberOf firstOf differ tooMany shortScratch unfitFields unfitSegment segmentsDiffer segmentConditions separationConditions fixedOf startOf endOf overlapping isCounted gapBetween gaps nonzero leastOf figures rowOf words oriented distinct lines index levels moment eventsFrom events otherIn rightmost leftmost setRun lesserFigures same remove withNearest startsAt endsAt step sweep along walkAll visitCount allPairs separationAnswer resultOf
 marked = record { a = refl; b-accepted = refl; b-refused = refl; d-sheet = refl; d = refl; e = refl; e-zeros = refl; f = refl; overflow = refl; short = refl }

@@ -21,7 +21,7 @@ use Rattle.drawing.specs.Conditions.{unfitSegment}
 use Rattle.drawing.specs.Held.{SegmentHeld}
 use Rattle.drawing.proofs.Fit.{line-of}
 use Rattle.rows.specs.Rows.{Row, fixedOf, startOf, endOf, rowOf}
-use Rattle.separation.specs.Figures.{overlapping, counted}
+use Rattle.separation.specs.Figures.{overlapping, isCounted}
 use Rattle.separation.proofs.Places.{Plain, Placed, placed, key-of-rank, rank-below-key}
 use Rattle.separation.proofs.Sweeps.{Meet}
 
@@ -81,8 +81,8 @@ module _ (a b : Segment) (p : Fit a) (q : Fit b) where
       lt-rank binary64 _ _ (picked (Num binary64) (lt (startOf a) (startOf b)) (startOf a) (startOf b) na nb) (picked (Num binary64) (lt (endOf b) (endOf a)) (endOf a) (endOf b) ma mb)
       ∙ (λ i. ltb (greater-rank (startOf a) (startOf b) na nb i) (lesser-rank (endOf a) (endOf b) ma mb i))
 
-  pub counted→ : counted (a, b) ≡ true → (a .orientation ≡ b .orientation) × Meet (rowOf a) (rowOf b)
-  unfolding counted rowOf
+  pub counted→ : isCounted (a, b) ≡ true → (a .orientation ≡ b .orientation) × Meet (rowOf a) (rowOf b)
+  unfolding isCounted rowOf
   counted→ t =
       let o = eqb (a .orientation) (b .orientation) in
       let n = not (eqb (a .net) (b .net)) in
@@ -96,8 +96,8 @@ module _ (a b : Segment) (p : Fit a) (q : Fit b) where
         },
       )
 
-  pub →counted : a .orientation ≡ b .orientation → Meet (rowOf a) (rowOf b) → counted (a, b) ≡ true
-  unfolding counted rowOf
+  pub →counted : a .orientation ≡ b .orientation → Meet (rowOf a) (rowOf b) → isCounted (a, b) ≡ true
+  unfolding isCounted rowOf
   →counted e m =
       let h = rank-below-key (startOf a) (endOf b) (p .start) (q .end) (m .before-end) in
       let k = rank-below-key (startOf b) (endOf a) (q .start) (p .end) (m .after-start) in

@@ -3,7 +3,7 @@ pub mod Summaries
 pub mod Searches
 pub mod TwoNets
 pub mod Lines
-pub mod Meets
+pub mod NearestLines
 pub mod ActiveRows
 pub mod Sweeps
 pub mod Costs

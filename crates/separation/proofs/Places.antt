@@ -14,7 +14,7 @@ use Rattle.floats.proofs.Zeros.{canonical-one}
 use Rattle.floats.proofs.Gaps.{Good, good-one, good-rank, zero-good, gap-good, gap-mono, gap-of-equal, equal-of-gap}
 use Rattle.floats.proofs.NumberKeys.{key-lt, float-back}
 use Rattle.separation.specs.Figures.{nonzero}
-use Rattle.separation.proofs.Meets.{Closer}
+use Rattle.separation.proofs.NearestLines.{Closer}
 
 -- a finite float that is not -0
 pub record Plain (x : Float) : Type 0 where

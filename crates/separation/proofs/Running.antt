@@ -23,9 +23,9 @@ use Rattle.drawing.proofs.GapLaws.{gaps-ranked, least-none, least-one, least-jo
 use Rattle.rows.specs.Rows.{Row, rowsInOrder, Event, ends, starts, events}
 use Rattle.separation.specs.Figures.{Figures, nonzero, leastOf}
 use Rattle.separation.specs.Lines.{lines, levels}
-use Rattle.separation.specs.Walk.{nothing, lesserFigures, ownLine, otherLine, remove, looking, startsAt, endsAt, step, sweep}
+use Rattle.separation.specs.Walk.{noFigures, lesserFigures, ownLine, otherLine, remove, withNearest, startsAt, endsAt, step, sweep}
 use Rattle.separation.proofs.Lines.{Rising, lines-rising, line-mem}
-use Rattle.separation.proofs.Meets.{own, sight, ownOther, below, above, meets, Sees, meets-sound, below-sees, above-sees}
+use Rattle.separation.proofs.NearestLines.{own, sight, ownOther, below, above, meets, Sees, meets-sound, below-sees, above-sees}
 use Rattle.separation.proofs.Places.{Placed, gapAt, at-good, at-one, at-two}
 use Rattle.separation.proofs.Sweeps.{State, sights, sweepSights, begin, enough, after-start, after-end}
 
@@ -33,7 +33,7 @@ use Rattle.separation.proofs.Sweeps.{State, sights, sweepSights, begin,
 pub kept-good : (l : List Float) → All Good l → All Good (keep nonzero l)
 kept-good l h = mem-all Good (keep nonzero l) (λ x m. let g = mem-chosen nonzero (λ (y : Float). y) x l m in subst Good (sym (g .3)) (all-mem Good l h (g .0) (g .1)))
 
-pub least-of-none : nothing ≡ leastOf []
+pub least-of-none : noFigures ≡ leastOf []
 unfolding leastOf chosen
 least-of-none = λ i. record { least = sym least-none i; leastNonzero = sym least-none i }
 
@@ -125,7 +125,7 @@ module _ (ls : List ℕ) (h : ℕ) (rising : Rising ls) (room : length ls ≤ 2 
 -- ---- the sweep over a list l of rows with start < end, whose lines are keys of finite floats
 module _ (l : List Row) (ls : List ℕ) (h : ℕ) (rising : Rising ls) (room : length ls ≤ 2 ^ h) (lined : (r : Row) → Mem r l → Mem (r .line) ls) (proper : (r : Row) → Mem r l → r .start < r .end) (places : (r : Row) → Mem r l → Placed (r .line)) where
   runs-least : (active : List Row) (es : List Event) → State l active es → (seen : List Float) → All Good seen → runs (step ls h) (record { active = active; met = leastOf seen }) es .value .met ≡ leastOf (seen ++ map gapAt (sights ls h active es))
-  unfolding runs sights step endsAt startsAt looking
+  unfolding runs sights step endsAt startsAt withNearest
   runs-least active [] s seen g = rw append-nil
   runs-least active (ends i x ∷ es) s seen g = runs-least (remove x active) es (after-end l proper active i x es s) seen g
   runs-least active (starts i x ∷ es) s seen g =

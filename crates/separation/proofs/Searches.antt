@@ -11,7 +11,7 @@ use lib.Dec.{ltb}
 use lib.Pow.{pow-pos}
 use Rattle.laws.specs.Charged.{Charged}
 use Rattle.laws.proofs.Tests.{clash, and-left, and-right, and-both, le-or-lt}
-use Rattle.separation.specs.Searches.{leaf, node, rightmost, leftmost, setRun}
+use Rattle.separation.specs.Searches.{searchLeaf, searchNode, rightmost, leftmost, setRun}
 
 pub set-cost : (h : ℕ) → setRun h .cost ≡ suc h
 unfolding setRun
@@ -19,11 +19,11 @@ set-cost zero = refl
 set-cost (suc h) = ap suc (set-cost h)
 
 -- a search touches the node that it begins at
-leaf-least : (t : Bool) (s : ℕ) → 1 ≤ leaf t s .cost
+leaf-least : (t : Bool) (s : ℕ) → 1 ≤ searchLeaf t s .cost
 leaf-least true s = le-refl 1
 leaf-least false s = le-refl 1
 
-node-least : (t : Bool) (one two : Charged (Option ℕ)) → 1 ≤ node t one two .cost
+node-least : (t : Bool) (one two : Charged (Option ℕ)) → 1 ≤ searchNode t one two .cost
 node-least true one two = omega arith
 node-least false one two = le-refl 1
 
@@ -56,13 +56,13 @@ record Costs (Past Full Has : Type 0) (h : ℕ) (r : Charged (Option ℕ)) : Typ
   full-cost : Full → r .cost ≤ 2 * h + 1
   all-cost : r .cost ≤ 4 * h + 1
 
-leaf-costs : {P F H : Type 0} (s : ℕ) (t : Bool) → (t ≡ true → P → ⊥) → (t ≡ false → F → H → ⊥) → Costs P F H 0 (leaf t s)
+leaf-costs : {P F H : Type 0} (s : ℕ) (t : Bool) → (t ≡ true → P → ⊥) → (t ≡ false → F → H → ⊥) → Costs P F H 0 (searchLeaf t s)
 leaf-costs s true p n = record { past = λ x. absurd (p refl x); sure = λ f x e. e; full-empty = λ f e. absurd e; empty-cost = λ e. absurd e; full-cost = λ f. le-refl 1; all-cost = le-refl 1 }
 leaf-costs s false p n = record { past = λ x. (le-refl 1, tt); sure = λ f x e. n refl f x; full-empty = λ f e. le-refl 1; empty-cost = λ e. le-refl 1; full-cost = λ f. le-refl 1; all-cost = le-refl 1 }
 
 -- the first child is outside of the query, or the second one is inside
 module _ {P F H P1 F1 H1 P2 F2 H2 : Type 0} (h : ℕ) (f1 : F → F1) (f2 : F → F2) (d : P1 ⊎ F2) (hs : H → H1 ⊎ H2) where
-  node-costs : (t : Bool) (v w : Option ℕ) (c k : ℕ) → (t ≡ true → P → ⊥) → (t ≡ true → H) → (t ≡ false → F → H → ⊥) → Costs P1 F1 H1 h (found v c) → Costs P2 F2 H2 h (found w k) → Costs P F H (suc h) (node t (found v c) (found w k))
+  node-costs : (t : Bool) (v w : Option ℕ) (c k : ℕ) → (t ≡ true → P → ⊥) → (t ≡ true → H) → (t ≡ false → F → H → ⊥) → Costs P1 F1 H1 h (found v c) → Costs P2 F2 H2 h (found w k) → Costs P F H (suc h) (searchNode t (found v c) (found w k))
   node-costs false v w c k p y n a b = record { past = λ x. (le-refl 1, tt); sure = λ f x e. n refl f x; full-empty = λ f e. le-refl 1; empty-cost = λ e. omega arith; full-cost = λ f. omega arith; all-cost = omega arith }
   node-costs true (some i) w c k p y n a b = record {
     past = λ x. absurd (p refl x);
@@ -109,12 +109,12 @@ abbrev pub Best : (ℕ → Type 0) → (ℕ → Type 0) → (ℕ → ℕ → Typ
 Best In Want Better none = (j : ℕ) → In j → Want j → ⊥
 Best In Want Better (some i) = In i × Want i × ((j : ℕ) → In j → Better i j → Want j → ⊥)
 
-leaf-best : (In Want : ℕ → Type 0) (Better : ℕ → ℕ → Type 0) (s : ℕ) (t : Bool) → In s → (t ≡ true → Want s) → ((j : ℕ) → In j → Better s j → ⊥) → (t ≡ false → (j : ℕ) → In j → Want j → ⊥) → Best In Want Better (leaf t s .value)
+leaf-best : (In Want : ℕ → Type 0) (Better : ℕ → ℕ → Type 0) (s : ℕ) (t : Bool) → In s → (t ≡ true → Want s) → ((j : ℕ) → In j → Better s j → ⊥) → (t ≡ false → (j : ℕ) → In j → Want j → ⊥) → Best In Want Better (searchLeaf t s .value)
 leaf-best In Want Better s true i w b n = (i, w refl, λ j x y z. b j x y)
 leaf-best In Want Better s false i w b n = n refl
 
 module _ (In In1 In2 Want : ℕ → Type 0) (Better : ℕ → ℕ → Type 0) (i1 : (j : ℕ) → In1 j → In j) (i2 : (j : ℕ) → In2 j → In j) (cover : (j : ℕ) → In j → In1 j ⊎ In2 j) (far : (i j : ℕ) → In1 i → In2 j → Better i j → ⊥) where
-  node-best : (t : Bool) (v w : Option ℕ) (c k : ℕ) → (t ≡ false → (j : ℕ) → In j → Want j → ⊥) → Best In1 Want Better v → Best In2 Want Better w → Best In Want Better (node t (found v c) (found w k) .value)
+  node-best : (t : Bool) (v w : Option ℕ) (c k : ℕ) → (t ≡ false → (j : ℕ) → In j → Want j → ⊥) → Best In1 Want Better v → Best In2 Want Better w → Best In Want Better (searchNode t (found v c) (found w k) .value)
   node-best false v w c k n a b = n refl
   node-best true (some i) w c k n a b = (i1 i (a .0), a .1, λ j x y z. by j (cover j x) y z)
     where

@@ -22,7 +22,7 @@ use Rattle.separation.specs.declared.found.Found.{Found}
 use Rattle.separation.specs.declared.found.Swept.{Swept}
 use Rattle.separation.specs.declared.found.Swept.the-variants.{Went as Done, Spent as Over}
 use Rattle.separation.specs.Figures.{Figures}
-use Rattle.separation.specs.Walk.{nothing, lesserFigures, ownLine}
+use Rattle.separation.specs.Walk.{noFigures, lesserFigures, ownLine}
 use Rattle.separation.specs.Answer.{accepted}
 use Rattle.separation.specs.Inner.States.{metBy, atStart, outcomeOf, foundBy, sweptOf, withGap, Answers, tooFew, gapMet}
 use Rattle.separation.proofs.Summaries.{both}
@@ -56,7 +56,7 @@ spent-is spent e = refl
 spent-is (left f m) e = cc
 
 -- ---- before the first event
-pub start-met : (allowance : ℕ) → metBy (atStart allowance) ≡ nothing
+pub start-met : (allowance : ℕ) → metBy (atStart allowance) ≡ noFigures
 start-met allowance = λ i. record { least = none-absent i; leastNonzero = none-absent i }
 
 -- ---- another net on the own line

@@ -12,7 +12,7 @@ use Rattle.laws.proofs.Tests.{decide, is-true, of-true, same-test, or-false}
 use Rattle.laws.proofs.ListLaws.{mem-some, some-mem, mem-chosen, chosen-mem}
 use Rattle.separation.specs.declared.summary.NetSummary.{NetSummary}
 use Rattle.separation.specs.declared.summary.NetSummary.the-variants.{Nothing, One, Two}
-use Rattle.separation.specs.Inner.Summaries.{hasOther, summaryOfWord}
+use Rattle.separation.specs.Inner.Summaries.{summaryHasOther, summaryOfWord}
 
 -- ---- the summary of a list of nets
 abbrev pub otherThan : ℕ → ℕ → Bool
@@ -55,8 +55,8 @@ one-some : (a n : ℕ) → some-of (otherThan n) (a ∷ []) ≡ not (eqb a n)
 unfolding some-of
 one-some a n = sym (or-false (not (eqb a n)))
 
-pub summary-decides : (l : List ℕ) (n : ℕ) → hasOther (summaryOf l) n ≡ some-of (otherThan n) l
-unfolding summaryOf hasOther some-of
+pub summary-decides : (l : List ℕ) (n : ℕ) → summaryHasOther (summaryOf l) n ≡ some-of (otherThan n) l
+unfolding summaryOf summaryHasOther some-of
 summary-decides [] n = refl
 summary-decides (m ∷ l) n = go (keep (otherThan m) l) refl
   where
@@ -80,56 +80,56 @@ summary-decides (m ∷ l) n = go (keep (otherThan m) l) refl
         inr (subst (λ (z : ℕ). Mem z l) (sym (q ∙ g .3)) (g .1))
     second a k e x (inr (inr q)) = absurd q
 
-    go : (k : List ℕ) → keep (otherThan m) l ≡ k → hasOther (withSecond m k) n ≡ some-of (otherThan n) (m ∷ l)
+    go : (k : List ℕ) → keep (otherThan m) l ≡ k → summaryHasOther (withSecond m k) n ≡ some-of (otherThan n) (m ∷ l)
     go [] e = sym (one-some m n) ∙ both (some-of (otherThan n) (m ∷ [])) (some-of (otherThan n) (m ∷ l)) (some-more (otherThan n) (m ∷ []) (m ∷ l) first) (some-more (otherThan n) (m ∷ l) (m ∷ []) (alone e))
     go (a ∷ k) e = sym (some-more (otherThan n) (m ∷ a ∷ []) (m ∷ l) (second a k e) (two-some m a n (kept m l a k e)))
 
 -- ---- two ranges together, by cases of their summaries
 module _ (l r : NetSummary) (n : ℕ) where
-  pub merged-nothing : l ≡ Nothing → hasOther r n ≡ (hasOther l n || hasOther r n)
-  unfolding hasOther
+  pub merged-nothing : l ≡ Nothing → summaryHasOther r n ≡ (summaryHasOther l n || summaryHasOther r n)
+  unfolding summaryHasOther
   merged-nothing e = rw e
 
-  pub merged-left : (a : ℕ) → l ≡ One a → r ≡ Nothing → hasOther (One a) n ≡ (hasOther l n || hasOther r n)
-  unfolding hasOther
+  pub merged-left : (a : ℕ) → l ≡ One a → r ≡ Nothing → summaryHasOther (One a) n ≡ (summaryHasOther l n || summaryHasOther r n)
+  unfolding summaryHasOther
   merged-left a e f = rw (e, f) (or-false (not (eqb a n)))
 
-  pub merged-same : (a b : ℕ) → l ≡ One a → r ≡ One b → b ≡ a → hasOther (One a) n ≡ (hasOther l n || hasOther r n)
-  unfolding hasOther
+  pub merged-same : (a b : ℕ) → l ≡ One a → r ≡ One b → b ≡ a → summaryHasOther (One a) n ≡ (summaryHasOther l n || summaryHasOther r n)
+  unfolding summaryHasOther
   merged-same a b e f t = rw (e, f, t) (go (not (eqb a n)))
     where
       go : (z : Bool) → z ≡ (z || z)
       go true = refl
       go false = refl
 
-  pub merged-apart : (a b : ℕ) → l ≡ One a → r ≡ One b → (b ≡ a → ⊥) → hasOther Two n ≡ (hasOther l n || hasOther r n)
-  unfolding hasOther
+  pub merged-apart : (a b : ℕ) → l ≡ One a → r ≡ One b → (b ≡ a → ⊥) → summaryHasOther Two n ≡ (summaryHasOther l n || summaryHasOther r n)
+  unfolding summaryHasOther
   merged-apart a b e f t = rw (e, f) (sym (two-decide a b n t))
 
-  pub merged-right : (a : ℕ) → l ≡ One a → r ≡ Two → hasOther r n ≡ (hasOther l n || hasOther r n)
-  unfolding hasOther
+  pub merged-right : (a : ℕ) → l ≡ One a → r ≡ Two → summaryHasOther r n ≡ (summaryHasOther l n || summaryHasOther r n)
+  unfolding summaryHasOther
   merged-right a e f = rw (e, f) (go (not (eqb a n)))
     where
       go : (z : Bool) → true ≡ (z || true)
       go true = refl
       go false = refl
 
-  pub merged-two : l ≡ Two → hasOther l n ≡ (hasOther l n || hasOther r n)
-  unfolding hasOther
+  pub merged-two : l ≡ Two → summaryHasOther l n ≡ (summaryHasOther l n || summaryHasOther r n)
+  unfolding summaryHasOther
   merged-two e = rw e
 
 -- ---- another net, by cases of the summary
 module _ (s : NetSummary) (n : ℕ) where
-  pub other-nothing : s ≡ Nothing → false ≡ hasOther s n
-  unfolding hasOther
+  pub other-nothing : s ≡ Nothing → false ≡ summaryHasOther s n
+  unfolding summaryHasOther
   other-nothing e = rw e
 
-  pub other-one : (a : ℕ) → s ≡ One a → not (eqb a n) ≡ hasOther s n
-  unfolding hasOther
+  pub other-one : (a : ℕ) → s ≡ One a → not (eqb a n) ≡ summaryHasOther s n
+  unfolding summaryHasOther
   other-one a e = rw e
 
-  pub other-two : s ≡ Two → true ≡ hasOther s n
-  unfolding hasOther
+  pub other-two : s ≡ Two → true ≡ summaryHasOther s n
+  unfolding summaryHasOther
   other-two e = rw e
 
 -- ---- words
@@ -149,5 +149,5 @@ pub one-word : (net : ℕ) → net < 4294967296 → summaryOfWord (net + 1) ≡ 
 one-word net h = sym (word-one (net + 1) (λ e. omega arith) (omega arith)) ∙ ap One (omega arith)
 
 -- the word of two words' summaries together
-pub merged-words : (a b r : ℕ) (x y z : NetSummary) → x ≡ summaryOfWord a → y ≡ summaryOfWord b → ((n : ℕ) → hasOther z n ≡ (hasOther x n || hasOther y n)) → summaryOfWord r ≡ z → (n : ℕ) → hasOther (summaryOfWord r) n ≡ (hasOther (summaryOfWord a) n || hasOther (summaryOfWord b) n)
-merged-words a b r x y z e f m g n = ap (λ (w : NetSummary). hasOther w n) g ∙ m n ∙ (λ i. hasOther (e i) n || hasOther (f i) n)
+pub merged-words : (a b r : ℕ) (x y z : NetSummary) → x ≡ summaryOfWord a → y ≡ summaryOfWord b → ((n : ℕ) → summaryHasOther z n ≡ (summaryHasOther x n || summaryHasOther y n)) → summaryOfWord r ≡ z → (n : ℕ) → summaryHasOther (summaryOfWord r) n ≡ (summaryHasOther (summaryOfWord a) n || summaryHasOther (summaryOfWord b) n)
+merged-words a b r x y z e f m g n = ap (λ (w : NetSummary). summaryHasOther w n) g ∙ m n ∙ (λ i. summaryHasOther (e i) n || summaryHasOther (f i) n)

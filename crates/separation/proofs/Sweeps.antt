@@ -20,7 +20,7 @@ use Rattle.separation.specs.Lines.{lines, levels}
 use Rattle.separation.specs.Walk.{same, remove}
 use Rattle.separation.proofs.Lines.{Rising, first-word, lines-rising, line-mem, levels-enough}
 use Rattle.separation.proofs.ActiveRows.{mem-count, count-mem, same→, same-refl, remove-mem, mem-remove, remove-count}
-use Rattle.separation.proofs.Meets.{meets, Closer, closer-sym, meets-sound, meets-complete}
+use Rattle.separation.proofs.NearestLines.{meets, Closer, closer-sym, meets-sound, meets-complete}
 
 -- ---- the pairs of lines that a sweep over the events compares
 unfoldable pub sights : List ℕ → ℕ → List Row → List Event → List (ℕ × ℕ)

@@ -21,7 +21,7 @@ use Rattle.drawing.specs.Gaps.{gapFrom, leastGap}
 use Rattle.drawing.proofs.GapLaws.{gaps-ranked}
 use Rattle.rows.specs.Rows.{Row, fixedOf, rowOf, rowsInOrder, oriented}
 use Rattle.rows.proofs.Oriented.{oriented-sorted, mem-oriented, oriented-mem}
-use Rattle.separation.specs.Figures.{counted, gapBetween, gaps, nonzero, leastOf, figures}
+use Rattle.separation.specs.Figures.{isCounted, gapBetween, gaps, nonzero, leastOf, figures}
 use Rattle.separation.specs.Walk.{lesserFigures, along, walkAll}
 use Rattle.separation.proofs.Places.{Placed, gapAt, at-one, at-two, nearer}
 use Rattle.separation.proofs.Sweeps.{Meet, Pair, Covered, sweepSights, sweep-sound, sweep-complete}
@@ -69,7 +69,7 @@ module _ (l : List Segment) (fit : All Fit l) where
   pub mem-gaps : (x : Float) → Mem x (gaps l) → PairOf l x
   unfolding gaps
   mem-gaps x m =
-      let g = mem-chosen counted gapBetween x (pairs l) m in
+      let g = mem-chosen isCounted gapBetween x (pairs l) m in
       let k = mem-pairs (g .0) l (g .1) in
       let c = counted→ (g .0 .0) (g .0 .1) (fits (g .0 .0) (k .0)) (fits (g .0 .1) (k .1)) (g .2) in
       record { one = g .0 .0; other = g .0 .1; one-in = k .0; other-in = k .1; parallel = c .0; meet = c .1; is = g .3 }
@@ -82,8 +82,8 @@ module _ (l : List Segment) (fit : All Fit l) where
       let fa = fits a (p .one-in) in
       let fb = fits b (p .other-in) in
       elim (pairs-mem a b l (p .one-in) (p .other-in) (λ e. p .meet .nets (ap (λ (s : Segment). rowOf s .net) e))) [
-        | inl m ↦ subst (λ (z : Float). Mem z (gaps l)) (sym (p .is)) (chosen-mem counted gapBetween (a, b) (pairs l) m (→counted a b fa fb (p .parallel) (p .meet)))
-        | inr m ↦ subst (λ (z : Float). Mem z (gaps l)) (sym (p .is ∙ gap-swap (fixedOf a) (fixedOf b) (fa .fixed .fin) (fb .fixed .fin))) (chosen-mem counted gapBetween (b, a) (pairs l) m (→counted b a fb fa (sym (p .parallel)) (meet-sym (rowOf a) (rowOf b) (p .meet))))
+        | inl m ↦ subst (λ (z : Float). Mem z (gaps l)) (sym (p .is)) (chosen-mem isCounted gapBetween (a, b) (pairs l) m (→counted a b fa fb (p .parallel) (p .meet)))
+        | inr m ↦ subst (λ (z : Float). Mem z (gaps l)) (sym (p .is ∙ gap-swap (fixedOf a) (fixedOf b) (fa .fixed .fin) (fb .fixed .fin))) (chosen-mem isCounted gapBetween (b, a) (pairs l) m (→counted b a fb fa (sym (p .parallel)) (meet-sym (rowOf a) (rowOf b) (p .meet))))
       ]
 
   pair-good : (x : Float) → PairOf l x → Good x

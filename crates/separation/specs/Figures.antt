@@ -15,8 +15,8 @@ unfoldable pub overlapping : Segment → Segment → Bool
 overlapping a b = lt (greaterOf (startOf a) (startOf b)) (lesserOf (endOf a) (endOf b))
 
 -- SCOPE 3.7: "same-orientation, different-net pairs whose overlap is positive"
-unfoldable pub counted : Segment × Segment → Bool
-counted p = eqb (p .0 .orientation) (p .1 .orientation) && (not (eqb (p .0 .net) (p .1 .net)) && overlapping (p .0) (p .1))
+unfoldable pub isCounted : Segment × Segment → Bool
+isCounted p = eqb (p .0 .orientation) (p .1 .orientation) && (not (eqb (p .0 .net) (p .1 .net)) && overlapping (p .0) (p .1))
 
 -- SCOPE 3.8: "the .. rounded gap of fixed coordinates": one rounded subtraction, its sign dropped. "An overflowing gap is +infinity, a present value."
 unfoldable pub gapBetween : Segment × Segment → Float
@@ -24,7 +24,7 @@ gapBetween p = gapOf (fixedOf (p .0)) (fixedOf (p .1))
 
 -- the gap of each pair that counts
 unfoldable pub gaps : List Segment → List Float
-gaps l = chosen counted gapBetween (pairs l)
+gaps l = chosen isCounted gapBetween (pairs l)
 
 unfoldable pub nonzero : Float → Bool
 nonzero x = not (eq x plusZero)

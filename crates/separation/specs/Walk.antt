@@ -16,8 +16,8 @@ use Rattle.separation.specs.Figures.{Figures}
 use Rattle.separation.specs.Lines.{lines, index, levels}
 use Rattle.separation.specs.Searches.{otherIn, rightmost, leftmost, setRun}
 
-abbrev pub nothing : Figures
-nothing = record { least = Absent; leastNonzero = Absent }
+abbrev pub noFigures : Figures
+noFigures = record { least = Absent; leastNonzero = Absent }
 
 -- `minimum_option` of each figure
 unfoldable pub lesserFigures : Figures → Figures → Figures
@@ -48,8 +48,8 @@ otherLine ls line none f = f
 otherLine ls line (some i) f = let g = Present (gapOf (floatAt (getD ls i 0)) (floatAt line)) in lesserFigures f (record { least = g; leastNonzero = g })
 
 -- SCOPE 5.10, 5.11: what a start searches: is another net on the segment's own line (`has_other_at`), which is the nearest line below with another net, which the nearest above. "Every node touched by a search or a `set` costs one visit, and so does each `has_other_at`."
-unfoldable pub looking : List ℕ → ℕ → List Row → Figures → Row → Charged Figures
-looking ls h active f x =
+unfoldable pub withNearest : List ℕ → ℕ → List Row → Figures → Row → Charged Figures
+withNearest ls h active f x =
     let i = index ls (x .line) in
     let has = otherIn ls active (x .net) in
     after (visit (free (has i (suc i)))) (λ own.
@@ -60,7 +60,7 @@ looking ls h active f x =
 -- SCOPE 5.10: a segment starts: the searches, then its line's `set`
 unfoldable pub startsAt : List ℕ → ℕ → Sweep → Row → Charged Sweep
 startsAt ls h s x =
-    after (looking ls h (s .active) (s .met) x) (λ f.
+    after (withNearest ls h (s .active) (s .met) x) (λ f.
     after (setRun h) (λ done. free (record { active = x ∷ s .active; met = f })))
 
 -- SCOPE 5.10: a segment ends: its line's `set`
@@ -75,12 +75,12 @@ step ls h s (starts i x) = startsAt ls h s x
 unfoldable pub sweep : List Row → Charged Figures
 sweep l =
     let ls = lines l in
-    after (runs (step ls (levels (length ls))) (record { active = []; met = nothing }) (events l)) (λ s. free (s .met))
+    after (runs (step ls (levels (length ls))) (record { active = []; met = noFigures }) (events l)) (λ s. free (s .met))
 
 -- SCOPE 5.8: "An orientation with fewer than two segments costs nothing."
 unfoldable pub along : List Row → Charged Figures
-along [] = free nothing
-along (r ∷ []) = free nothing
+along [] = free noFigures
+along (r ∷ []) = free noFigures
 along (r ∷ t ∷ l) = sweep (r ∷ t ∷ l)
 
 -- SCOPE 5.8: horizontal first, then vertical

@@ -19,7 +19,7 @@ pub enum Swept {
 }
 
 // The lesser of each figure, with the remaining visits of the second sweep.
-pub fn together(across: Found, down: Found) -> Found
+pub fn combined(across: Found, down: Found) -> Found
     ensures { λ r. ⌜ foundBy r ≡ lesserFigures (foundBy across) (foundBy down) ⌝ }
     ensures { λ r. ⌜ r .remaining ≡ down .remaining ⌝ }
 {

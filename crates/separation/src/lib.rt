@@ -13,7 +13,7 @@ pub use answer::answer_of;
 pub use checks::check_separation;
 pub use found::Found;
 pub use found::Swept;
-pub use found::together;
+pub use found::combined;
 pub use report::ParallelSeparation;
 pub use report::SeparationAnswer;
 pub use search::Charge;

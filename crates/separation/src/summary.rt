@@ -2,7 +2,7 @@
 ghost use mathlib.Core.Path.{_≡_};
 ghost use mathlib.Core.Bool.{_||_};
 ghost use Prim.Native.Nat.{ℕ};
-ghost use Rattle.separation.specs.Inner.Summaries.{hasOther, summaryOfWord};
+ghost use Rattle.separation.specs.Inner.Summaries.{summaryHasOther, summaryOfWord};
 
 // No net, one, or at least two different ones. The Rust stores two of them; it does not matter which, since of two different nets at least one is not the excluded net.
 pub enum NetSummary {
@@ -14,7 +14,7 @@ pub enum NetSummary {
 impl NetSummary {
     // The summary of two ranges together.
     pub fn merged(left: NetSummary, right: NetSummary) -> NetSummary
-        ensures { λ r. ⌜ ((n : ℕ) → hasOther r n ≡ (hasOther left n || hasOther right n)) ⌝ }
+        ensures { λ r. ⌜ ((n : ℕ) → summaryHasOther r n ≡ (summaryHasOther left n || summaryHasOther right n)) ⌝ }
     {
         match left {
             NetSummary::Nothing => right,
@@ -35,7 +35,7 @@ impl NetSummary {
 
     // Whether some net of the summary is not the excluded one.
     pub fn has_other(self, excluded: u32) -> bool
-        ensures { λ r. ⌜ r ≡ hasOther self excluded ⌝ }
+        ensures { λ r. ⌜ r ≡ summaryHasOther self excluded ⌝ }
     {
         match self {
             NetSummary::Nothing => false,
@@ -71,7 +71,7 @@ pub fn word_of(summary: NetSummary) -> u64
 
 // The word of two ranges together.
 pub fn merged_word(low: u64, high: u64) -> u64
-    ensures { λ r. ⌜ ((n : ℕ) → hasOther (summaryOfWord r) n ≡ (hasOther (summaryOfWord low) n || hasOther (summaryOfWord high) n)) ⌝ }
+    ensures { λ r. ⌜ ((n : ℕ) → summaryHasOther (summaryOfWord r) n ≡ (summaryHasOther (summaryOfWord low) n || summaryHasOther (summaryOfWord high) n)) ⌝ }
 {
     let left = summary_of_word(low);
     let right = summary_of_word(high);

@@ -33,7 +33,7 @@ use Rattle.rows.proofs.ColumnParts.{getD-map, front-same, column-length, column
 use Rattle.separation.specs.Lines.{lines, index}
 use Rattle.separation.proofs.Lines.{first-word, index-here, index-past, index-lt}
 use Rattle.separation_call.specs.Inner.ActiveNets.{Slots}
-use Rattle.separation_call.specs.Inner.Numbered.{Slottable, slotWord, WordsFilled, placeOf, groupOf, WordsInOrder, slotOf, HandedOut, SlotsAssigned}
+use Rattle.separation_call.specs.Inner.Numbered.{Slottable, slotWord, WordsFilled, placeOf, groupOf, WordsInOrder, slotOf, SlotsPut, SlotsAssigned}
 
 -- ---- the first index of a value in a list in order
 index-at : (l : List ℕ) (k p : ℕ) → k < length l → ((i : ℕ) → i < k → getD l i 0 < p) → p ≤ getD l k 0 → index l p ≡ k
@@ -222,7 +222,7 @@ module _ (n : ℕ) (s₀ s : List ℕ) (slot last k : ℕ) (v : Handing n s₀ s
                 ∙ v .slots i b
           ]
 
-pub handing-end : (n : ℕ) (s₀ s : List ℕ) (slot last k : ℕ) → Handing n s₀ s slot last k → n ≤ k → HandedOut n s₀ s
+pub handing-end : (n : ℕ) (s₀ s : List ℕ) (slot last k : ℕ) → Handing n s₀ s slot last k → n ≤ k → SlotsPut n s₀ s
 handing-end n s₀ s slot last k v h = record {
   front = v .front;
   slots = λ w m.
@@ -324,7 +324,7 @@ module _ (n : ℕ) (s a p : List ℕ) (g : Slottable n s) (len : length a ≡ le
     },
   )
 
-  module _ (e : List ℕ) (h : HandedOut n (putMid (8 * n) (length a - 8 * n) a p) e) where
+  module _ (e : List ℕ) (h : SlotsPut n (putMid (8 * n) (length a - 8 * n) a p) e) where
     front : take (7 * n) e ≡ take (7 * n) s
     front = h .front ∙ fewer b a b-front ∙ fewer a s (f .front)
       where

@@ -15,9 +15,9 @@ use Rattle.laws.proofs.Runs.{within-free, visit-spent, visit-paid}
 use Rattle.separation.specs.declared.search.OtherNet.the-variants.{Known, Spent as Unpaid}
 use Rattle.separation.specs.declared.search.Search.{Search}
 use Rattle.separation.specs.declared.search.Search.the-variants.{Found, Empty, Spent}
-use Rattle.separation.specs.Searches.{leaf, node, rightmost, leftmost}
+use Rattle.separation.specs.Searches.{searchLeaf, searchNode, rightmost, leftmost}
 use Rattle.separation.specs.Inner.Searches.{searchOf}
-use Rattle.separation.specs.Inner.Summaries.{hasOther}
+use Rattle.separation.specs.Inner.Summaries.{summaryHasOther}
 use Rattle.separation.proofs.Allowances.{answer-spent, answer-found, answer-empty, leaf-spent, leaf-found, empty-paid, node-spent, first-spent, first-found, first-empty}
 use Rattle.separation_call.specs.Inner.ActiveTree.{summaryAt, otherNetOf}
 
@@ -60,14 +60,14 @@ paid m p run r e = e ∙ ap (λ (z : ℕ). searchOf (within z run)) (sym (paid-b
 
 -- ---- a node whose children are searched: the first one's answer is returned, or the second one is searched with the remaining visits
 module _ (one two : Charged (Option ℕ)) (a : Search) (m : ℕ) (p : m ≡ 0 → ⊥) (e : a ≡ searchOf (within (m - 1) one)) where
-  hand-spent : a ≡ Spent → Spent ≡ searchOf (within m (node true one two))
-  hand-spent x = paid m p (node true one two) Spent (rw (first-spent one two (m - 1) (was-spent (within (m - 1) one) (sym x ∙ e))) (sym answer-spent))
+  hand-spent : a ≡ Spent → Spent ≡ searchOf (within m (searchNode true one two))
+  hand-spent x = paid m p (searchNode true one two) Spent (rw (first-spent one two (m - 1) (was-spent (within (m - 1) one) (sym x ∙ e))) (sym answer-spent))
 
-  hand-found : (i r : ℕ) → a ≡ Found i r → Found i r ≡ searchOf (within m (node true one two))
-  hand-found i r x = paid m p (node true one two) (Found i r) (rw (first-found one two (m - 1) i r (was-found (within (m - 1) one) i r (sym x ∙ e))) (sym (answer-found i r)))
+  hand-found : (i r : ℕ) → a ≡ Found i r → Found i r ≡ searchOf (within m (searchNode true one two))
+  hand-found i r x = paid m p (searchNode true one two) (Found i r) (rw (first-found one two (m - 1) i r (was-found (within (m - 1) one) i r (sym x ∙ e))) (sym (answer-found i r)))
 
-  go-on : (r : ℕ) → a ≡ Empty r → (b : Search) → b ≡ searchOf (within r two) → b ≡ searchOf (within m (node true one two))
-  go-on r x b f = paid m p (node true one two) b (rw (first-empty one two (m - 1) r (was-empty (within (m - 1) one) r (sym x ∙ e))) f)
+  go-on : (r : ℕ) → a ≡ Empty r → (b : Search) → b ≡ searchOf (within r two) → b ≡ searchOf (within m (searchNode true one two))
+  go-on r x b f = paid m p (searchNode true one two) b (rw (first-empty one two (m - 1) r (was-empty (within (m - 1) one) r (sym x ∙ e))) f)
 
 -- ---- both searches by their direction: `rightmost` goes down from the query, `leftmost` up
 pub data Way : Type 0 where
@@ -101,12 +101,12 @@ abbrev pub other : Way → Way
 other down = up
 other up = down
 
-at-leaf : (w : Way) (has : ℕ → ℕ → ℕ → Bool) (q k s : ℕ) → search w has q 0 k s ≡ leaf (reaches w q s (s + 1) && has k s (s + 1)) s
+at-leaf : (w : Way) (has : ℕ → ℕ → ℕ → Bool) (q k s : ℕ) → search w has q 0 k s ≡ searchLeaf (reaches w q s (s + 1) && has k s (s + 1)) s
 unfolding rightmost leftmost
 at-leaf down has q k s = refl
 at-leaf up has q k s = refl
 
-at-node : (w : Way) (has : ℕ → ℕ → ℕ → Bool) (q h k s : ℕ) → search w has q (suc h) k s ≡ node (reaches w q s (s + 2 ^ suc h) && has k s (s + 2 ^ suc h)) (search w has q h (child w k) (from w s (s + 2 ^ h))) (search w has q h (child (other w) k) (from (other w) s (s + 2 ^ h)))
+at-node : (w : Way) (has : ℕ → ℕ → ℕ → Bool) (q h k s : ℕ) → search w has q (suc h) k s ≡ searchNode (reaches w q s (s + 2 ^ suc h) && has k s (s + 2 ^ suc h)) (search w has q h (child w k) (from w s (s + 2 ^ h))) (search w has q h (child (other w) k) (from (other w) s (s + 2 ^ h)))
 unfolding rightmost leftmost
 at-node down has q h k s = refl
 at-node up has q h k s = refl
@@ -126,12 +126,12 @@ not-both a b (inr e) = rw (e, and-false a)
 pub record Opened (w : Way) (t : List ℕ) (n q k s e m : ℕ) : Type 0 where
   pub some : m ≡ 0 → ⊥
   pub reached : reaches w q s e ≡ true
-  pub active : hasOther (summaryAt t k) n ≡ true
+  pub active : summaryHasOther (summaryAt t k) n ≡ true
   pub wide : e - s ≡ 1 → ⊥
 
 -- ---- a search from node k over the leaves from s on, before e, within m
 abbrev others : List ℕ → ℕ → ℕ → ℕ → ℕ → Bool
-others t n k a b = hasOther (summaryAt t k) n
+others t n k a b = summaryHasOther (summaryAt t k) n
 
 module _ (w : Way) (t : List ℕ) (n q : ℕ) where
   abbrev pub Searched : ℕ → ℕ → ℕ → ℕ → Search → Type 0
@@ -142,11 +142,11 @@ module _ (w : Way) (t : List ℕ) (n q : ℕ) where
     search-spent z zero x = rw (z, at-leaf w (others t n) q k s, leaf-spent) (sym answer-spent)
     search-spent z (suc h) x = rw (z, at-node w (others t n) q h k s, node-spent) (sym answer-spent)
 
-    pub search-shut : (m ≡ 0 → ⊥) → (reaches w q s e ≡ false) ⊎ (hasOther (summaryAt t k) n ≡ false) → Searched k s e m (Empty (m - 1))
+    pub search-shut : (m ≡ 0 → ⊥) → (reaches w q s e ≡ false) ⊎ (summaryHasOther (summaryAt t k) n ≡ false) → Searched k s e m (Empty (m - 1))
     search-shut p o zero x = paid m p (search w (others t n) q 0 k s) (Empty (m - 1)) (rw (at-leaf w (others t n) q k s, not-both _ _ (rw x at o), empty-paid (m - 1)) (sym (answer-empty (m - 1))))
     search-shut p o (suc h) x = paid m p (search w (others t n) q (suc h) k s) (Empty (m - 1)) (rw (at-node w (others t n) q h k s, not-both _ _ (rw x at o), empty-paid (m - 1)) (sym (answer-empty (m - 1))))
 
-    pub search-leaf : (m ≡ 0 → ⊥) → reaches w q s e ≡ true → hasOther (summaryAt t k) n ≡ true → e - s ≡ 1 → Searched k s e m (Found s (m - 1))
+    pub search-leaf : (m ≡ 0 → ⊥) → reaches w q s e ≡ true → summaryHasOther (summaryAt t k) n ≡ true → e - s ≡ 1 → Searched k s e m (Found s (m - 1))
     search-leaf p g o u zero x = paid m p (search w (others t n) q 0 k s) (Found s (m - 1)) (rw (at-leaf w (others t n) q k s, rw x at g, o, leaf-found (m - 1) s) (sym (answer-found s (m - 1))))
     search-leaf p g o u (suc h) x = absurd (omega (arith, pow-succ' 2 h, pow-pos h))
 
@@ -158,7 +158,7 @@ module _ {w : Way} {t : List ℕ} {n q k s e m : ℕ} (o : Opened w t n q k s e 
   two h = search w (others t n) q h (child (other w) k) (from (other w) s ((s + e) / 2))
 
   -- the search from the inner node is that of its children
-  by-children : (b : Search) → ((h : ℕ) → e ≡ s + 2 ^ suc h → b ≡ searchOf (within m (node true (one h) (two h)))) → Searched w t n q k s e m b
+  by-children : (b : Search) → ((h : ℕ) → e ≡ s + 2 ^ suc h → b ≡ searchOf (within m (searchNode true (one h) (two h)))) → Searched w t n q k s e m b
   by-children b f zero x = absurd (o .wide (omega arith))
   by-children b f (suc h) x = rw (at-node w (others t n) q h k s, rw x at (o .reached), o .active, ← half h s e x) (f h x)
 

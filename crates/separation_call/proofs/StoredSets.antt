@@ -14,7 +14,7 @@ use Rattle.laws.proofs.Tests.{le-or-lt}
 use Rattle.rows.specs.Rows.{Row}
 use Rattle.separation.specs.declared.summary.NetSummary.{NetSummary}
 use Rattle.separation.specs.Searches.{setRun}
-use Rattle.separation.specs.Inner.Summaries.{hasOther, summaryOfWord}
+use Rattle.separation.specs.Inner.Summaries.{summaryHasOther, summaryOfWord}
 use Rattle.separation.proofs.Allowances.{set-spent, set-last, set-more}
 use Rattle.separation.specs.declared.search.Charge.the-variants.{Paid, Spent}
 use Rattle.separation_call.specs.Inner.ActiveTree.{summaryAt, chargeOf, Leaves, Renewed}
@@ -95,7 +95,7 @@ module _ {leaves m : ℕ} {start : List ℕ} {first : ℕ} {t : List ℕ} {rest 
       rw spends (sym charge-spent)
 
   -- a node is paid and merged anew
-  pub setting-goes-on : (c ≡ 0 → ⊥) → (rest ≡ 0 → ⊥) → (w : ℕ) → ((n : ℕ) → hasOther (summaryOfWord w) n ≡ (hasOther (summaryAt t (2 * c)) n || hasOther (summaryAt t (2 * c + 1)) n)) → Setting leaves m start first (set t c w) (rest - 1) (c / 2)
+  pub setting-goes-on : (c ≡ 0 → ⊥) → (rest ≡ 0 → ⊥) → (w : ℕ) → ((n : ℕ) → summaryHasOther (summaryOfWord w) n ≡ (summaryHasOther (summaryAt t (2 * c)) n || summaryHasOther (summaryAt t (2 * c + 1)) n)) → Setting leaves m start first (set t c w) (rest - 1) (c / 2)
   setting-goes-on n p w joined =
       let g = way-on (s .above) c n (s .way) in
       record {
@@ -107,7 +107,7 @@ module _ {leaves m : ℕ} {start : List ℕ} {first : ℕ} {t : List ℕ} {rest 
         above = g .0;
         way = g .2;
         charged = s .charged ∙ ap (λ (z : ℕ). within (suc rest) (setRun z)) (g .1) ∙ set-more rest (g .0) ∙ ap (λ (z : ℕ). within z (setRun (g .0))) (paid-before rest p);
-        merging = λ ls new x. merging-goes-on ls new (s .height) (summaryAt t) (summaryAt (set t c w)) c (omega arith) (omega (arith, s .small, s .count)) (λ j. ap (λ (z : ℕ). hasOther (summaryOfWord z) j) (getD-set-same t c w 0 inside) ∙ joined j) (λ k o. ap summaryOfWord (getD-set-other t c k w 0 o)) (s .merging ls new x);
+        merging = λ ls new x. merging-goes-on ls new (s .height) (summaryAt t) (summaryAt (set t c w)) c (omega arith) (omega (arith, s .small, s .count)) (λ j. ap (λ (z : ℕ). summaryHasOther (summaryOfWord z) j) (getD-set-same t c w 0 inside) ∙ joined j) (λ k o. ap summaryOfWord (getD-set-other t c k w 0 o)) (s .merging ls new x);
       }
     where
       inside : c < length t
@@ -125,7 +125,7 @@ setting-renews leaves m entry i w summary is l x t rest c s z H e ls old new off
   where
     begun : Merging ls new (summaryAt (set entry (2 ^ H + i) w)) H ((2 ^ H + i) / 2)
     begun = merging-begins ls new H old (summaryAt entry) (summaryAt (set entry (2 ^ H + i) w)) i off covers
-        (λ j. ap (λ (z : ℕ). hasOther (summaryOfWord z) j) (getD-set-same entry (2 ^ H + i) w 0 (omega (arith, l .room))) ∙ ap (λ (z : NetSummary). hasOther z j) is ∙ leaf j)
+        (λ j. ap (λ (z : ℕ). summaryHasOther (summaryOfWord z) j) (getD-set-same entry (2 ^ H + i) w 0 (omega (arith, l .room))) ∙ ap (λ (z : NetSummary). summaryHasOther z j) is ∙ leaf j)
         (λ k o. ap summaryOfWord (getD-set-other entry (2 ^ H + i) k w 0 o))
 
     at : (h : ℕ) → h ≡ H → (Merging ls new (summaryAt (set entry (leaves + i) w)) h ((leaves + i) / 2) → Merging ls new (summaryAt t) h c) → Merging ls new (summaryAt t) H c

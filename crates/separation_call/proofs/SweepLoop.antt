@@ -19,7 +19,7 @@ use Rattle.rows.specs.Rows.{Row, Event, ends, starts, events}
 use Rattle.rows.specs.Inner.Tables.{rowFrom, eventFrom}
 use Rattle.separation.specs.Figures.{Figures}
 use Rattle.separation.specs.Lines.{lines, levels}
-use Rattle.separation.specs.Walk.{nothing, Sweep, remove, startsAt, endsAt, step, sweep}
+use Rattle.separation.specs.Walk.{noFigures, Sweep, remove, startsAt, endsAt, step, sweep}
 use Rattle.separation.proofs.Allowances.{sweep-within}
 use Rattle.separation.proofs.Sweeps.{State, begin, after-start, after-end, is-active}
 use Rattle.separation.specs.declared.state.Sweeping.{Sweeping}
@@ -77,7 +77,7 @@ module _ (s : List ℕ) (n leaves e : ℕ) where
 -- ---- the loop
 module _ (l : List Row) (F : List ℕ) (H allowance : ℕ) where
   abbrev start : Sweep
-  start = record { active = []; met = nothing }
+  start = record { active = []; met = noFigures }
 
   -- the outcome of all events
   abbrev whole : Outcome Sweep

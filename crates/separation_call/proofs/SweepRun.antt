@@ -19,7 +19,7 @@ use Rattle.rows.proofs.ColumnParts.{front-same, column-same, row-word}
 use Rattle.separation.specs.Figures.{Figures}
 use Rattle.separation.specs.Lines.{lines, index}
 use Rattle.separation.specs.Searches.{setRun}
-use Rattle.separation.specs.Walk.{Sweep, remove, looking, startsAt, endsAt}
+use Rattle.separation.specs.Walk.{Sweep, remove, withNearest, startsAt, endsAt}
 use Rattle.separation.proofs.Lines.{lines-rising, line-mem, index-lt, at-index}
 use Rattle.separation.proofs.Allowances.{end-within}
 use Rattle.separation.proofs.ActiveRows.{remove-mem}
@@ -28,7 +28,7 @@ use Rattle.separation.specs.declared.state.Handled.{Handled}
 use Rattle.separation.specs.declared.state.Handled.the-variants.{Went, Spent}
 use Rattle.separation_call.specs.Inner.ActiveTree.{summaryAt, Leaves, Covers}
 use Rattle.separation.specs.Inner.States.{metBy, outcomeOf}
-use Rattle.separation_call.specs.Inner.Sweeping.{Lookable, Lined, Looks, Working, At, Enterable, Leavable, Pays, Entered, TakenOut, Ready, AtStart, figuresOf, Begins, Finishes}
+use Rattle.separation_call.specs.Inner.Sweeping.{Searchable, Lined, WithNearest, Working, At, Enterable, Leavable, Pays, Entered, TakenOut, Ready, AtStart, figuresOf, Begins, Finishes}
 use Rattle.separation_call.proofs.ActiveNets.{countable, endable}
 use Rattle.separation_call.proofs.LineNumbering.{lines-few}
 use Rattle.separation.proofs.States.{went-on, stopped, stops}
@@ -104,7 +104,7 @@ module _ (l : List Row) (F : List ℕ) (H b : ℕ) (active : List Row) (s : List
       line-in : getD s (4 * n + j) 0 < leaves
       line-in = omega (arith, on-line j inside .there, ready .enough)
 
-      pub lookable : Lookable (take (length s - 12 * n) (drop (12 * n) s)) (take (length s - 6 * n) (drop (6 * n) s)) leaves (getD s (4 * n + j) 0)
+      pub lookable : Searchable (take (length s - 12 * n) (drop (12 * n) s)) (take (length s - 6 * n) (drop (6 * n) s)) leaves (getD s (4 * n + j) 0)
       lookable = record {
         tree = subst (λ (t : List ℕ). Leaves t leaves) (tree-from ∙ sym (tail-lent (12 * n) s)) tree-leaves;
         inside = line-in;
@@ -168,12 +168,12 @@ module _ (ls : List ℕ) (H : ℕ) (active : List Row) (st : Sweeping) (x : Row)
   abbrev here : Sweep
   here = record { active = active; met = metBy st }
 
-  start-figures : figuresOf (within (st .remaining) (startsAt ls H here x)) ≡ onward (within (st .remaining) (looking ls H active (metBy st) x)) (λ f r. onward (within r (setRun H)) (λ done r. left f r))
+  start-figures : figuresOf (within (st .remaining) (startsAt ls H here x)) ≡ onward (within (st .remaining) (withNearest ls H active (metBy st) x)) (λ f r. onward (within r (setRun H)) (λ done r. left f r))
   unfolding startsAt
   start-figures =
       within-read (λ (t : Sweep). t .met) (st .remaining) (startsAt ls H here x)
-      ∙ within-after (st .remaining) (looking ls H active (metBy st) x) (λ f. after (setRun H) (λ done. free f))
-      ∙ (λ i. onward (within (st .remaining) (looking ls H active (metBy st) x)) (λ f r. paid f r i))
+      ∙ within-after (st .remaining) (withNearest ls H active (metBy st) x) (λ f. after (setRun H) (λ done. free f))
+      ∙ (λ i. onward (within (st .remaining) (withNearest ls H active (metBy st) x)) (λ f r. paid f r i))
     where
       paid : (f : Figures) (r : ℕ) → within r (after (setRun H) (λ done. free f)) ≡ onward (within r (setRun H)) (λ done r. left f r)
       paid f r = within-after r (setRun H) (λ done. free f) ∙ (λ i. onward (within r (setRun H)) (λ done k. within-free k f i))
@@ -186,15 +186,15 @@ module _ (ls : List ℕ) (H : ℕ) (active : List Row) (st : Sweeping) (x : Row)
   unfolding endsAt
   end-active = refl
 
-  module _ (looked-at : Handled) (looked : outcomeOf looked-at ≡ within (st .remaining) (looking ls H active (metBy st) x)) where
+  module _ (looked-at : Handled) (looked : outcomeOf looked-at ≡ within (st .remaining) (withNearest ls H active (metBy st) x)) where
     start-stops : looked-at ≡ Spent → outcomeOf Spent ≡ figuresOf (within (st .remaining) (startsAt ls H here x))
     start-stops e =
-        let z : onward (within (st .remaining) (looking ls H active (metBy st) x)) (λ f r. onward (within r (setRun H)) (λ done r. left f r)) ≡ spent = rw (stopped looked-at (within (st .remaining) (looking ls H active (metBy st) x)) e looked) (onward-spent (λ f r. onward (within r (setRun H)) (λ done r. left f r))) in
+        let z : onward (within (st .remaining) (withNearest ls H active (metBy st) x)) (λ f r. onward (within r (setRun H)) (λ done r. left f r)) ≡ spent = rw (stopped looked-at (within (st .remaining) (withNearest ls H active (metBy st) x)) e looked) (onward-spent (λ f r. onward (within r (setRun H)) (λ done r. left f r))) in
         stops _ (start-figures ∙ z)
 
     start-goes : (seen : Sweeping) (r : Handled) → looked-at ≡ Went seen → outcomeOf r ≡ onward (within (seen .remaining) (setRun H)) (λ done m. left (metBy seen) m) → outcomeOf r ≡ figuresOf (within (st .remaining) (startsAt ls H here x))
     start-goes seen r e g =
-        let z : onward (within (st .remaining) (looking ls H active (metBy st) x)) (λ f r. onward (within r (setRun H)) (λ done r. left f r)) ≡ onward (within (seen .remaining) (setRun H)) (λ done m. left (metBy seen) m) = rw (went-on looked-at seen (within (st .remaining) (looking ls H active (metBy st) x)) e looked) (onward-left (metBy seen) (seen .remaining) (λ f r. onward (within r (setRun H)) (λ done r. left f r))) in
+        let z : onward (within (st .remaining) (withNearest ls H active (metBy st) x)) (λ f r. onward (within r (setRun H)) (λ done r. left f r)) ≡ onward (within (seen .remaining) (setRun H)) (λ done m. left (metBy seen) m) = rw (went-on looked-at seen (within (st .remaining) (withNearest ls H active (metBy st) x)) e looked) (onward-left (metBy seen) (seen .remaining) (λ f r. onward (within r (setRun H)) (λ done r. left f r))) in
         g ∙ sym (start-figures ∙ z)
 
   end-goes : (r : Handled) → outcomeOf r ≡ onward (within (st .remaining) (setRun H)) (λ done m. left (metBy st) m) → outcomeOf r ≡ figuresOf (within (st .remaining) (endsAt H here x))
@@ -214,11 +214,11 @@ back-length a s e h k =
     omega (arith, length-take-le a s h, ap length (tail-lent a s), length-drop a s)
 
 abbrev LookedAt : ℕ → List ℕ → ℕ → ℕ → Sweeping → Handled → Type 0
-LookedAt n s leaves j st looked-at = Looks (tail (12 * n) s) (tail (6 * n) s) leaves (getD s (4 * n + j) 0) (getD s (5 * n + j) 0) st looked-at
+LookedAt n s leaves j st looked-at = WithNearest (tail (12 * n) s) (tail (6 * n) s) leaves (getD s (4 * n + j) 0) (getD s (5 * n + j) 0) st looked-at
 
 module _ (s : List ℕ) (leaves j : ℕ) (st : Sweeping) where
   module _ (l : List Row) (F : List ℕ) (H b : ℕ) (active : List Row) (count : leaves ≡ 2 ^ H) (ready : Ready l F H b active s) where
-    look-is : (looked-at : Handled) → j < length l → LookedAt (length l) s leaves j st looked-at → outcomeOf looked-at ≡ within (st .remaining) (looking (lines l) H active (metBy st) (rowFrom l j))
+    look-is : (looked-at : Handled) → j < length l → LookedAt (length l) s leaves j st looked-at → outcomeOf looked-at ≡ within (st .remaining) (withNearest (lines l) H active (metBy st) (rowFrom l j))
     look-is looked-at h f =
         let n = length l in
         f (lines l) H active (rowFrom l j) count
@@ -232,7 +232,7 @@ module _ (s : List ℕ) (leaves j : ℕ) (st : Sweeping) where
   -- the searches were not paid for
   pub begins-not : (n : ℕ) (looked-at : Handled) (t : List ℕ) → j < n → LookedAt n s leaves j st looked-at → looked-at ≡ Spent → Begins s t n leaves j st Spent
   begins-not n looked-at t h f e l F H b active size count ready =
-      let looked = subst (λ (m : ℕ). j < m → LookedAt m s leaves j st looked-at → outcomeOf looked-at ≡ within (st .remaining) (looking (lines l) H active (metBy st) (rowFrom l j))) size (look-is l F H b active count ready looked-at) h f in
+      let looked = subst (λ (m : ℕ). j < m → LookedAt m s leaves j st looked-at → outcomeOf looked-at ≡ within (st .remaining) (withNearest (lines l) H active (metBy st) (rowFrom l j))) size (look-is l F H b active count ready looked-at) h f in
       (start-stops (lines l) H active st (rowFrom l j) looked-at looked e, λ to g. absurd (never to g))
 
   pub begins : (n : ℕ) (looked-at r : Handled) (seen : Sweeping) (e : List ℕ) → j < n → LookedAt n s leaves j st looked-at → looked-at ≡ Went seen → Pays leaves seen r
@@ -272,8 +272,8 @@ module _ (s : List ℕ) (n leaves j : ℕ) (a : AtStart s n leaves j) where
   pub start-net-small : getD s (5 * n + j) 0 < 2 ^ 32
   start-net-small = at-n (λ n. getD s (5 * n + j) 0 < 2 ^ 32) (λ h. omega (arith, net-word (a .l) (a .F) (a .H) (a .b) (a .active) s (a .ready) j h, net-small (a .l) (a .F) (a .H) (a .b) (a .active) s (a .ready) j h))
 
-  pub start-lookable : Lookable (tail (12 * n) s) (tail (6 * n) s) leaves (getD s (4 * n + j) 0)
-  start-lookable = at-n (λ n. Lookable (tail (12 * n) s) (tail (6 * n) s) leaves (getD s (4 * n + j) 0)) (λ h. lookable (a .l) (a .F) (a .H) (a .b) (a .active) s (a .ready) leaves (a .count) j h)
+  pub start-lookable : Searchable (tail (12 * n) s) (tail (6 * n) s) leaves (getD s (4 * n + j) 0)
+  start-lookable = at-n (λ n. Searchable (tail (12 * n) s) (tail (6 * n) s) leaves (getD s (4 * n + j) 0)) (λ h. lookable (a .l) (a .F) (a .H) (a .b) (a .active) s (a .ready) leaves (a .count) j h)
 
   pub start-enterable : Enterable n leaves (getD s (7 * n + j) 0) (getD s (4 * n + j) 0) (getD s (5 * n + j) 0) (tail (9 * n) s)
   start-enterable = at-n (λ n. Enterable n leaves (getD s (7 * n + j) 0) (getD s (4 * n + j) 0) (getD s (5 * n + j) 0) (tail (9 * n) s)) (λ h. enterable (a .l) (a .F) (a .H) (a .b) (a .active) s (a .ready) leaves (a .count) j h (a .early))

@@ -22,10 +22,10 @@ use Rattle.separation.specs.declared.search.Search.{Search}
 use Rattle.separation.specs.declared.search.Search.the-variants.{Found, Empty, Spent as Over}
 use Rattle.separation.specs.Figures.{Figures}
 use Rattle.separation.specs.Lines.{index}
-use Rattle.separation.specs.Searches.{otherIn, leaf, node, rightmost, leftmost, setRun}
+use Rattle.separation.specs.Searches.{otherIn, searchLeaf, searchNode, rightmost, leftmost, setRun}
 use Rattle.separation.specs.Inner.Searches.{searchOf}
-use Rattle.separation.specs.Inner.Summaries.{hasOther}
-use Rattle.separation.specs.Walk.{ownLine, otherLine, looking}
+use Rattle.separation.specs.Inner.Summaries.{summaryHasOther}
+use Rattle.separation.specs.Walk.{ownLine, otherLine, withNearest}
 use Rattle.separation.proofs.Lines.{other→, other-widen}
 use Rattle.separation.proofs.Searches.{Best, In, Below, From, right-best, left-best}
 use Rattle.separation.proofs.States.{went-on, stopped, stops, goes, gap-joins}
@@ -62,15 +62,15 @@ module _ (ls : List ℕ) (line : ℕ) (st : Sweeping) (o : Outcome (Option ℕ))
       goes t _ (rw (was-found o i m (sym h ∙ e)) (onward-left (some i) m _) ∙ (λ j. left (sym met j) (sym (ap (λ (z : Sweeping). z .remaining) g) j)))
 
 -- ---- where a search finds something
-found-leaf : (t : Bool) (s i : ℕ) → leaf t s .value ≡ some i → i ≡ s
+found-leaf : (t : Bool) (s i : ℕ) → searchLeaf t s .value ≡ some i → i ≡ s
 found-leaf true s i e = cc
 found-leaf false s i e = cc
 
-found-node : (t : Bool) (one two : Charged (Option ℕ)) (P : ℕ → Type 0) (i : ℕ) → (one .value ≡ some i → P i) → (two .value ≡ some i → P i) → node t one two .value ≡ some i → P i
+found-node : (t : Bool) (one two : Charged (Option ℕ)) (P : ℕ → Type 0) (i : ℕ) → (one .value ≡ some i → P i) → (two .value ≡ some i → P i) → searchNode t one two .value ≡ some i → P i
 found-node false one two P i f g e = absurd (let z : _≡_ {A = ℕ} 0 1 = cc in omega arith)
 found-node true one two P i f g e = go (one .value) refl e
   where
-    go : (v : Option ℕ) → one .value ≡ v → node true (record { value = v; cost = one .cost }) two .value ≡ some i → P i
+    go : (v : Option ℕ) → one .value ≡ v → searchNode true (record { value = v; cost = one .cost }) two .value ≡ some i → P i
     go none h e = g e
     go (some j) h e = f (h ∙ e)
 
@@ -134,18 +134,18 @@ module _ (ls : List ℕ) (h : ℕ) (active : List Row) (f : Figures) (x : Row) w
   then-joined : (m : ℕ) (c : Charged (Option ℕ)) (g : Figures) → within m (after c (λ v. free (otherLine ls (x .line) v g))) ≡ joined ls (x .line) g (within m c)
   then-joined m c g = within-after m c (λ v. free (otherLine ls (x .line) v g)) ∙ (λ i. onward (within m c) (λ v r. within-free r (otherLine ls (x .line) v g) i))
 
-  pub looking-spent : (m : ℕ) → within m (visit (free own)) ≡ spent → within m (looking ls h active f x) ≡ spent
-  unfolding looking
-  looking-spent m e = within-after m (visit (free own)) below ∙ rw e (onward-spent (λ b r. within r (below b)))
+  pub nearest-spent : (m : ℕ) → within m (visit (free own)) ≡ spent → within m (withNearest ls h active f x) ≡ spent
+  unfolding withNearest
+  nearest-spent m e = within-after m (visit (free own)) below ∙ rw e (onward-spent (λ b r. within r (below b)))
 
   onward-joined : (o : Outcome (Option ℕ)) (g : Figures) (k : Figures → ℕ → Outcome Figures) → onward o (λ v r. k (otherLine ls (x .line) v g) r) ≡ onward (joined ls (x .line) g o) k
   unfolding onward
   onward-joined spent g k = refl
   onward-joined (left v m) g k = refl
 
-  pub looking-paid : (n m : ℕ) (b : Bool) → within n (visit (free own)) ≡ left b m → within n (looking ls h active f x) ≡ onward (joined ls (x .line) (ownLine b f) (within m (rightmost (λ k. has) place h 1 0))) (λ g r. joined ls (x .line) g (within r (leftmost (λ k. has) (suc place) h 1 0)))
-  unfolding looking
-  looking-paid n m b e =
+  pub nearest-paid : (n m : ℕ) (b : Bool) → within n (visit (free own)) ≡ left b m → within n (withNearest ls h active f x) ≡ onward (joined ls (x .line) (ownLine b f) (within m (rightmost (λ k. has) place h 1 0))) (λ g r. joined ls (x .line) g (within r (leftmost (λ k. has) (suc place) h 1 0)))
+  unfolding withNearest
+  nearest-paid n m b e =
       within-after n (visit (free own)) below
       ∙ rw e (onward-left b m (λ b r. within r (below b)))
       ∙ within-after m (rightmost (λ k. has) place h 1 0) (λ v. above (otherLine ls (x .line) v (ownLine b f)))
@@ -156,7 +156,7 @@ module _ (ls : List ℕ) (h : ℕ) (active : List Row) (f : Figures) (x : Row) w
 module _ (tree fixed : List ℕ) (leaves line net : ℕ) (st : Sweeping) (ls : List ℕ) (H : ℕ) (active : List Row) (x : Row)
     (count : leaves ≡ 2 ^ H) (covers : Covers ls active (summaryAt tree) H) (values : take (length ls) fixed ≡ ls) (lined : Lined ls H active x line net) where
   abbrev stored : ℕ → ℕ → ℕ → Bool
-  stored k a b = hasOther (summaryAt tree k) net
+  stored k a b = summaryHasOther (summaryAt tree k) net
 
   abbrev others : ℕ → ℕ → ℕ → Bool
   others k = otherIn ls active (x .net)
@@ -170,13 +170,13 @@ module _ (tree fixed : List ℕ) (leaves line net : ℕ) (st : Sweeping) (ls : L
       rw (e, sym (lined .of)) (stored-left ls active (summaryAt tree) H covers (x .net) (suc (index ls (x .line))))
 
   -- the leaf of the own line
-  own-stored : hasOther (summaryAt tree (leaves + line)) net ≡ otherIn ls active (x .net) (index ls (x .line)) (suc (index ls (x .line)))
+  own-stored : summaryHasOther (summaryAt tree (leaves + line)) net ≡ otherIn ls active (x .net) (index ls (x .line)) (suc (index ls (x .line)))
   own-stored =
       let room : line + 1 ≤ 2 ^ H = omega (arith, lined .there, lined .enough) in
       let number : (2 ^ H + line) * 1 ≡ 2 ^ H + line = omega arith in
       let c = covers 0 (2 ^ H + line) line (record { number = number; room = room }) (x .net) in
       let s : line + 1 ≡ suc (index ls (x .line)) = omega (arith, lined .place) in
-      (λ i. hasOther (summaryAt tree (count i + line)) (sym (lined .of) i)) ∙ c ∙ (λ i. otherIn ls active (x .net) (sym (lined .place) i) (s i))
+      (λ i. summaryHasOther (summaryAt tree (count i + line)) (sym (lined .of) i)) ∙ c ∙ (λ i. otherIn ls active (x .net) (sym (lined .place) i) (s i))
 
   -- what a search finds is a line
   a-line : (i : ℕ) → otherIn ls active (x .net) i (i + 1) ≡ true → i < length ls
@@ -209,12 +209,12 @@ module _ (tree fixed : List ℕ) (leaves line net : ℕ) (st : Sweeping) (ls : L
   Joins t search r = (ls : List ℕ) (o : Outcome (Option ℕ)) → search ≡ searchOf o → take (length ls) fixed ≡ ls → WithinLines search line (length ls) → Gapped ls → outcomeOf r ≡ joined ls (getD ls line 0) (metBy t) o
 
   -- `has_other_at` was answered
-  module _ (at : OtherNet) (told : at ≡ otherNetOf (within (st .remaining) (visit (free (hasOther (summaryAt tree (leaves + line)) net))))) where
-    own-run : within (st .remaining) (visit (free (hasOther (summaryAt tree (leaves + line)) net))) ≡ within (st .remaining) (visit (free (otherIn ls active (x .net) (index ls (x .line)) (suc (index ls (x .line))))))
+  module _ (at : OtherNet) (told : at ≡ otherNetOf (within (st .remaining) (visit (free (summaryHasOther (summaryAt tree (leaves + line)) net))))) where
+    own-run : within (st .remaining) (visit (free (summaryHasOther (summaryAt tree (leaves + line)) net))) ≡ within (st .remaining) (visit (free (otherIn ls active (x .net) (index ls (x .line)) (suc (index ls (x .line))))))
     own-run = ap (λ (b : Bool). within (st .remaining) (visit (free b))) own-stored
 
-    pub look-none : at ≡ Unpaid → outcomeOf Spent ≡ within (st .remaining) (looking ls H active (metBy st) x)
-    look-none e = stops _ (looking-spent ls H active (metBy st) x (st .remaining) (sym own-run ∙ was-unpaid _ (sym e ∙ told)))
+    pub look-none : at ≡ Unpaid → outcomeOf Spent ≡ within (st .remaining) (withNearest ls H active (metBy st) x)
+    look-none e = stops _ (nearest-spent ls H active (metBy st) x (st .remaining) (sym own-run ∙ was-unpaid _ (sym e ∙ told)))
 
     module _ (own : Bool) (begun : Sweeping) (rest : ℕ) (known : at ≡ Known own rest) (search : Search) (handled : Handled) (b : metBy begun ≡ ownLine own (metBy st)) (d : begun .remaining ≡ rest)
         (s : (K : ℕ) → leaves ≡ 2 ^ K → search ≡ searchOf (within (begun .remaining) (rightmost stored line K 1 0))) (j : Joins begun search handled) where
@@ -229,14 +229,14 @@ module _ (tree fixed : List ℕ) (leaves line net : ℕ) (st : Sweeping) (ls : L
           j ls (within (begun .remaining) (rightmost stored line H 1 0)) (s H count) values (right-lines (begun .remaining) search (s H count)) (lined .gaps)
           ∙ (λ i. joined ls (lined .value i) (b i) (within (begun .remaining) (right-stored i)))
 
-      whole : within (st .remaining) (looking ls H active (metBy st) x) ≡ onward first second
-      whole = looking-paid ls H active (metBy st) x (st .remaining) (begun .remaining) own (sym own-run ∙ was-known _ own rest (sym known ∙ told) ∙ ap (left own) (sym d))
+      whole : within (st .remaining) (withNearest ls H active (metBy st) x) ≡ onward first second
+      whole = nearest-paid ls H active (metBy st) x (st .remaining) (begun .remaining) own (sym own-run ∙ was-known _ own rest (sym known ∙ told) ∙ ap (left own) (sym d))
 
-      pub look-stops : handled ≡ Spent → outcomeOf Spent ≡ within (st .remaining) (looking ls H active (metBy st) x)
+      pub look-stops : handled ≡ Spent → outcomeOf Spent ≡ within (st .remaining) (withNearest ls H active (metBy st) x)
       look-stops e = stops _ (whole ∙ rw (stopped handled first e first-is) (onward-spent second))
 
       pub look-on : (half : Sweeping) (above : Search) (r : Handled) → handled ≡ Went half → ((K : ℕ) → leaves ≡ 2 ^ K → above ≡ searchOf (within (half .remaining) (leftmost stored (line + 1) K 1 0))) → Joins half above r
-          → outcomeOf r ≡ within (st .remaining) (looking ls H active (metBy st) x)
+          → outcomeOf r ≡ within (st .remaining) (withNearest ls H active (metBy st) x)
       look-on half above r e t k =
           k ls (within (half .remaining) (leftmost stored (line + 1) H 1 0)) (t H count) values (left-lines (half .remaining) above (t H count)) (lined .gaps)
           ∙ (λ i. joined ls (lined .value i) (metBy half) (within (half .remaining) (left-stored i)))

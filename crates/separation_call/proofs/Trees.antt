@@ -14,8 +14,8 @@ use Rattle.rows.specs.Rows.{Row}
 use Rattle.separation.specs.declared.summary.NetSummary.{NetSummary}
 use Rattle.separation.specs.declared.summary.NetSummary.the-variants.{Nothing}
 use Rattle.separation.specs.Lines.{index}
-use Rattle.separation.specs.Searches.{otherIn, leaf, node, rightmost, leftmost}
-use Rattle.separation.specs.Inner.Summaries.{hasOther}
+use Rattle.separation.specs.Searches.{otherIn, searchLeaf, searchNode, rightmost, leftmost}
+use Rattle.separation.specs.Inner.Summaries.{summaryHasOther}
 use Rattle.separation.specs.Walk.{remove}
 use Rattle.separation.proofs.Lines.{other→, →other, other-join, leaf-nets}
 use Rattle.separation.proofs.Summaries.{summaryOf, both, summary-decides}
@@ -43,25 +43,25 @@ node-high H h k s n =
 module _ (has other : ℕ → ℕ → ℕ → Bool) (H q : ℕ) (agree : (h k s : ℕ) → NodeAt H h k s → has k s (s + 2 ^ h) ≡ other k s (s + 2 ^ h)) where
   pub right-same : (h k s : ℕ) → NodeAt H h k s → rightmost has q h k s ≡ rightmost other q h k s
   unfolding rightmost
-  right-same zero k s n = ap (λ (b : Bool). leaf (ltb s q && b) s) (agree zero k s n)
-  right-same (suc h) k s n = λ i. node (ltb s q && agree (suc h) k s n i) (right-same h (2 * k + 1) (s + 2 ^ h) (node-high H h k s n) i) (right-same h (2 * k) s (node-low H h k s n) i)
+  right-same zero k s n = ap (λ (b : Bool). searchLeaf (ltb s q && b) s) (agree zero k s n)
+  right-same (suc h) k s n = λ i. searchNode (ltb s q && agree (suc h) k s n i) (right-same h (2 * k + 1) (s + 2 ^ h) (node-high H h k s n) i) (right-same h (2 * k) s (node-low H h k s n) i)
 
   pub left-same : (h k s : ℕ) → NodeAt H h k s → leftmost has q h k s ≡ leftmost other q h k s
   unfolding leftmost
-  left-same zero k s n = ap (λ (b : Bool). leaf (ltb q (s + 1) && b) s) (agree zero k s n)
-  left-same (suc h) k s n = λ i. node (ltb q (s + 2 ^ suc h) && agree (suc h) k s n i) (left-same h (2 * k) s (node-low H h k s n) i) (left-same h (2 * k + 1) (s + 2 ^ h) (node-high H h k s n) i)
+  left-same zero k s n = ap (λ (b : Bool). searchLeaf (ltb q (s + 1) && b) s) (agree zero k s n)
+  left-same (suc h) k s n = λ i. searchNode (ltb q (s + 2 ^ suc h) && agree (suc h) k s n i) (left-same h (2 * k) s (node-low H h k s n) i) (left-same h (2 * k + 1) (s + 2 ^ h) (node-high H h k s n) i)
 
 -- so the searches over the stored summaries are those of the walk
 module _ (ls : List ℕ) (active : List Row) (t : ℕ → NetSummary) (H : ℕ) (covers : Covers ls active t H) (n q : ℕ) where
-  pub stored-right : rightmost (λ k a b. hasOther (t k) n) q H 1 0 ≡ rightmost (λ k. otherIn ls active n) q H 1 0
-  stored-right = right-same (λ k a b. hasOther (t k) n) (λ k. otherIn ls active n) H q (λ h k s x. covers h k s x n) H 1 0 (node-root H)
+  pub stored-right : rightmost (λ k a b. summaryHasOther (t k) n) q H 1 0 ≡ rightmost (λ k. otherIn ls active n) q H 1 0
+  stored-right = right-same (λ k a b. summaryHasOther (t k) n) (λ k. otherIn ls active n) H q (λ h k s x. covers h k s x n) H 1 0 (node-root H)
 
-  pub stored-left : leftmost (λ k a b. hasOther (t k) n) q H 1 0 ≡ leftmost (λ k. otherIn ls active n) q H 1 0
-  stored-left = left-same (λ k a b. hasOther (t k) n) (λ k. otherIn ls active n) H q (λ h k s x. covers h k s x n) H 1 0 (node-root H)
+  pub stored-left : leftmost (λ k a b. summaryHasOther (t k) n) q H 1 0 ≡ leftmost (λ k. otherIn ls active n) q H 1 0
+  stored-left = left-same (λ k a b. summaryHasOther (t k) n) (λ k. otherIn ls active n) H q (λ h k s x. covers h k s x n) H 1 0 (node-root H)
 
 -- ---- two neighbouring ranges, and one line
 module _ (ls : List ℕ) (active : List Row) where
-  pub merged-decides : (s t u : NetSummary) (a b c : ℕ) → a ≤ b → b ≤ c → ((n : ℕ) → hasOther u n ≡ (hasOther s n || hasOther t n)) → Decides ls active s a b → Decides ls active t b c → Decides ls active u a c
+  pub merged-decides : (s t u : NetSummary) (a b c : ℕ) → a ≤ b → b ≤ c → ((n : ℕ) → summaryHasOther u n ≡ (summaryHasOther s n || summaryHasOther t n)) → Decides ls active s a b → Decides ls active t b c → Decides ls active u a c
   merged-decides s t u a b c h k m p q n = m n ∙ (λ i. p n i || q n i) ∙ other-join ls active n a b c h k
 
   -- a leaf: any list of the nets that are active on its line, in any order, one net once or more often
@@ -143,7 +143,7 @@ Merging ls new t H c = (h k s : ℕ) → NodeAt H h k s → (Upwards c k → ⊥
 module _ (ls : List ℕ) (new : List Row) (H : ℕ) where
   -- the leaf is written
   pub merging-begins : (old : List Row) (t u : ℕ → NetSummary) (i : ℕ) → SameOff ls old new i → Covers ls old t H → Decides ls new (u (2 ^ H + i)) i (i + 1) → ((k : ℕ) → (k ≡ 2 ^ H + i → ⊥) → u k ≡ t k) → Merging ls new u H ((2 ^ H + i) / 2)
-  merging-begins old t u i off covers leaf rest h k s n clear = go h n
+  merging-begins old t u i off covers searchLeaf rest h k s n clear = go h n
     where
       leaf-is : (h : ℕ) → NodeAt H h k s → k ≡ 2 ^ H + i → (h ≡ 0) × (s ≡ i)
       leaf-is zero n e = (refl, omega (arith, n .number))
@@ -151,7 +151,7 @@ module _ (ls : List ℕ) (new : List Row) (H : ℕ) where
 
       -- off the leaf nothing has changed
       outside : (h : ℕ) → NodeAt H h k s → Outside i s (s + 2 ^ h) → Decides ls new (u k) s (s + 2 ^ h)
-      outside h n o m = ap (λ (z : NetSummary). hasOther z m) (rest k other) ∙ covers h k s n m ∙ off m s (s + 2 ^ h) o
+      outside h n o m = ap (λ (z : NetSummary). summaryHasOther z m) (rest k other) ∙ covers h k s n m ∙ off m s (s + 2 ^ h) o
         where
           other : k ≡ 2 ^ H + i → ⊥
           other e = let g = leaf-is h n e in elim o [ inl x ↦ omega (arith, g .1) | inr x ↦ omega (arith, g .1, pow-pos h) ]
@@ -163,7 +163,7 @@ module _ (ls : List ℕ) (new : List Row) (H : ℕ) where
       ]
         where
           at-leaf : (h : ℕ) → NodeAt H h k s → k ≡ 2 ^ H + i → Decides ls new (u k) s (s + 2 ^ h)
-          at-leaf zero n e = let g = leaf-is zero n e .1 in rw (e, g) leaf
+          at-leaf zero n e = let g = leaf-is zero n e .1 in rw (e, g) searchLeaf
           at-leaf (suc h) n e = absurd (omega (arith, inner-small H h k s n))
 
       go : (h : ℕ) → NodeAt H h k s → Decides ls new (u k) s (s + 2 ^ h)
@@ -173,9 +173,9 @@ module _ (ls : List ℕ) (new : List Row) (H : ℕ) where
       ]
 
   -- a node is merged anew from its children
-  pub merging-goes-on : (t u : ℕ → NetSummary) (c : ℕ) → 0 < c → c < 2 ^ H → ((n : ℕ) → hasOther (u c) n ≡ (hasOther (t (2 * c)) n || hasOther (t (2 * c + 1)) n)) → ((k : ℕ) → (k ≡ c → ⊥) → u k ≡ t k) → Merging ls new t H c → Merging ls new u H (c / 2)
+  pub merging-goes-on : (t u : ℕ → NetSummary) (c : ℕ) → 0 < c → c < 2 ^ H → ((n : ℕ) → summaryHasOther (u c) n ≡ (summaryHasOther (t (2 * c)) n || summaryHasOther (t (2 * c + 1)) n)) → ((k : ℕ) → (k ≡ c → ⊥) → u k ≡ t k) → Merging ls new t H c → Merging ls new u H (c / 2)
   merging-goes-on t u c some small merged rest m h k s n clear = elim (same-or-not k c) [
-    | inr o ↦ λ j. ap (λ (z : NetSummary). hasOther z j) (rest k o) ∙ m h k s n (λ p. elim (upwards-next p) [ inl e ↦ o e | inr g ↦ clear g ]) j
+    | inr o ↦ λ j. ap (λ (z : NetSummary). summaryHasOther z j) (rest k o) ∙ m h k s n (λ p. elim (upwards-next p) [ inl e ↦ o e | inr g ↦ clear g ]) j
     | inl e ↦ at h n e
   ]
     where
@@ -184,7 +184,7 @@ module _ (ls : List ℕ) (new : List Row) (H : ℕ) where
       at (suc h) n e =
           let low = m h (2 * k) s (node-low H h k s n) (λ p. omega (arith, upwards-le p)) in
           let high = m h (2 * k + 1) (s + 2 ^ h) (node-high H h k s n) (λ p. omega (arith, upwards-le p)) in
-          let joined = subst (λ (z : ℕ). (n : ℕ) → hasOther (u z) n ≡ (hasOther (t (2 * z)) n || hasOther (t (2 * z + 1)) n)) (sym e) merged in
+          let joined = subst (λ (z : ℕ). (n : ℕ) → summaryHasOther (u z) n ≡ (summaryHasOther (t (2 * z)) n || summaryHasOther (t (2 * z + 1)) n)) (sym e) merged in
           let whole = merged-decides ls new (t (2 * k)) (t (2 * k + 1)) (u k) s (s + 2 ^ h) (s + 2 ^ h + 2 ^ h) (omega arith) (omega arith) joined low high in
           let w : s + 2 ^ h + 2 ^ h ≡ s + 2 ^ suc h = omega (arith, pow-succ' 2 h) in
           subst (Decides ls new (u k) s) w whole
@@ -195,5 +195,5 @@ module _ (ls : List ℕ) (new : List Row) (H : ℕ) where
 
 -- before the first event no net is active
 pub nothing-covers : (ls : List ℕ) (H : ℕ) (t : ℕ → NetSummary) → ((k : ℕ) → 0 < k → k < 2 * 2 ^ H → t k ≡ Nothing) → Covers ls [] t H
-unfolding otherIn hasOther some-of
-nothing-covers ls H t e h k s n m = ap (λ (z : NetSummary). hasOther z m) (e k (some-number H h k s n) (node-small H h k s n))
+unfolding otherIn summaryHasOther some-of
+nothing-covers ls H t e h k s n m = ap (λ (z : NetSummary). summaryHasOther z m) (e k (some-number H h k s n) (node-small H h k s n))

@@ -18,7 +18,7 @@ use separation::SeparationAnswer;
 use separation::Swept;
 use separation::answer_of;
 use separation::check_separation;
-use separation::together;
+use separation::combined;
 use separation::too_few;
 
 // The walk over a fit drawing: horizontal segments first, then vertical ones with the remaining visits.
@@ -55,7 +55,7 @@ fn walk_segments(
     let Swept::Went(down) = second else {
         return Swept::Spent;
     };
-    Swept::Went(together(across, down))
+    Swept::Went(combined(across, down))
 }
 
 pub fn measure_parallel_separation_bounded(

@@ -3,7 +3,7 @@ ghost use mathlib.Core.Path.{_≡_};
 ghost use Prim.Native.Nat.{_*_, _≤_};
 ghost use lib.ListN.{length};
 ghost use Rattle.rows.specs.Inner.Tables.{column};
-ghost use Rattle.separation_call.specs.Inner.Numbered.{Slottable, WordsFilled, WordsInOrder, slotOf, HandedOut, SlotsAssigned};
+ghost use Rattle.separation_call.specs.Inner.Numbered.{Slottable, WordsFilled, WordsInOrder, slotOf, SlotsPut, SlotsAssigned};
 use sorting::sort_indices;
 
 // A word is made of a line, a net and a segment's index. The index has the lowest 12 bits, so the net is multiplied by 2^12.
@@ -36,9 +36,9 @@ fn slot_of(k: usize, slot: usize, last: u64, group: u64) -> usize
 }
 
 // Words of the same line and net are adjacent in column 8. The index of the first of them is their slot. It is stored in column 7, at the index that each of them has in its low 12 bits.
-fn hand_out(s: &mut [u64], n: usize)
+fn put_slots(s: &mut [u64], n: usize)
     requires { ⌜ (9 * n ≤ length (now s)) × WordsInOrder n (column n 8 (now s)) ⌝ }
-    ensures { λ _. ⌜ HandedOut n (now (s .entry)) (now (s .exit)) ⌝ }
+    ensures { λ _. ⌜ SlotsPut n (now (s .entry)) (now (s .exit)) ⌝ }
 {
     let mut slot = 0;
     let mut last = 0;
@@ -62,5 +62,5 @@ pub(crate) fn assign_slots(s: &mut [u64], n: usize)
 {
     fill_words(s, n);
     sort_indices(&mut s[8 * n..], n, n, 0);
-    hand_out(s, n);
+    put_slots(s, n);
 }

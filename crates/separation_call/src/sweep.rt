@@ -7,7 +7,7 @@ ghost use lib.ListN.{length, getD, take};
 ghost use Rattle.laws.specs.Inner.Allowance.{Outcome};
 ghost use Rattle.separation.specs.Inner.Searches.{searchOf};
 ghost use Rattle.separation.specs.Inner.States.{metBy, outcomeOf};
-ghost use Rattle.separation_call.specs.Inner.Sweeping.{WithinLines, Gapped, joined, Lookable, Looks, Enterable, Leavable, Pays, Entered, TakenOut, AtStart, AtEnd, Begins, Finishes};
+ghost use Rattle.separation_call.specs.Inner.Sweeping.{WithinLines, Gapped, joined, Searchable, WithNearest, Enterable, Leavable, Pays, Entered, TakenOut, AtStart, AtEnd, Begins, Finishes};
 use crate::nets::end_net;
 use crate::nets::start_net;
 use crate::tree::has_other_at;
@@ -44,7 +44,7 @@ fn with_search(fixed: &[u64], line: usize, search: Search, state: Sweeping) -> H
 }
 
 // What a start searches (SCOPE 5.10): whether another net is on its own line, and the nearest line with another net on either side.
-fn look(
+fn with_nearest(
     tree: &[u64],
     leaves: usize,
     fixed: &[u64],
@@ -52,8 +52,8 @@ fn look(
     net: u32,
     state: Sweeping,
 ) -> Handled
-    requires { ⌜ Lookable (now tree) (now fixed) leaves line ⌝ }
-    ensures { λ r. ⌜ Looks (now (tree .entry)) (now (fixed .entry)) leaves line net state r ⌝ }
+    requires { ⌜ Searchable (now tree) (now fixed) leaves line ⌝ }
+    ensures { λ r. ⌜ WithNearest (now (tree .entry)) (now (fixed .entry)) leaves line net state r ⌝ }
 {
     let at = has_other_at(tree, leaves, line, net, state.remaining);
     let OtherNet::Known(own, rest) = at else {
@@ -121,7 +121,7 @@ pub(crate) fn start_event(
     let line = s[4 * n + j] as usize;
     let net = s[5 * n + j] as u32;
     let slot = s[7 * n + j] as usize;
-    let handled = look(&s[12 * n..], leaves, &s[6 * n..], line, net, state);
+    let handled = with_nearest(&s[12 * n..], leaves, &s[6 * n..], line, net, state);
     let Handled::Went(seen) = handled else {
         return Handled::Spent;
     };

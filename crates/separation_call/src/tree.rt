@@ -7,7 +7,7 @@ ghost use Rattle.laws.specs.Inner.Allowance.{within};
 ghost use Rattle.separation.specs.Lines.{levels};
 ghost use Rattle.separation.specs.Searches.{rightmost, leftmost, setRun};
 ghost use Rattle.separation.specs.Inner.Searches.{searchOf};
-ghost use Rattle.separation.specs.Inner.Summaries.{hasOther};
+ghost use Rattle.separation.specs.Inner.Summaries.{summaryHasOther};
 ghost use Rattle.separation_call.specs.Inner.ActiveTree.{summaryAt, otherNetOf, chargeOf, Leaves, Below, Renewed};
 use separation::Charge;
 use separation::NetSummary;
@@ -31,7 +31,7 @@ pub(crate) fn leaf_count(coordinate_count: usize) -> usize
 // Whether another net than the excluded one is active below a node.
 fn other_below(tree: &[u64], node: usize, excluded: u32) -> bool
     requires { ⌜ node < length (now tree) ⌝ }
-    ensures { λ r. ⌜ r ≡ hasOther (summaryAt (now (tree .entry)) node) excluded ⌝ }
+    ensures { λ r. ⌜ r ≡ summaryHasOther (summaryAt (now (tree .entry)) node) excluded ⌝ }
 {
     let summary = summary_of_word(tree[node]);
     summary.has_other(excluded)
@@ -47,7 +47,7 @@ pub(crate) fn has_other_at(
 ) -> OtherNet
     requires { ⌜ Leaves (now tree) leaves ⌝ }
     requires { ⌜ index < leaves ⌝ }
-    ensures { λ r. ⌜ r ≡ otherNetOf (within remaining (visit (free (hasOther (summaryAt (now (tree .entry)) (leaves + index)) excluded)))) ⌝ }
+    ensures { λ r. ⌜ r ≡ otherNetOf (within remaining (visit (free (summaryHasOther (summaryAt (now (tree .entry)) (leaves + index)) excluded)))) ⌝ }
 {
     if remaining == 0 {
         return OtherNet::Spent;
@@ -67,7 +67,7 @@ fn search_rightmost(
     remaining: usize,
 ) -> Search
     requires { ⌜ Below (now tree) node start end ⌝ }
-    ensures { λ r. ⌜ ((h : ℕ) → end ≡ start + 2 ^ h → r ≡ searchOf (within remaining (rightmost (λ k a b. hasOther (summaryAt (now (tree .entry)) k) excluded) «query_end» h node start))) ⌝ }
+    ensures { λ r. ⌜ ((h : ℕ) → end ≡ start + 2 ^ h → r ≡ searchOf (within remaining (rightmost (λ k a b. summaryHasOther (summaryAt (now (tree .entry)) k) excluded) «query_end» h node start))) ⌝ }
 {
     if remaining == 0 {
         return Search::Spent;
@@ -105,7 +105,7 @@ fn search_leftmost(
     remaining: usize,
 ) -> Search
     requires { ⌜ Below (now tree) node start end ⌝ }
-    ensures { λ r. ⌜ ((h : ℕ) → end ≡ start + 2 ^ h → r ≡ searchOf (within remaining (leftmost (λ k a b. hasOther (summaryAt (now (tree .entry)) k) excluded) «query_start» h node start))) ⌝ }
+    ensures { λ r. ⌜ ((h : ℕ) → end ≡ start + 2 ^ h → r ≡ searchOf (within remaining (leftmost (λ k a b. summaryHasOther (summaryAt (now (tree .entry)) k) excluded) «query_start» h node start))) ⌝ }
 {
     if remaining == 0 {
         return Search::Spent;
@@ -140,7 +140,7 @@ pub(crate) fn rightmost_other(
     remaining: usize,
 ) -> Search
     requires { ⌜ Leaves (now tree) leaves ⌝ }
-    ensures { λ r. ⌜ ((H : ℕ) → leaves ≡ 2 ^ H → r ≡ searchOf (within remaining (rightmost (λ k a b. hasOther (summaryAt (now (tree .entry)) k) excluded) end H 1 0))) ⌝ }
+    ensures { λ r. ⌜ ((H : ℕ) → leaves ≡ 2 ^ H → r ≡ searchOf (within remaining (rightmost (λ k a b. summaryHasOther (summaryAt (now (tree .entry)) k) excluded) end H 1 0))) ⌝ }
 {
     search_rightmost(tree, 1, 0, leaves, end, excluded, remaining)
 }
@@ -153,7 +153,7 @@ pub(crate) fn leftmost_other(
     remaining: usize,
 ) -> Search
     requires { ⌜ Leaves (now tree) leaves ⌝ }
-    ensures { λ r. ⌜ ((H : ℕ) → leaves ≡ 2 ^ H → r ≡ searchOf (within remaining (leftmost (λ k a b. hasOther (summaryAt (now (tree .entry)) k) excluded) start H 1 0))) ⌝ }
+    ensures { λ r. ⌜ ((H : ℕ) → leaves ≡ 2 ^ H → r ≡ searchOf (within remaining (leftmost (λ k a b. summaryHasOther (summaryAt (now (tree .entry)) k) excluded) start H 1 0))) ⌝ }
 {
     search_leftmost(tree, 1, 0, leaves, start, excluded, remaining)
 }

@@ -7,54 +7,54 @@ use native.Mathlib.Numerals.{add-one}
 use native.Mathlib.Omega.{arith}
 use lib.ListN.{length, getD, set, take, drop, length-append, length-set}
 use lib.Seq.{sets, sets-eq, set-out, take-suc, take-all}
-use Rattle.text.specs.Inner.TextPut.{lastIndex, behind, stored, Put}
+use Rattle.text.specs.Inner.TextPut.{lastIndex, indexAfter, stored, Put}
 
 -- ---- the index after a text
-behind-none : (at : ℕ) → behind at 0 ≡ at
-unfolding behind
+behind-none : (at : ℕ) → indexAfter at 0 ≡ at
+unfolding indexAfter
 behind-none at = omega arith
 
-behind-both : (at j k : ℕ) → behind (behind at j) k ≡ behind at (j + k)
-unfolding behind
+behind-both : (at j k : ℕ) → indexAfter (indexAfter at j) k ≡ indexAfter at (j + k)
+unfolding indexAfter
 behind-both at j k = omega arith
 
-pub behind-near : (at k : ℕ) → at + k ≤ lastIndex → behind at k ≡ at + k
-unfolding behind
+pub behind-near : (at k : ℕ) → at + k ≤ lastIndex → indexAfter at k ≡ at + k
+unfolding indexAfter
 behind-near at k h = omega arith
 
 -- ---- what is stored
 -- one text after another is both
-stored-append : (s : List ℕ) (at : ℕ) (a b : List ℕ) → stored (stored s at a) (behind at (length a)) b ≡ stored s at (a ++ b)
+stored-append : (s : List ℕ) (at : ℕ) (a b : List ℕ) → stored (stored s at a) (indexAfter at (length a)) b ≡ stored s at (a ++ b)
 unfolding stored
 stored-append s at [] b = ap (λ (k : ℕ). stored s k b) (behind-none at)
 stored-append s at (x ∷ a) b =
     let l : length (x ∷ a) ≡ 1 + length a = omega arith in
-    ap (λ (k : ℕ). stored (stored (set s at x) (behind at 1) a) k b) (ap (behind at) l ∙ sym (behind-both at 1 (length a))) ∙ stored-append (set s at x) (behind at 1) a b
+    ap (λ (k : ℕ). stored (stored (set s at x) (indexAfter at 1) a) k b) (ap (indexAfter at) l ∙ sym (behind-both at 1 (length a))) ∙ stored-append (set s at x) (indexAfter at 1) a b
 
 -- where a usize can hold every index, it is the kit's run of stores
 stored-near : (s : List ℕ) (at : ℕ) (t : List ℕ) → at + length t ≤ lastIndex → stored s at t ≡ sets s at t
 unfolding stored
 stored-near s at [] h = refl
 stored-near s at (x ∷ t) h =
-    let n : behind at 1 ≡ suc at = behind-near at 1 (omega arith) ∙ add-one at in
+    let n : indexAfter at 1 ≡ suc at = behind-near at 1 (omega arith) ∙ add-one at in
     ap (λ (k : ℕ). stored (set s at x) k t) n ∙ stored-near (set s at x) (suc at) t (omega arith)
 
 length-stored : (s : List ℕ) (at : ℕ) (t : List ℕ) → length (stored s at t) ≡ length s
 unfolding stored
 length-stored s at [] = refl
-length-stored s at (x ∷ t) = length-stored (set s at x) (behind at 1) t ∙ length-set s at x
+length-stored s at (x ∷ t) = length-stored (set s at x) (indexAfter at 1) t ∙ length-set s at x
 
 -- ---- texts put
 pub put-none : (k : ℕ) (s : List ℕ) (at : ℕ) → Put k s at [] s at
 unfolding stored
 put-none k s at = record { is-stored = refl; ended = sym (behind-none at); short = omega arith }
 
-pub put-one : (s : List ℕ) (at b : ℕ) {n : ℕ} → n ≡ behind at 1 → Put 1 s at (b ∷ []) (set s at b) n
+pub put-one : (s : List ℕ) (at b : ℕ) {n : ℕ} → n ≡ indexAfter at 1 → Put 1 s at (b ∷ []) (set s at b) n
 unfolding stored
 put-one s at b e = record { is-stored = refl; ended = e; short = omega arith }
 
 -- a byte past the buffer's end
-pub put-out : (s : List ℕ) (at b : ℕ) {n : ℕ} → length s ≤ at → n ≡ behind at 1 → Put 1 s at (b ∷ []) s n
+pub put-out : (s : List ℕ) (at b : ℕ) {n : ℕ} → length s ≤ at → n ≡ indexAfter at 1 → Put 1 s at (b ∷ []) s n
 unfolding stored
 put-out s at b h e = record { is-stored = sym (set-out s at b h); ended = e; short = omega arith }
 
@@ -68,7 +68,7 @@ put-both {s} {at} {a} {e} {m} {b} p q =
     let l : length (a ++ b) ≡ length a + length b = length-append a b in
     record {
       is-stored = q .is-stored ∙ ap (λ (z : List ℕ). stored z m b) (p .is-stored) ∙ ap (λ (z : ℕ). stored (stored s at a) z b) (p .ended) ∙ stored-append s at a b;
-      ended = q .ended ∙ ap (λ (z : ℕ). behind z (length b)) (p .ended) ∙ behind-both at (length a) (length b) ∙ ap (behind at) (sym l);
+      ended = q .ended ∙ ap (λ (z : ℕ). indexAfter z (length b)) (p .ended) ∙ behind-both at (length a) (length b) ∙ ap (indexAfter at) (sym l);
       short = omega arith;
     }
 

@@ -26,5 +26,5 @@ decimal zero = glyph 0 ∷ []
 decimal (suc n) = leading (suc n) (suc n)
 
 -- SCOPE 11.3: "Floats are 16 lower-case hexadecimal digits of their bits"
-unfoldable pub float : Float → List ℕ
-float x = hexadecimal 16 (toBits binary64 x)
+unfoldable pub floatText : Float → List ℕ
+floatText x = hexadecimal 16 (toBits binary64 x)

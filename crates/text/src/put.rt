@@ -10,8 +10,8 @@ use floats::bits_of;
 
 const LAST_INDEX: usize = 0xffff_ffff_ffff_ffff;
 
-fn behind(at: usize, count: usize) -> usize
-    ensures { λ r. ⌜ r ≡ TextPut.behind at count ⌝ }
+fn index_after(at: usize, count: usize) -> usize
+    ensures { λ r. ⌜ r ≡ TextPut.indexAfter at count ⌝ }
 {
     if count < LAST_INDEX - at {
         at + count
@@ -23,7 +23,7 @@ fn behind(at: usize, count: usize) -> usize
 pub fn put_byte(byte: u8, text: &mut [u8], at: usize) -> usize
     ensures { λ r. ⌜ Put 1 (now (text .entry)) at (byte ∷ []) (now (text .exit)) r ⌝ }
 {
-    let next = behind(at, 1);
+    let next = index_after(at, 1);
     if at >= text.len() {
         return next;
     }
@@ -89,7 +89,7 @@ pub fn put_decimal(n: u64, text: &mut [u8], at: usize) -> usize
 }
 
 pub fn put_float(x: f64, text: &mut [u8], at: usize) -> usize
-    ensures { λ r. ⌜ Put 16 (now (text .entry)) at (Text.float x) (now (text .exit)) r ⌝ }
+    ensures { λ r. ⌜ Put 16 (now (text .entry)) at (Text.floatText x) (now (text .exit)) r ⌝ }
 {
     put_hexadecimal(16, bits_of(x), text, at)
 }

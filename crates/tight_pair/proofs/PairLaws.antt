@@ -39,7 +39,7 @@ use Rattle.clearance.specs.Tree.{indexed}
 use Rattle.exemptions.specs.Inner.Exempting.{Rising, Holds, Gathered, Own, Listed}
 use Rattle.tight_pair.specs.Conditions.{tightPairConditions}
 use Rattle.tight_pair.specs.Inner.Looking.{nearer, noPair, bestWith, inTurn, lookNodes, lookSegments}
-use Rattle.tight_pair.specs.TightPair.{Tight, found, answer, Answered}
+use Rattle.tight_pair.specs.TightPair.{Tight, pairIfAny, tightPairAnswer, Answered}
 use Rattle.drawing.proofs.Fit.{FitSegment, FitNode}
 use Rattle.boxes.proofs.BoxLaws.{fit-node, fit-segment, distance-good}
 use Rattle.boxes.proofs.AnyBoxes.{any-distance-good}
@@ -270,8 +270,8 @@ module _ (ex : List Exemption) (ss : List Segment) (ns : List Node) where
 -- ---- the answer
 -- what is found at the least distance of all is tight
 module _ (ex : List Exemption) (ss : List Segment) (ns : List Node) (b : Best) (p : Looked ex ss ns (distances ex ss ns) b) where
-  is-tight : (g : Gap) → b .least ≡ g → (i j : ℕ) → found g (b .segment, b .node) ≡ Pair i j → Tight ex ss ns i j
-  unfolding found
+  is-tight : (g : Gap) → b .least ≡ g → (i j : ℕ) → pairIfAny g (b .segment, b .node) ≡ Pair i j → Tight ex ss ns i j
+  unfolding pairIfAny
   is-tight Absent h i j e = let z : _≡_ {A = ℕ} 0 1 = cc in absurd (omega arith)
   is-tight (Present d) h i j e =
       let q = p .place d h in
@@ -288,7 +288,7 @@ module _ (ex : List Exemption) (ss : List Segment) (ns : List Node) (b : Best) (
 
 module _ (s : SegmentColumns) (n : NodeColumns) (e : ExemptionColumns) where
   pub answer-refused : (why : Refusal) → firstOf (tightPairConditions s n e) ≡ Stopped why → Answered s n e (Refused why)
-  unfolding answer
+  unfolding tightPairAnswer
   answer-refused why h = record { choice = (0, 0); is = rw h; tight = λ i j g. let z : _≡_ {A = ℕ} 0 1 = cc in absurd (omega arith) }
 
   module _ (passed : firstOf (tightPairConditions s n e) ≡ Passed) (held : FloatsLent s n) (before words : List ℕ) (gathered : Gathered e before words)
@@ -301,10 +301,10 @@ module _ (s : SegmentColumns) (n : NodeColumns) (e : ExemptionColumns) where
         subst LookedAtAll (sym (looked (exemptions e) (gathered .holds) (sym (gathered .count))))
         (all-looked (exemptions e) (segments s) (nodes n) (pair-segments s n e passed held) (pair-nodes s n e passed held))
 
-    pub answered : (r : TightPair) → r ≡ found (b .least) (b .segment, b .node) → Answered s n e r
-    unfolding answer
+    pub answered : (r : TightPair) → r ≡ pairIfAny (b .least) (b .segment, b .node) → Answered s n e r
+    unfolding tightPairAnswer
     answered r is = record {
       choice = (b .segment, b .node);
-      is = is ∙ rw passed (ap (λ (g : Gap). found g (b .segment, b .node)) (best .least));
+      is = is ∙ rw passed (ap (λ (g : Gap). pairIfAny g (b .segment, b .node)) (best .least));
       tight = λ i j g. is-tight (exemptions e) (segments s) (nodes n) b best (b .least) refl i j (sym is ∙ g);
     }

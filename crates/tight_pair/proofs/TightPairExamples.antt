@@ -12,14 +12,14 @@ use Rattle.floats.specs.Values.{greaterOf}
 use Rattle.drawing.specs.Entries.{Segment, Node, SegmentColumns, NodeColumns, ExemptionColumns, segmentColumns, nodeColumns, exemptionColumns, segmentsOf, nodesOf, exemptionsOf, segments, nodes, exemptions}
 use Rattle.drawing.specs.Gaps.{gapFrom, leastGap}
 use Rattle.drawing.specs.Refusals.{numberOf, firstOf}
-use Rattle.drawing.specs.Conditions.{differ, tooMany, unfitLine, unfitSegment, unfitExtent, unfitBox, unfitNode}
+use Rattle.drawing.specs.Conditions.{differ, tooMany, unfitFields, unfitSegment, unfitExtent, unfitBox, unfitNode}
 use Rattle.drawing.specs.Checks.{segmentsDiffer, nodesDiffer, exemptionsDiffer, listConditions, entryConditions}
 use Rattle.tight_pair.specs.declared.TightPair.{TightPair}
 use Rattle.tight_pair.specs.declared.TightPair.the-variants.{Pair, Absent}
 use Rattle.boxes.specs.Boxes.{fromNode, fromSegment, nodeBox, segmentBox, axisGap, distance}
 use Rattle.clearance.specs.Figures.{exempt, distances}
 use Rattle.tight_pair.specs.Conditions.{tightPairConditions}
-use Rattle.tight_pair.specs.TightPair.{Tight, found, answer, Answered, resultOf}
+use Rattle.tight_pair.specs.TightPair.{Tight, pairIfAny, tightPairAnswer, Answered, resultOf}
 
 abbrev float : ℕ → Float
 float bits = ofBits binary64 bits
@@ -44,18 +44,18 @@ refusal n = (n, none)
 
 pub record PairExamples : Type 0 where
   -- in D there is a pair, whichever is chosen
-  pub d : (i j : ℕ) → answer d-segments d-nodes d-exemptions (i, j) ≡ Pair i j
+  pub d : (i j : ℕ) → tightPairAnswer d-segments d-nodes d-exemptions (i, j) ≡ Pair i j
   -- segment 0 and node 0 are tight
   pub d-tight : Tight (exemptions d-exemptions) (segments d-segments) (nodes d-nodes) 0 0
   -- without nodes, and where every pair is exempt, there is none
-  pub no-nodes-absent : (pair : ℕ × ℕ) → answer d-segments no-nodes d-exemptions pair ≡ Absent
-  pub all-exempt-absent : (pair : ℕ × ℕ) → answer d-segments d-nodes (exemptionColumns (1 ∷ 2 ∷ []) (7 ∷ 7 ∷ [])) pair ≡ Absent
+  pub no-nodes-absent : (pair : ℕ × ℕ) → tightPairAnswer d-segments no-nodes d-exemptions pair ≡ Absent
+  pub all-exempt-absent : (pair : ℕ × ℕ) → tightPairAnswer d-segments d-nodes (exemptionColumns (1 ∷ 2 ∷ []) (7 ∷ 7 ∷ [])) pair ≡ Absent
   -- columns of different lengths are refused by 2, and a segment of no length by 5, with an absent pair
-  pub columns-differ : (pair : ℕ × ℕ) → resultOf (answer d-segments d-nodes (exemptionColumns (2 ∷ []) []) pair) ≡ refusal 2
-  pub no-length : (pair : ℕ × ℕ) → resultOf (answer (segmentColumns (1 ∷ []) (1 ∷ []) (float 0 ∷ []) (float 0 ∷ []) (float 0 ∷ [])) d-nodes d-exemptions pair) ≡ refusal 5
+  pub columns-differ : (pair : ℕ × ℕ) → resultOf (tightPairAnswer d-segments d-nodes (exemptionColumns (2 ∷ []) []) pair) ≡ refusal 2
+  pub no-length : (pair : ℕ × ℕ) → resultOf (tightPairAnswer (segmentColumns (1 ∷ []) (1 ∷ []) (float 0 ∷ []) (float 0 ∷ []) (float 0 ∷ [])) d-nodes d-exemptions pair) ≡ refusal 5
 
 pub pair-examples : PairExamples
-unfolding ofBits toBits add sub lt some-of chosen cross lesser least greaterOf segmentsOf nodesOf exemptionsOf gapFrom leastGap numberOf firstOf differ tooMany unfitLine unfitSegment unfitExtent unfitBox unfitNode segmentsDiffer nodesDiffer exemptionsDiffer listConditions entryConditions tightPairConditions fromNode fromSegment nodeBox segmentBox axisGap distance exempt distances found answer resultOf
+unfolding ofBits toBits add sub lt some-of chosen cross lesser least greaterOf segmentsOf nodesOf exemptionsOf gapFrom leastGap numberOf firstOf differ tooMany unfitFields unfitSegment unfitExtent unfitBox unfitNode segmentsDiffer nodesDiffer exemptionsDiffer listConditions entryConditions tightPairConditions fromNode fromSegment nodeBox segmentBox axisGap distance exempt distances pairIfAny tightPairAnswer resultOf
 pair-examples = record {
   d = λ i j. refl;
   d-tight = record { segment = _; node = _; segment-at = refl; node-at = refl; free = refl; least = refl };

@@ -26,18 +26,18 @@ pub record Tight (ex : List Exemption) (ss : List Segment) (ns : List Node) (i j
   pub least : Present (distance (segmentBox segment) (nodeBox node)) ≡ leastGap (distances ex ss ns)
 
 -- SCOPE 12.2: the pair where there is a least clearance, "or absent if there is none"
-unfoldable pub found : Gap → ℕ × ℕ → TightPair
-found NoGap pair = Absent
-found (Present d) pair = Pair (pair .0) (pair .1)
+unfoldable pub pairIfAny : Gap → ℕ × ℕ → TightPair
+pairIfAny NoGap pair = Absent
+pairIfAny (Present d) pair = Pair (pair .0) (pair .1)
 
 -- SCOPE 12.1, 12.2: "checks 2, 3 and 5 of clearance, then answers any pair ..": which pair is left to the program, so it is an argument
-unfoldable pub answer : SegmentColumns → NodeColumns → ExemptionColumns → ℕ × ℕ → TightPair
-answer s n e pair = checked Refused (firstOf (tightPairConditions s n e)) (found (leastGap (distances (exemptions e) (segments s) (nodes n))) pair)
+unfoldable pub tightPairAnswer : SegmentColumns → NodeColumns → ExemptionColumns → ℕ × ℕ → TightPair
+tightPairAnswer s n e pair = checked Refused (firstOf (tightPairConditions s n e)) (pairIfAny (leastGap (distances (exemptions e) (segments s) (nodes n))) pair)
 
 -- SCOPE 8.5, 12.2: what the call promises of r: it is the answer for some `choice` of a pair, which is left to the program, and a pair that is answered is tight
 pub record Answered (s : SegmentColumns) (n : NodeColumns) (e : ExemptionColumns) (r : TightPair) : Type 0 where
   pub choice : ℕ × ℕ
-  pub is : r ≡ answer s n e choice
+  pub is : r ≡ tightPairAnswer s n e choice
   pub tight : (i j : ℕ) → r ≡ Pair i j → Tight (exemptions e) (segments s) (nodes n) i j
 
 -- SCOPE 6.3, 12.1, 12.2: "A refusal returns its number and ..; for the tight pair, an absent pair.": each case by its number, 0 where nothing was refused, and its pair

@@ -7,7 +7,7 @@ ghost use Rattle.drawing.specs.Entries.{Exemption, segmentColumns, nodeColumns,
 ghost use Rattle.drawing.specs.Inner.Lengths.{SegmentsAgree, NodesAgree};
 ghost use Rattle.clearance.specs.Figures.{exempt};
 ghost use Rattle.exemptions.specs.Inner.Exempting.{Holds, Listed};
-ghost use Rattle.tight_pair.specs.TightPair.{found, Answered};
+ghost use Rattle.tight_pair.specs.TightPair.{pairIfAny, Answered};
 ghost use Rattle.tight_pair.specs.Inner.Looking.{nearer, bestWith, lookNodes, lookSegments};
 
 mod checks;
@@ -20,7 +20,7 @@ use drawing::Refusal;
 use exemptions::Range;
 use exemptions::gather;
 use exemptions::is_exempt;
-use exemptions::range_of;
+use exemptions::net_range;
 
 // Positions of a segment and of a node in the given lists.
 pub enum TightPair {
@@ -129,7 +129,7 @@ fn look_at_segments(
         if !is_nearer(0.0, least) {
             return best;
         }
-        let range = range_of(words, k, net[segment]);
+        let range = net_range(words, k, net[segment]);
         let horizontal = orientation[segment] == 1;
         let bounds = Aabb::from_segment(horizontal, fixed[segment], start[segment], end[segment]);
         best = look_at_nodes(words, range, bounds, segment, id, x, y, width, height, best);
@@ -139,7 +139,7 @@ fn look_at_segments(
 }
 
 fn pair_of(best: Best) -> TightPair
-    ensures { λ r. ⌜ r ≡ found (best .least) (best .segment, best .node) ⌝ }
+    ensures { λ r. ⌜ r ≡ pairIfAny (best .least) (best .segment, best .node) ⌝ }
 {
     let least = best.least;
     match least {

@@ -12,7 +12,7 @@ use Rattle.drawing.specs.Inner.Entries.{nodeAt}
 use Rattle.drawing.specs.Inner.Lengths.{NodesAgree}
 use Rattle.boxes.specs.declared.aabb.Aabb.{Aabb}
 use Rattle.boxes.specs.Boxes.{union}
-use Rattle.clearance.specs.Tree.{IndexedNode, indexed, hull, horizontalWider, Tree, bare, leaf, branch, boundsOf}
+use Rattle.clearance.specs.Tree.{IndexedNode, indexed, hull, horizontalWider, Tree, empty, leaf, branch, boundsOf}
 
 -- the node at an index of the columns
 abbrev pub indexedAt : NodeColumns → ℕ → IndexedNode
@@ -28,21 +28,21 @@ horizontalPart c [] = horizontalWider (boxFrom c 0 [])
 horizontalPart c (i ∷ l) = horizontalWider (boxFrom c i l)
 
 -- the indices in the order of the table along the wider axis
-unfoldable pub along : NodeColumns → List ℕ → List ℕ → List ℕ → List ℕ
-along c kx ky l = sortBy (before (cond (horizontalPart c l) kx ky) 5) l
+unfoldable pub inAxisOrder : NodeColumns → List ℕ → List ℕ → List ℕ → List ℕ
+inAxisOrder c kx ky l = sortBy (before (cond (horizontalPart c l) kx ky) 5) l
 
 -- a list of indices halved again and again, each part put in order before it is halved; the number bounds the depth
 unfoldable pub leafOrder : ℕ → NodeColumns → List ℕ → List ℕ → List ℕ → List ℕ
 leafOrder zero c kx ky l = l
 leafOrder (suc k) c kx ky l =
-    let row = along c kx ky l in
+    let row = inAxisOrder c kx ky l in
     let halves = leafOrder k c kx ky (take (length l / 2) row) ++ leafOrder k c kx ky (drop (length l / 2) row) in
     cond (ltb (length l) 2) l halves
 
 -- the tree over a list that is in leaf order already, as it is stored: a branch's box is the union of its children's, which is not the box that `build` folds
 unfoldable pub treeOver : ℕ → List IndexedNode → Tree
-treeOver zero l = bare
-treeOver (suc k) [] = bare
+treeOver zero l = empty
+treeOver (suc k) [] = empty
 treeOver (suc k) (n ∷ []) = leaf n
 treeOver (suc k) (n ∷ m ∷ l) =
     let half = length (n ∷ m ∷ l) / 2 in

@@ -9,10 +9,10 @@ use Rattle.bitset.specs.Inner.Members.{member}
 use Rattle.drawing.specs.Entries.{Exemption}
 use Rattle.clearance.specs.Figures.{exempt}
 use Rattle.clearance_call.specs.Inner.Stored.{leafAt}
-use Rattle.exemptions.specs.Inner.Exempting.{wordAt, Rising, Bound}
+use Rattle.exemptions.specs.Inner.Exempting.{wordAt, Rising, LowerBound}
 
 -- s holds 11 words for each of m leaves, then a tree of 9 words for each, and nothing more
-pub record TreeBehind (s : List ℕ) (m : ℕ) : Type 0 where
+pub record TreeAtEnd (s : List ℕ) (m : ℕ) : Type 0 where
   pub whole : length s ≡ 20 * m
   pub few : m ≤ 4096
 
@@ -27,7 +27,7 @@ pub record Grouped (ids groups w : List ℕ) (m : ℕ) : Type 0 where
   pub rising : Rising ids m
   pub few : m ≤ 4096
   pub whole : length w ≡ 9 * m
-  pub first : (j : ℕ) → j < m → Bound (wordAt ids) 0 m (leafAt w j .id) (getD groups j 0)
+  pub first : (j : ℕ) → j < m → LowerBound (wordAt ids) 0 m (leafAt w j .id) (getD groups j 0)
   pub there : (j : ℕ) → j < m → (getD groups j 0 < m) × (wordAt ids (getD groups j 0) ≡ leafAt w j .id)
 
 -- the leaves are grouped where there are exemptions, and the tree is unchanged
@@ -39,13 +39,13 @@ pub record LeavesGrouped (before after : List ℕ) (m exemptions : ℕ) : Type 0
 pub record Added (ids : List ℕ) (m id : ℕ) (before after : List ℕ) : Type 0 where
   pub same : length after ≡ length before
   pub kept : (g : ℕ) → member before g ≡ true → member after g ≡ true
-  pub every : (g : ℕ) → Bound (wordAt ids) 0 m id g → g < m → wordAt ids g ≡ id → g / 64 < length before → member after g ≡ true
+  pub every : (g : ℕ) → LowerBound (wordAt ids) 0 m id g → g < m → wordAt ids g ≡ id → g / 64 < length before → member after g ≡ true
   pub only : (g : ℕ) → member after g ≡ true → (member before g ≡ true) ⊎ (wordAt ids g ≡ id)
 
 -- the marks are those of a net: a leaf of the tree w has a marked group exactly where its id is exempt for the net
-pub record Marked (marks groups w : List ℕ) (ex : List Exemption) (net : ℕ) : Type 0 where
+pub record MarksOf (marks groups w : List ℕ) (ex : List Exemption) (net : ℕ) : Type 0 where
   pub leaf : (j : ℕ) → 9 * (j + 1) ≤ length w → member marks (getD groups j 0) ≡ exempt ex net (leafAt w j .id)
 
 -- the same of a number that is a net only if it has 32 bits
-abbrev pub MarkedFor : List ℕ → List ℕ → List ℕ → List Exemption → ℕ → Type 0
-MarkedFor marks groups w ex net = net < 4294967296 → Marked marks groups w ex net
+abbrev pub MarksOfWord : List ℕ → List ℕ → List ℕ → List Exemption → ℕ → Type 0
+MarksOfWord marks groups w ex net = net < 4294967296 → MarksOf marks groups w ex net

@@ -10,18 +10,18 @@ use Rattle.boxes.specs.declared.aabb.Aabb.{Aabb}
 use Rattle.boxes.specs.Boxes.{distance}
 use Rattle.boxes.specs.Inner.Fitting.{FitBox, Within}
 use Rattle.clearance.specs.Figures.{Figures, exempt}
-use Rattle.clearance.specs.Tree.{IndexedNode, Tree, bare, leaf, branch, boundsOf}
+use Rattle.clearance.specs.Tree.{IndexedNode, Tree, empty, leaf, branch, boundsOf}
 use Rattle.clearance.specs.Walk.{withPair}
 
--- every box is fit, the box of a branch holds those of its children, and no part is bare
+-- every box is fit, the box of a branch holds those of its children, and no part is empty
 abbrev pub Nested : Tree → Type 0
-Nested bare = ⊥
+Nested empty = ⊥
 Nested (leaf n) = FitBox (n .bounds)
 Nested (branch b l r) = FitBox b × Within (boundsOf l) b × Within (boundsOf r) b × Nested l × Nested r
 
 -- every box of the tree is nearer to p than the threshold
 abbrev pub TreeBelow : Aabb → Float → Tree → Type 0
-TreeBelow p t bare = Unit {0}
+TreeBelow p t empty = Unit {0}
 TreeBelow p t (leaf n) = lt (distance p (n .bounds)) t ≡ true
 TreeBelow p t (branch b l r) = (lt (distance p b) t ≡ true) × TreeBelow p t l × TreeBelow p t r
 

@@ -10,7 +10,7 @@ use lib.ListN.{length, getD, take, drop}
 use Rattle.sorting.specs.Inner.Sorted.{upTo}
 use Rattle.drawing.specs.Entries.{NodeColumns}
 use Rattle.boxes.specs.declared.aabb.Aabb.{Aabb}
-use Rattle.clearance.specs.Tree.{IndexedNode, Tree, bare, leaf, branch, boundsOf}
+use Rattle.clearance.specs.Tree.{IndexedNode, Tree, empty, leaf, branch, boundsOf}
 use Rattle.clearance_call.specs.Inner.LeafOrder.{indexedAt, leafOrder, treeOver}
 use Rattle.clearance_call.specs.Inner.Tables.{nodeRowAt}
 
@@ -30,11 +30,11 @@ splitAt w i = boxAt w (9 * i + 4)
 
 -- the tree over the n leaves from leaf i on: the left child takes the first half, rounded down; the number bounds the depth
 unfoldable pub storedTree : ℕ → List ℕ → ℕ → ℕ → Tree
-storedTree zero w i n = bare
+storedTree zero w i n = empty
 storedTree (suc k) w i n =
     let half = n / 2 in
     let both = branch (splitAt w (i + half)) (storedTree k w i half) (storedTree k w (i + half) (n - half)) in
-    cond (eqb n 0) bare (cond (eqb n 1) (leaf (leafAt w i)) both)
+    cond (eqb n 0) empty (cond (eqb n 1) (leaf (leafAt w i)) both)
 
 -- the n leaves from leaf i on
 unfoldable pub leavesFrom : List ℕ → ℕ → ℕ → List IndexedNode
@@ -72,7 +72,7 @@ pub record SplitsPut (s r : List ℕ) (i n : ℕ) (b : Aabb) : Type 0 where
   pub box : (k : ℕ) → n ≤ k → b ≡ boundsOf (treeOver k (leavesFrom s i n))
 
 -- r holds the tree over the nodes, after 11 words for each node: the tree over the leaf order that two tables of the nodes' rows give
-pub record Grown (c : NodeColumns) (r : List ℕ) : Type 0 where
+pub record TreeStored (c : NodeColumns) (r : List ℕ) : Type 0 where
   pub tableAcross : List ℕ
   pub tableDown : List ℕ
   pub across : (i : ℕ) → i < length (c .id) → take 5 (drop (i * 5) tableAcross) ≡ nodeRowAt true c i

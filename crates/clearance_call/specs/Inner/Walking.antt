@@ -29,7 +29,7 @@ use Rattle.clearance.specs.Walk.{contributes, walk, noFigures}
 use Rattle.clearance.specs.Inner.State.{soFar, outcomeOf}
 use Rattle.clearance_call.specs.Inner.Nested.{Nested}
 use Rattle.exemptions.specs.Inner.Exempting.{Holds}
-use Rattle.clearance_call.specs.Inner.Marks.{Marked}
+use Rattle.clearance_call.specs.Inner.Marks.{MarksOf}
 
 -- there are n leaves from leaf i on, at least one
 pub record Part (w : List ℕ) (i n : ℕ) : Type 0 where
@@ -70,7 +70,7 @@ pub record Halved (w : List ℕ) (i n : ℕ) (p : Aabb) (h : Halves) : Type 0 wh
 pub record NetMarks (marks groups w : List ℕ) : Type 0 where
   pub ex : List Exemption
   pub net : ℕ
-  pub marked : Marked marks groups w ex net
+  pub marked : MarksOf marks groups w ex net
   pub room : length w ≤ 9 * length groups
 
 -- what the walk over them returns, for every segment with the box p
@@ -90,13 +90,13 @@ Steps ex t w p net part state (Done v) = Walks ex t w (part .first) (part .count
 Steps ex t w p net part state (Split h) = Halved w (part .first) (part .count) p h × (contributes (part .lower) t (gapOfFloat (state .least)) ≡ true) × (1 < part .count)
 
 -- the words hold k exemptions
-pub record Held (packed : List ℕ) (k : ℕ) : Type 0 where
+pub record HoldsCount (packed : List ℕ) (k : ℕ) : Type 0 where
   pub ex : List Exemption
   pub holds : Holds packed ex
   pub count : length ex ≡ k
 
 -- the first words are indices of the segments, one for each, and the segments' boxes are fit
-pub record InTurns (order : List ℕ) (c : SegmentColumns) : Type 0 where
+pub record SegmentPlaces (order : List ℕ) (c : SegmentColumns) : Type 0 where
   pub agree : SegmentsAgree c
   pub inside : length (c .net) ≤ length order
   pub small : All (λ i. i < length (c .net)) (take (length (c .net)) order)

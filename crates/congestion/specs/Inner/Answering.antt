@@ -18,10 +18,10 @@ answerOf (Went f) total allowance = Report (record {
 answerOf Spent total allowance = Refused WorkLimitExceeded
 
 -- an answer with pair overlap and peak zero
-abbrev pub plainly : CongestionAnswer → CongestionAnswer
-plainly (Report r) = Report (record {
+abbrev pub answerWithoutDensity : CongestionAnswer → CongestionAnswer
+answerWithoutDensity (Report r) = Report (record {
   congestion = record { «total_length» = r .congestion .«total_length»; «congested_length» = r .congestion .«congested_length»; «pair_overlap_length» = plusZero; «peak_close_neighbors» = 0 };
   «minimum_positive» = r .«minimum_positive»;
   visits = r .visits;
 })
-plainly (Refused w) = Refused w
+answerWithoutDensity (Refused w) = Refused w

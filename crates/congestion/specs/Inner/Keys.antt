@@ -14,6 +14,6 @@ pub record Key (w u : ℕ) : Type 0 where
   pub is : unit (floatAt w) ≡ u
 
 -- a least gap of 64ths that a float can hold
-abbrev pub Held : Option ℕ → Type 0
-Held none = Unit {0}
-Held (some n) = n < 2 ^ 53
+abbrev pub Representable : Option ℕ → Type 0
+Representable none = Unit {0}
+Representable (some n) = n < 2 ^ 53

@@ -81,8 +81,8 @@ foundOf (left p m) = Went (record {
 })
 
 -- both orientations' figures
-abbrev pub togetherOf : Found → Found → Found
-togetherOf a d = record {
+abbrev pub combinedOf : Found → Found → Found
+combinedOf a d = record {
   «congested_length» = add binary64 (a .«congested_length») (d .«congested_length»);
   «pair_overlap_length» = add binary64 (a .«pair_overlap_length») (d .«pair_overlap_length»);
   «peak_close_neighbors» = max (a .«peak_close_neighbors») (d .«peak_close_neighbors»);

@@ -16,13 +16,13 @@ use Rattle.density_call.specs.declared.meet.Meeting.{Meeting}
 use Rattle.density_call.specs.declared.meet.Met.{Met}
 use Rattle.density_call.specs.declared.meet.Met.the-variants.{Went, Spent}
 use Rattle.congestion.specs.Wires.{Wire}
-use Rattle.congestion.specs.Walk.{Row, State, visited, neighbor, neighbors, leastHere, risen, fallen}
-use Rattle.congestion.specs.Inner.Keys.{Held}
-use Rattle.density_call.specs.Inner.Tables.{itemAt, Tabled, rowsFrom, Stored}
+use Rattle.congestion.specs.Walk.{WireState, State, visited, neighbor, neighbors, leastHere, risen, fallen}
+use Rattle.congestion.specs.Inner.Keys.{Representable}
+use Rattle.density_call.specs.Inner.Tables.{itemAt, Tabled, wireStatesFrom, Stored}
 
 -- the number of visits that wire j's event costs
 abbrev pub visitsOf : ℕ → List Wire → ℕ → State → ℕ
-visitsOf c L j st = count (visited c (itemAt L j .wire)) (st .rows)
+visitsOf c L j st = count (visited c (itemAt L j .wire)) (st .wires)
 
 -- what the code needs for wire j to meet the others, at its start where `starts` is true, else at its end
 -- `some`: where an end lowers a neighbor's count, the count is not 0
@@ -37,7 +37,7 @@ pub record Meetable (starts : Bool) (s : List ℕ) (n j : ℕ) : Type 0 where
   pub stored : Stored L st (drop (8 * n) s)
   pub room : 10 * n + 1 ≤ length s
   pub counts : (i : ℕ) → i < n → getD s (8 * n + i) 0 ≤ 4096
-  pub some : starts ≡ false → (r : Row) → Mem r (st .rows) → neighbor c (itemAt L j .wire) r ≡ true → 1 ≤ r .neighbors
+  pub some : starts ≡ false → (r : WireState) → Mem r (st .wires) → neighbor c (itemAt L j .wire) r ≡ true → 1 ≤ r .neighbors
 
 -- the scratch s became t: only counts changed
 pub record CountsOnly (n : ℕ) (s t : List ℕ) : Type 0 where
@@ -46,17 +46,17 @@ pub record CountsOnly (n : ℕ) (s t : List ℕ) : Type 0 where
 
 -- ---- an event of wire j: its start where `starts` is true, else its end
 -- each neighbor's count rises by one, or falls by one
-abbrev pub moved : Bool → Bool → Row → Row
+abbrev pub moved : Bool → Bool → WireState → WireState
 moved true b r = risen false b 0 r
 moved false b r = fallen false b r
 
 -- the count at which a neighbor becomes congested, or ceases to be
-abbrev pub turning : Bool → ℕ
-turning true = 0
-turning false = 1
+abbrev pub changingCount : Bool → ℕ
+changingCount true = 0
+changingCount false = 1
 
 -- the greatest count that a start makes; an end needs none
-abbrev pub topmost : Bool → (Row → Bool) → List Row → ℕ
+abbrev pub topmost : Bool → (WireState → Bool) → List WireState → ℕ
 topmost true p l = fold max 0 (λ x. cond (p x) (x .neighbors + 1) 0) l
 topmost false p l = 0
 
@@ -67,17 +67,17 @@ leastFloat (some n) = ofUnits n
 
 abbrev pub Meets : Bool → List ℕ → List ℕ → ℕ → ℕ → Float → ℕ → Met → Type 0
 Meets starts s t n j least allowance r =
-    (c : ℕ) (L : List Wire) (st : State) (m : Option ℕ) → length L ≡ n → Tabled c L s → Stored L st (drop (8 * n) s) → least ≡ leastFloat m → Held m
+    (c : ℕ) (L : List Wire) (st : State) (m : Option ℕ) → length L ≡ n → Tabled c L s → Stored L st (drop (8 * n) s) → least ≡ leastFloat m → Representable m
     → (allowance < visitsOf c L j st → r ≡ Spent)
     × (visitsOf c L j st ≤ allowance
     → (r ≡ Went (record {
       neighbors = neighbors c (itemAt L j) st;
-      changed = count (λ x. neighbor c (itemAt L j .wire) x && eqb (x .neighbors) (turning starts)) (st .rows);
-      highest = topmost starts (neighbor c (itemAt L j .wire)) (st .rows);
+      changed = count (λ x. neighbor c (itemAt L j .wire) x && eqb (x .neighbors) (changingCount starts)) (st .wires);
+      highest = topmost starts (neighbor c (itemAt L j .wire)) (st .wires);
       least = leastFloat (lesser ltb m (leastHere c (itemAt L j) st));
       remaining = allowance - visitsOf c L j st;
     }))
-    × (rowsFrom L (drop (8 * n) t) ≡ map (λ x. moved starts (neighbor c (itemAt L j .wire) x) x) (st .rows)))
+    × (wireStatesFrom L (drop (8 * n) t) ≡ map (λ x. moved starts (neighbor c (itemAt L j .wire) x) x) (st .wires)))
 
 -- ---- its loop
 -- a gap joins the least one where it is above 0; a NaN, which means none, is below nothing
@@ -94,7 +94,7 @@ highestAfter true h k = max h (k + 1)
 highestAfter false h k = h
 
 abbrev pub withNeighbor : Bool → ℕ → Float → Meeting → Meeting
-withNeighbor starts k gap t = record { neighbors = t .neighbors + 1; changed = t .changed + bit (eqb k (turning starts)); highest = highestAfter starts (t .highest) k; least = withGap (t .least) gap; remaining = t .remaining - 1 }
+withNeighbor starts k gap t = record { neighbors = t .neighbors + 1; changed = t .changed + bit (eqb k (changingCount starts)); highest = highestAfter starts (t .highest) k; least = withGap (t .least) gap; remaining = t .remaining - 1 }
 
 -- a wire of the same net costs a visit and changes nothing else
 abbrev pub paid : Meeting → Meeting

@@ -19,8 +19,8 @@ use Rattle.density_call.specs.declared.sweep.Handled.the-variants.{Went,
 use Rattle.congestion.specs.declared.found.Swept.{Swept}
 use Rattle.congestion.specs.declared.found.Swept.the-variants.{Went as Done, Spent as Over}
 use Rattle.congestion.specs.Wires.{Wire}
-use Rattle.congestion.specs.Walk.{Item, Event, Row, State, at, neighbor, neighbors, wasCongested, step, gapOfUnits}
-use Rattle.congestion.specs.Inner.Keys.{Key, Held}
+use Rattle.congestion.specs.Walk.{Item, WireEvent, WireState, State, at, neighbor, neighbors, wasCongested, step, gapOfUnits}
+use Rattle.congestion.specs.Inner.Keys.{Key, Representable}
 use Rattle.density_call.specs.Inner.Tables.{eventAt, Tabled, Stored}
 use Rattle.density_call.specs.Inner.Meeting.{leastFloat}
 
@@ -79,23 +79,23 @@ pub record Follows (s : Sweeping) (st : State) : Type 0 where
   pub overlap : s .«pair_overlap_length» ≡ ofUnits (st .pairOverlapLength)
   pub peak : s .«peak_close_neighbors» ≡ st .peakCloseNeighbors
   pub least : s .«minimum_positive» ≡ leastFloat (st .minimumPositive)
-  pub held : Held (st .minimumPositive)
+  pub held : Representable (st .minimumPositive)
   pub word : ℕ
   pub last : s .previous ≡ floatAt word
   pub key : Key word (st .previous)
 
 -- an end's subtractions do not go below 0
 pub record Ending (c : ℕ) (i : Item) (st : State) : Type 0 where
-  pub active : wasCongested c i st + count (λ r. neighbor c (i .wire) r && eqb (r .neighbors) 1) (st .rows) ≤ st .congestedActive
+  pub active : wasCongested c i st + count (λ r. neighbor c (i .wire) r && eqb (r .neighbors) 1) (st .wires) ≤ st .congestedActive
   pub pairs : neighbors c i st ≤ st .closePairs
-  pub some : (r : Row) → Mem r (st .rows) → neighbor c (i .wire) r ≡ true → 1 ≤ r .neighbors
+  pub some : (r : WireState) → Mem r (st .wires) → neighbor c (i .wire) r ≡ true → 1 ≤ r .neighbors
 
 -- the event e comes next in the state st, and floats hold the lengths after it
-pub record Due (c : ℕ) (st : State) (e : Event) : Type 0 where
+pub record Due (c : ℕ) (st : State) (e : WireEvent) : Type 0 where
   pub past : st .previous ≤ at e
   pub active : st .congestedActive ≤ 16777216
   pub pairs : st .closePairs ≤ 16777216
-  pub counts : (r : Row) → Mem r (st .rows) → r .neighbors ≤ 4096
+  pub counts : (r : WireState) → Mem r (st .wires) → r .neighbors ≤ 4096
   pub congested : step c st e .value .congestedLength < 2 ^ 53
   pub overlap : step c st e .value .pairOverlapLength < 2 ^ 53
   pub ending : e .ends ≡ true → Ending c (e .item) st
@@ -124,7 +124,7 @@ pub record Onward (c : ℕ) (L : List Wire) (n : ℕ) (st : State) (t : List ℕ
   pub stored : Stored L st (drop (8 * n) t)
 
 -- the outcome of the event e in the state st, with m remaining visits: a step of the sweep, where its visits can be paid; the scratch becomes t
-abbrev pub Steps : ℕ → List Wire → ℕ → State → Event → List ℕ → ℕ → Handled → Type 0
+abbrev pub Steps : ℕ → List Wire → ℕ → State → WireEvent → List ℕ → ℕ → Handled → Type 0
 Steps c L n st e t m r =
     (m < step c st e .cost → r ≡ Spent) × (step c st e .cost ≤ m → Onward c L n (step c st e .value) t (m - step c st e .cost) r)
 

@@ -12,7 +12,7 @@ use Rattle.laws.specs.Lists.{All}
 use Rattle.sorting.specs.Inner.Sorted.{upTo}
 use Rattle.bitset.specs.Inner.Members.{member}
 use Rattle.congestion.specs.Wires.{Wire}
-use Rattle.congestion.specs.Walk.{Item, Event, Row, State, numbered, events, inOrder, inRange}
+use Rattle.congestion.specs.Walk.{Item, WireEvent, WireState, State, numbered, wireEvents, inOrder, inRange}
 use Rattle.congestion.specs.Inner.Keys.{Key}
 
 -- the wire at an index, and the event of a number
@@ -22,7 +22,7 @@ noWire = record { net = 0; horizontal = false; fixed = 0; start = 0; end = 0 }
 abbrev pub itemAt : List Wire → ℕ → Item
 itemAt L j = record { wire = getD L j noWire; index = j }
 
-abbrev pub eventAt : List Wire → ℕ → Event
+abbrev pub eventAt : List Wire → ℕ → WireEvent
 eventAt L e = record { ends = ltb e (length L); item = cond (ltb e (length L)) (itemAt L e) (itemAt L (e - length L)) }
 
 -- the columns of the ranges give the wires within a cutoff of c 64ths
@@ -33,7 +33,7 @@ pub record Ranged (c : ℕ) (L : List Wire) (s : List ℕ) : Type 0 where
 -- the tables as the sweep reads them, for a cutoff of c 64ths
 pub record Tabled (c : ℕ) (L : List Wire) (s : List ℕ) : Type 0 where
   pub small : All (λ e. e < 2 * length L) (take (2 * length L) s)
-  pub ordered : map (eventAt L) (take (2 * length L) s) ≡ inOrder (events (numbered 0 L))
+  pub ordered : map (eventAt L) (take (2 * length L) s) ≡ inOrder (wireEvents (numbered 0 L))
   pub ends : (j : ℕ) → j < length L → Key (getD s (2 * length L + j) 0) (itemAt L j .wire .end)
   pub starts : (j : ℕ) → j < length L → Key (getD s (3 * length L + j) 0) (itemAt L j .wire .start)
   pub fixed : (j : ℕ) → j < length L → Key (getD s (4 * length L + j) 0) (itemAt L j .wire .fixed)
@@ -41,13 +41,13 @@ pub record Tabled (c : ℕ) (L : List Wire) (s : List ℕ) : Type 0 where
   pub ranges : Ranged c L s
 
 -- ---- what the words after the tables hold for each wire
-abbrev pub rowFrom : List Wire → List ℕ → ℕ → Row
-rowFrom L w j = record { item = itemAt L j; active = member (drop (length L) w) j; neighbors = getD w j 0 }
+abbrev pub wireStateFrom : List Wire → List ℕ → ℕ → WireState
+wireStateFrom L w j = record { item = itemAt L j; active = member (drop (length L) w) j; neighbors = getD w j 0 }
 
-abbrev pub rowsFrom : List Wire → List ℕ → List Row
-rowsFrom L w = map (rowFrom L w) (upTo (length L))
+abbrev pub wireStatesFrom : List Wire → List ℕ → List WireState
+wireStatesFrom L w = map (wireStateFrom L w) (upTo (length L))
 
--- they hold the rows of a state
+-- they hold the wires of a state
 pub record Stored (L : List Wire) (st : State) (w : List ℕ) : Type 0 where
-  pub rows : st .rows ≡ rowsFrom L w
+  pub wires : st .wires ≡ wireStatesFrom L w
   pub room : 2 * length L + 1 ≤ length w

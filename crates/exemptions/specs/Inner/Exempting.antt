@@ -42,7 +42,7 @@ pub record Gathered (c : ExemptionColumns) (before after : List ℕ) : Type 0 wh
   pub rest : drop (length (c .net)) after ≡ drop (length (c .net)) before
 
 -- r is the first index from a on and before b whose key is at least v, or b
-pub record Bound (key : ℕ → ℕ) (a b v r : ℕ) : Type 0 where
+pub record LowerBound (key : ℕ → ℕ) (a b v r : ℕ) : Type 0 where
   pub from : a ≤ r
   pub to : r ≤ b
   pub below : (i : ℕ) → a ≤ i → i < r → key i < v

@@ -2,8 +2,8 @@
 use mathlib.Core.List.{List, [], _∷_}
 use Prim.Native.Nat.{ℕ, zero, suc, _+_, _*_, _≤_, _<_}
 use lib.ListN.{length, drop}
-use Rattle.file.specs.declared.scan.Counted.{Counted}
-use Rattle.file.specs.declared.scan.Counted.the-variants as answers
+use Rattle.file.specs.declared.scan.ListCount.{ListCount}
+use Rattle.file.specs.declared.scan.ListCount.the-variants as answers
 use Rattle.file.specs.Reading.{Read, got, refused}
 
 -- the bytes from each of n indices on, the first index 0 and each other `width` bytes after the one before it
@@ -12,7 +12,7 @@ places width zero l = []
 places width (suc n) l = l ∷ places width n (drop width l)
 
 -- how many entries a list has, or why it is refused
-unfoldable pub countOf : {A : Type 0} → Read (List A) → Counted
+unfoldable pub countOf : {A : Type 0} → Read (List A) → ListCount
 countOf (got entries rest) = answers.Entries (length entries)
 countOf (refused r) = answers.Refused r
 

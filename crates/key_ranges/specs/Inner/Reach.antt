@@ -16,17 +16,17 @@ pub record Passed (l : List ℕ) (v r : ℕ) : Type 0 where
   pub below : (i : ℕ) → i < r → getD l i 0 < v
 
 -- r is the first index whose word is at least v, or the length where there is none
-pub record Bound (l : List ℕ) (v r : ℕ) : Type 0 where
+pub record LowerBound (l : List ℕ) (v r : ℕ) : Type 0 where
   pub inside : r ≤ length l
   pub below : (i : ℕ) → i < r → getD l i 0 < v
   pub above : (i : ℕ) → r ≤ i → i < length l → v ≤ getD l i 0
 
 -- both ends are at most n
-pub record Within (n : ℕ) (r : Range) : Type 0 where
+pub record InBounds (n : ℕ) (r : Range) : Type 0 where
   pub from : r .from ≤ n
   pub to : r .to ≤ n
 
 -- the keys strictly between those of x - cutoff and x + cutoff, where x is the coordinate at index j
 pub record Reached (keys : List ℕ) (j : ℕ) (cutoff : Float) (r : Range) : Type 0 where
-  pub from : Bound keys (keyOf (sub binary64 (floatAt (getD keys j 0)) cutoff) + 1) (r .from)
-  pub to : Bound keys (keyOf (add binary64 (floatAt (getD keys j 0)) cutoff)) (r .to)
+  pub from : LowerBound keys (keyOf (sub binary64 (floatAt (getD keys j 0)) cutoff) + 1) (r .from)
+  pub to : LowerBound keys (keyOf (add binary64 (floatAt (getD keys j 0)) cutoff)) (r .to)

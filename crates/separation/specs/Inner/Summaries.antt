@@ -6,10 +6,10 @@ use Rattle.separation.specs.declared.summary.NetSummary.{NetSummary}
 use Rattle.separation.specs.declared.summary.NetSummary.the-variants.{Nothing, One, Two}
 
 -- some net of the summary is not n: of two different nets at least one is not
-unfoldable pub hasOther : NetSummary → ℕ → Bool
-hasOther Nothing n = false
-hasOther (One a) n = not (eqb a n)
-hasOther Two n = true
+unfoldable pub summaryHasOther : NetSummary → ℕ → Bool
+summaryHasOther Nothing n = false
+summaryHasOther (One a) n = not (eqb a n)
+summaryHasOther Two n = true
 
 -- a summary as a word: 0 is no net, a net plus 1 is that net, any greater word is two nets
 unfoldable pub summaryOfWord : ℕ → NetSummary

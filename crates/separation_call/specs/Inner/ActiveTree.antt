@@ -10,7 +10,7 @@ use Rattle.laws.specs.Inner.Allowance.{Outcome, spent, left}
 use Rattle.rows.specs.Rows.{Row}
 use Rattle.separation.specs.declared.summary.NetSummary.{NetSummary}
 use Rattle.separation.specs.Searches.{otherIn}
-use Rattle.separation.specs.Inner.Summaries.{hasOther, summaryOfWord}
+use Rattle.separation.specs.Inner.Summaries.{summaryHasOther, summaryOfWord}
 use Rattle.separation.specs.declared.search.OtherNet.{OtherNet}
 use Rattle.separation.specs.declared.search.OtherNet.the-variants.{Known, Spent}
 use Rattle.separation.specs.declared.search.Charge.{Charge}
@@ -51,7 +51,7 @@ pub record Below (t : List ℕ) (node start end : ℕ) : Type 0 where
 
 -- ---- a summary decides for the leaves from a on, before b: for every net it says whether another one is active there
 abbrev pub Decides : List ℕ → List Row → NetSummary → ℕ → ℕ → Type 0
-Decides ls active s a b = (n : ℕ) → hasOther s n ≡ otherIn ls active n a b
+Decides ls active s a b = (n : ℕ) → summaryHasOther s n ≡ otherIn ls active n a b
 
 -- every node's summary decides for its leaves; t k is that of node k
 abbrev pub Covers : List ℕ → List Row → (ℕ → NetSummary) → ℕ → Type 0

@@ -64,7 +64,7 @@ pub record WordsInOrder (n : ℕ) (l : List ℕ) : Type 0 where
 unfoldable pub slotOf : ℕ → ℕ → ℕ → ℕ → ℕ
 slotOf k slot last group = cond (eqb group last) slot k
 
-pub record HandedOut (n : ℕ) (s e : List ℕ) : Type 0 where
+pub record SlotsPut (n : ℕ) (s e : List ℕ) : Type 0 where
   pub front : take (7 * n) e ≡ take (7 * n) s
   pub slots : (w : ℕ) → Mem w (column n 8 s) → getD e (7 * n + placeOf w) 0 ≡ index (map groupOf (column n 8 s)) (groupOf w)
   pub behind : drop (8 * n) e ≡ drop (8 * n) s

@@ -21,7 +21,7 @@ use Rattle.separation.specs.Figures.{Figures}
 use Rattle.separation.specs.Inner.States.{metBy, outcomeOf}
 use Rattle.separation.specs.Lines.{lines, index}
 use Rattle.separation.specs.Searches.{setRun}
-use Rattle.separation.specs.Walk.{Sweep, remove, otherLine, looking, startsAt, endsAt, step}
+use Rattle.separation.specs.Walk.{Sweep, remove, otherLine, withNearest, startsAt, endsAt, step}
 use Rattle.separation.specs.declared.state.Sweeping.{Sweeping}
 use Rattle.separation.specs.declared.state.Handled.{Handled}
 use Rattle.separation.specs.declared.state.Handled.the-variants.{Went}
@@ -45,7 +45,7 @@ joined ls p f o = onward o (λ found r. left (otherLine ls p found f) r)
 
 -- ---- what a start searches before its `set`
 -- the tree and the fixed values can be read
-pub record Lookable (t fixed : List ℕ) (leaves line : ℕ) : Type 0 where
+pub record Searchable (t fixed : List ℕ) (leaves line : ℕ) : Type 0 where
   pub tree : Leaves t leaves
   pub inside : line < leaves
   pub values : leaves ≤ length fixed
@@ -60,10 +60,10 @@ pub record Lined (ls : List ℕ) (H : ℕ) (active : List Row) (x : Row) (line n
   pub of : x .net ≡ net
   pub gaps : Gapped ls
 
-abbrev pub Looks : List ℕ → List ℕ → ℕ → ℕ → ℕ → Sweeping → Handled → Type 0
-Looks tree fixed leaves line net state r =
+abbrev pub WithNearest : List ℕ → List ℕ → ℕ → ℕ → ℕ → Sweeping → Handled → Type 0
+WithNearest tree fixed leaves line net state r =
     (ls : List ℕ) (H : ℕ) (active : List Row) (x : Row) → leaves ≡ 2 ^ H → Covers ls active (summaryAt tree) H → take (length ls) fixed ≡ ls → Lined ls H active x line net
-    → outcomeOf r ≡ within (state .remaining) (looking ls H active (metBy state) x)
+    → outcomeOf r ≡ within (state .remaining) (withNearest ls H active (metBy state) x)
 
 -- ---- the words that the sweep changes
 pub record Working (n b : ℕ) (ls : List ℕ) (H : ℕ) (lineOf netOf slotOf : ℕ → ℕ) (active : List Row) (w : List ℕ) : Type 0 where

@@ -25,14 +25,14 @@ loop-holds c = segments-start _ _ (segmentColumns _ _ _ _ _) (nodes (nodeColumns
 is-nearer-requires : tie.Need-is-nearer-requires Inv-loop μ-loop
 is-nearer-requires c κs = search needs
 
-mul-range-of : tie.Need-mul-range-of Inv-loop μ-loop
-mul-range-of c = search needs
+mul-net-range : tie.Need-mul-net-range Inv-loop μ-loop
+mul-net-range c = search needs
 
-shared-slice-read-range-of : tie.Need-shared-slice-read-range-of Inv-loop μ-loop
-shared-slice-read-range-of c = search needs
+shared-slice-read-net-range : tie.Need-shared-slice-read-net-range Inv-loop μ-loop
+shared-slice-read-net-range c = search needs
 
-range-of-requires : tie.Need-range-of-requires Inv-loop μ-loop
-range-of-requires c κs = search needs
+net-range-requires : tie.Need-net-range-requires Inv-loop μ-loop
+net-range-requires c κs = search needs
 
 shared-slice-read-horizontal : tie.Need-shared-slice-read-horizontal Inv-loop μ-loop
 shared-slice-read-horizontal c = search needs
@@ -73,7 +73,7 @@ loop-again : tie.Need-loop-again Inv-loop μ-loop
 unfolding segmentBox
 loop-again c =
     let q = c .before .before .before .before .before .before in
-    segments-next _ _ (segmentColumns _ _ _ _ _) (nodes (nodeColumns _ _ _ _ _)) _ _ (q .before .before .before .before .before .loop .inv) (q .before .before .before .before .loop-test .taken) _ (q .range-of .ensures) _ (c .before .from-segment .ensures) _ (c .look-at-nodes .ensures)
+    segments-next _ _ (segmentColumns _ _ _ _ _) (nodes (nodeColumns _ _ _ _ _)) _ _ (q .before .before .before .before .before .loop .inv) (q .before .before .before .before .loop-test .taken) _ (q .net-range .ensures) _ (c .before .from-segment .ensures) _ (c .look-at-nodes .ensures)
 
 returns : tie.Need-returns Inv-loop μ-loop
 unfolding ofBits
@@ -91,9 +91,9 @@ look-at-segments-spec =
     loop-holds
     is-nearer-requires
     returns
-    mul-range-of
-    shared-slice-read-range-of
-    range-of-requires
+    mul-net-range
+    shared-slice-read-net-range
+    net-range-requires
     shared-slice-read-horizontal
     mul-from-segment
     shared-slice-read-from-segment

@@ -12,29 +12,29 @@ Inv-loop marks₀ net packed k ids m from to i₀ marks i = NetMarking packed id
 abbrev μ-loop : tie.MeasureT-loop
 μ-loop marks₀ net packed k ids m from to i₀ marks i = to - i
 
-range-of-requires : tie.Need-range-of-requires Inv-loop μ-loop
-range-of-requires c κs = search needs
+net-range-requires : tie.Need-net-range-requires Inv-loop μ-loop
+net-range-requires c κs = search needs
 
 returns : tie.Need-returns Inv-loop μ-loop
-returns c = (omega arith, λ ex groups w holds count b. none-marked _ _ _ _ (c .before .range-of .ensures (c .before .before .before .before .before .pre .1)) (c .if1 .taken) groups w ex holds count)
+returns c = (omega arith, λ ex groups w holds count b. none-marked _ _ _ _ (c .before .net-range .ensures (c .before .before .before .before .before .pre .1)) (c .if1 .taken) groups w ex holds count)
 
 clear-requires : tie.Need-clear-requires Inv-loop μ-loop
 clear-requires c κs = search needs
 
 loop-holds : tie.Need-loop-holds Inv-loop μ-loop
-loop-holds c = net-marking-start _ _ _ _ _ _ _ (c .before .before .before .before .before .before .before .before .before .pre .0) (c .before .before .clear .ensures) (c .before .before .before .before .before .range-of .ensures (c .before .before .before .before .before .before .before .before .before .pre .1) .ordered)
+loop-holds c = net-marking-start _ _ _ _ _ _ _ (c .before .before .before .before .before .before .before .before .before .pre .0) (c .before .before .clear .ensures) (c .before .before .before .before .before .net-range .ensures (c .before .before .before .before .before .before .before .before .before .pre .1) .ordered)
 
 mul-mark-id : tie.Need-mul-mark-id Inv-loop μ-loop
-mul-mark-id c = search (needs, c .before .before .before .before .before .before .before .before .range-of .ensures (c .before .before .before .before .before .before .before .before .before .before .before .before .pre .1))
+mul-mark-id c = search (needs, c .before .before .before .before .before .before .before .before .net-range .ensures (c .before .before .before .before .before .before .before .before .before .before .before .before .pre .1))
 
 shared-slice-read-mark-id : tie.Need-shared-slice-read-mark-id Inv-loop μ-loop
-shared-slice-read-mark-id c = search (needs, c .before .before .before .before .before .before .before .before .before .range-of .ensures (c .before .before .before .before .before .before .before .before .before .before .before .before .before .pre .1))
+shared-slice-read-mark-id c = search (needs, c .before .before .before .before .before .before .before .before .before .net-range .ensures (c .before .before .before .before .before .before .before .before .before .before .before .before .before .pre .1))
 
 cast-mark-id : tie.Need-cast-mark-id Inv-loop μ-loop
 cast-mark-id c = search needs
 
 mark-id-requires : tie.Need-mark-id-requires Inv-loop μ-loop
-mark-id-requires c κs = c .before .before .before .before .before .before .before .before .before .before .before .before .before .pre .2 (omega (arith, c .before .before .loop-test .taken, c .before .before .before .before .before .before .before .before .before .range-of .ensures (c .before .before .before .before .before .before .before .before .before .before .before .before .before .pre .1) .inside))
+mark-id-requires c κs = c .before .before .before .before .before .before .before .before .before .before .before .before .before .pre .2 (omega (arith, c .before .before .loop-test .taken, c .before .before .before .before .before .before .before .before .before .net-range .ensures (c .before .before .before .before .before .before .before .before .before .before .before .before .before .pre .1) .inside))
 
 add-i : tie.Need-add-i Inv-loop μ-loop
 add-i c = search needs
@@ -50,7 +50,7 @@ same-length c = search needs
 
 returns-2 : tie.Need-returns-2 Inv-loop μ-loop
 returns-2 c =
-    let own = c .before .before .before .before .before .before .before .range-of .ensures (c .before .before .before .before .before .before .before .before .before .before .before .pre .1) in
+    let own = c .before .before .before .before .before .before .before .net-range .ensures (c .before .before .before .before .before .before .before .before .before .before .before .pre .1) in
     (omega arith, λ ex groups w holds count b. net-marked _ _ _ _ _ _ (c .before .loop .inv) _ _ (c .loop-test .left) own ex groups w holds count (b (omega (arith, c .before .before .before .before .before .before .if1 .left, own .ordered, own .inside))))
 
 pub mark-net-spec : {M : Type 1} → statement M
@@ -59,7 +59,7 @@ mark-net-spec =
     (tie.spec
     Inv-loop
     μ-loop
-    range-of-requires
+    net-range-requires
     returns
     clear-requires
     loop-holds

@@ -25,10 +25,10 @@ use Rattle.density_call.proofs.measure.walk_segments.Reads as reads
 use Rattle.density_call.proofs.measure.walk_segments.Lts as lts
 use Rattle.rows.proofs.segments_to_sweep.Reads as segments-to-sweep-reads
 use Rattle.density_call.proofs.along.sweep_along.Reads as sweep-along-reads
-use Rattle.density_call.proofs.measure.together.Reads as together-reads
+use Rattle.density_call.proofs.measure.combined.Reads as combined-reads
 
 -- what is known after the first test: the cutoff is above 0
-module _ (c : lts.Else1 (segments-to-sweep-reads.Asked, segments-to-sweep-reads.Learnt, sweep-along-reads.Asked, sweep-along-reads.Learnt, together-reads.Asked, together-reads.Learnt) reads.Pre reads.Post) where
+module _ (c : lts.Else1 (segments-to-sweep-reads.Asked, segments-to-sweep-reads.Learnt, sweep-along-reads.Asked, sweep-along-reads.Learnt, combined-reads.Asked, combined-reads.Learnt) reads.Pre reads.Post) where
   abbrev columns : SegmentColumns
   columns = segmentColumns (now (c .before .before .before .before .before .before .before .args .net)) (now (c .before .before .before .before .before .before .before .args .orientation)) (now (c .before .before .before .before .before .before .before .args .fixed)) (now (c .before .before .before .before .before .before .before .args .start)) (now (c .before .before .before .before .before .before .before .args .end))
 
@@ -100,14 +100,14 @@ same-length-2 c = search needs
 returns-4 : tie.Need-returns-4
 returns-4 c = let e = c .before .before .before .before .before .before .before .before .before .before .before .before .before .before .before in stops-later (cutoff e) (sweeps e .grid) (segments (columns e)) (fit e) (held e) (sweeps e .some) _ _ (c .before .before .before .before .before .before .before .before .before .before .before .sweep-along .ensures) _ (c .before .before .before .before .before .before .before .first .given .1) _ (c .before .before .before .before .sweep-along2 .ensures) (c .enum-told2 .given .1)
 
-together-requires : tie.Need-together-requires
-together-requires c κs = search needs
+combined-requires : tie.Need-combined-requires
+combined-requires c κs = search needs
 
 same-length-3 : tie.Need-same-length-3
 same-length-3 c = search needs
 
 returns-5 : tie.Need-returns-5
-returns-5 c = let e = c .before .before .before .before .before .before .before .before .before .before .before .before .before .before .before .before .before in went-both (cutoff e) (sweeps e .grid) (segments (columns e)) (fit e) (held e) (sweeps e .some) _ _ (c .before .before .before .before .before .before .before .before .before .before .before .before .before .sweep-along .ensures) _ (c .before .before .before .before .before .before .before .before .before .first .given .1) _ (c .before .before .before .before .before .before .sweep-along2 .ensures) _ _ (c .before .before .second .given .1) (c .together .ensures)
+returns-5 c = let e = c .before .before .before .before .before .before .before .before .before .before .before .before .before .before .before .before .before in went-both (cutoff e) (sweeps e .grid) (segments (columns e)) (fit e) (held e) (sweeps e .some) _ _ (c .before .before .before .before .before .before .before .before .before .before .before .before .before .sweep-along .ensures) _ (c .before .before .before .before .before .before .before .before .before .first .given .1) _ (c .before .before .before .before .before .before .sweep-along2 .ensures) _ _ (c .before .before .second .given .1) (c .combined .ensures)
 
 pub walk-segments-spec : {M : Type 1} → statement M
 walk-segments-spec =
@@ -126,6 +126,6 @@ walk-segments-spec =
     enum-told-2
     same-length-2
     returns-4
-    together-requires
+    combined-requires
     same-length-3
     returns-5)

@@ -16,26 +16,26 @@ abbrev μ-loop : tie.MeasureT-loop
 loop-holds : tie.Need-loop-holds Inv-loop μ-loop
 loop-holds c = filling-start _ _ _ (c .before .pre)
 
-mul-range-of : tie.Need-mul-range-of Inv-loop μ-loop
-mul-range-of c = search needs
+mul-cutoff-range : tie.Need-mul-cutoff-range Inv-loop μ-loop
+mul-cutoff-range c = search needs
 
-mul-range-of-2 : tie.Need-mul-range-of-2 Inv-loop μ-loop
-mul-range-of-2 c = search needs
+mul-cutoff-range-2 : tie.Need-mul-cutoff-range-2 Inv-loop μ-loop
+mul-cutoff-range-2 c = search needs
 
-mul-range-of-3 : tie.Need-mul-range-of-3 Inv-loop μ-loop
-mul-range-of-3 c = search needs
+mul-cutoff-range-3 : tie.Need-mul-cutoff-range-3 Inv-loop μ-loop
+mul-cutoff-range-3 c = search needs
 
-sub-range-of : tie.Need-sub-range-of Inv-loop μ-loop
-sub-range-of c = search needs
+sub-cutoff-range : tie.Need-sub-cutoff-range Inv-loop μ-loop
+sub-cutoff-range c = search needs
 
-part-range-of-start : tie.Need-part-range-of-start Inv-loop μ-loop
-part-range-of-start c = search needs
+part-cutoff-range-start : tie.Need-part-cutoff-range-start Inv-loop μ-loop
+part-cutoff-range-start c = search needs
 
-part-range-of-end : tie.Need-part-range-of-end Inv-loop μ-loop
-part-range-of-end c = search needs
+part-cutoff-range-end : tie.Need-part-cutoff-range-end Inv-loop μ-loop
+part-cutoff-range-end c = search needs
 
-range-of-requires : tie.Need-range-of-requires Inv-loop μ-loop
-range-of-requires c κs = search needs
+cutoff-range-requires : tie.Need-cutoff-range-requires Inv-loop μ-loop
+cutoff-range-requires c κs = search needs
 
 mul-from : tie.Need-mul-from Inv-loop μ-loop
 mul-from c = search needs
@@ -68,7 +68,7 @@ loop-less : tie.Need-loop-less Inv-loop μ-loop
 loop-less c = search needs
 
 loop-again : tie.Need-loop-again Inv-loop μ-loop
-loop-again c = filling-next _ _ _ _ _ _ (c .before .before .before .before .loop .inv) (c .before .before .before .loop-test .taken) _ (c .range-of .ensures (askable _ _ _ _ _ _ (c .before .before .before .before .loop .inv) (c .before .before .before .loop-test .taken)))
+loop-again c = filling-next _ _ _ _ _ _ (c .before .before .before .before .loop .inv) (c .before .before .before .loop-test .taken) _ (c .cutoff-range .ensures (askable _ _ _ _ _ _ (c .before .before .before .before .loop .inv) (c .before .before .before .loop-test .taken)))
 
 same-length : tie.Need-same-length Inv-loop μ-loop
 same-length c = c .before .loop .inv .len
@@ -83,13 +83,13 @@ fill-ranges-spec =
     Inv-loop
     μ-loop
     loop-holds
-    mul-range-of
-    mul-range-of-2
-    mul-range-of-3
-    sub-range-of
-    part-range-of-start
-    part-range-of-end
-    range-of-requires
+    mul-cutoff-range
+    mul-cutoff-range-2
+    mul-cutoff-range-3
+    sub-cutoff-range
+    part-cutoff-range-start
+    part-cutoff-range-end
+    cutoff-range-requires
     mul-from
     add-from
     mul-to

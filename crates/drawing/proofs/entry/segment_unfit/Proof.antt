@@ -2,38 +2,38 @@
 use mathlib.Core.Bool.{not}
 use mathlib.Core.Path.{sym, ap, _∙_}
 use borrow.Author.Tests.{lt-ltb, le-ltb}
-use Rattle.drawing.specs.Conditions.{unfitLine}
+use Rattle.drawing.specs.Conditions.{unfitFields}
 use borrow.Author.Needs.{needs}
 use Rattle.drawing.proofs.entry.segment_unfit.Statement.{statement}
 use Rattle.drawing.proofs.entry.segment_unfit.Tie as tie
 
 returns : tie.Need-returns
-unfolding unfitLine
+unfolding unfitFields
 returns c = rw (lt-ltb 1 _ (c .if1 .taken))
 
 is-finite-requires : tie.Need-is-finite-requires
 is-finite-requires c κs = search needs
 
 returns-2 : tie.Need-returns-2
-unfolding unfitLine
+unfolding unfitFields
 returns-2 c = rw (le-ltb 1 _ (c .before .before .if1 .left), ap not (sym (c .before .is-finite .ensures)) ∙ c .if2 .taken)
 
 is-finite-requires-2 : tie.Need-is-finite-requires-2
 is-finite-requires-2 c κs = search needs
 
 returns-3 : tie.Need-returns-3
-unfolding unfitLine
+unfolding unfitFields
 returns-3 c = rw (le-ltb 1 _ (c .before .before .before .before .if1 .left), ap not (sym (c .before .before .before .is-finite .ensures)) ∙ c .before .before .if2 .left, ap not (sym (c .before .is-finite2 .ensures)) ∙ c .if3 .taken)
 
 is-finite-requires-3 : tie.Need-is-finite-requires-3
 is-finite-requires-3 c κs = search needs
 
 returns-4 : tie.Need-returns-4
-unfolding unfitLine
+unfolding unfitFields
 returns-4 c = rw (le-ltb 1 _ (c .before .before .before .before .before .before .if1 .left), ap not (sym (c .before .before .before .before .before .is-finite .ensures)) ∙ c .before .before .before .before .if2 .left, ap not (sym (c .before .before .before .is-finite2 .ensures)) ∙ c .before .before .if3 .left, ap not (sym (c .before .is-finite3 .ensures)) ∙ c .if4 .taken)
 
 returns-5 : tie.Need-returns-5
-unfolding unfitLine
+unfolding unfitFields
 returns-5 c = rw (le-ltb 1 _ (c .before .before .before .before .before .before .if1 .left), ap not (sym (c .before .before .before .before .before .is-finite .ensures)) ∙ c .before .before .before .before .if2 .left, ap not (sym (c .before .before .before .is-finite2 .ensures)) ∙ c .before .before .if3 .left, ap not (sym (c .before .is-finite3 .ensures)) ∙ c .if4 .left)
 
 pub segment-unfit-spec : {M : Type 1} → statement M

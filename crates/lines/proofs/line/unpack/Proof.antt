@@ -13,8 +13,8 @@ Inv-loop n net₀ orientation₀ fixed₀ start₀ end₀ lines m i₀ net orien
 abbrev μ-loop : tie.MeasureT-loop
 μ-loop n net₀ orientation₀ fixed₀ start₀ end₀ lines m i₀ net orientation fixed start end i = m - i
 
-unpacked-requires : tie.Need-unpacked-requires Inv-loop μ-loop
-unpacked-requires c κs = search needs
+unpack-count-requires : tie.Need-unpack-count-requires Inv-loop μ-loop
+unpack-count-requires c κs = search needs
 
 loop-holds : tie.Need-loop-holds Inv-loop μ-loop
 loop-holds c = (search needs, (refl, refl, refl, refl, refl), λ ln lo lf ls le. unpacking-none)
@@ -62,7 +62,7 @@ loop-again : tie.Need-loop-again Inv-loop μ-loop
 loop-again c = (search needs, (search needs, search needs, search needs, search needs, search needs), λ ln lo lf ls le. unpacking-next (c .before .before .loop .inv .2 ln lo lf ls le) (search needs) (search needs) ln lo lf ls le)
 
 returns : tie.Need-returns Inv-loop μ-loop
-returns c = (search needs, (c .before .loop .inv .1, λ ln lo lf ls le. unpacking-all _ _ (c .before .loop .inv .2 ln lo lf ls le) (c .before .loop .inv .0) (c .loop-test .left) (c .before .before .unpacked .ensures .0) (search needs)))
+returns c = (search needs, (c .before .loop .inv .1, λ ln lo lf ls le. unpacking-all _ _ (c .before .loop .inv .2 ln lo lf ls le) (c .before .loop .inv .0) (c .loop-test .left) (c .before .before .unpack-count .ensures .0) (search needs)))
 
 pub unpack-spec : {M : Type 1} → statement M
 unpack-spec =
@@ -70,7 +70,7 @@ unpack-spec =
     (tie.spec
     Inv-loop
     μ-loop
-    unpacked-requires
+    unpack-count-requires
     loop-holds
     mul-line
     array-copy-out-line

@@ -2,7 +2,7 @@
 use mathlib.Core.Path.{sym, ap}
 use native.Mathlib.Omega.{arith}
 use Rattle.printing.specs.Fields.{fields}
-use Rattle.printing.specs.Sheet.{clearanceWord, refusal, clearanceLine}
+use Rattle.printing.specs.Sheet.{clearanceLabel, refusal, clearanceLine}
 use Rattle.text.proofs.TextPuts.{put-both, put-same, put-within}
 use borrow.Author.Needs.{needs}
 use Rattle.printing.proofs.lines.clearance_line.Statement.{statement}
@@ -39,7 +39,7 @@ same-length : tie.Need-same-length
 same-length c = search needs
 
 returns : tie.Need-returns
-unfolding clearanceLine clearanceWord fields
+unfolding clearanceLine clearanceLabel fields
 returns c =
     let visits = c .before .before .before .before .before .before in
     let violations = visits .before .before .before .before in
@@ -51,7 +51,7 @@ same-length-2 : tie.Need-same-length-2
 same-length-2 c = search needs
 
 returns-2 : tie.Need-returns-2
-unfolding clearanceLine clearanceWord refusal
+unfolding clearanceLine clearanceLabel refusal
 returns-2 c = put-same (sym (ap clearanceLine (c .before .before .before .before .before .answer2 .given .1))) (put-within (omega arith) (put-both (c .before .before .before .before .before .before .before .before .before .put-word .ensures) (c .before .before .refused-fields .ensures)))
 
 pub clearance-line-spec : {M : Type 1} → statement M

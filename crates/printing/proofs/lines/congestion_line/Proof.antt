@@ -2,7 +2,7 @@
 use mathlib.Core.Path.{sym, ap}
 use native.Mathlib.Omega.{arith}
 use Rattle.printing.specs.Fields.{fields}
-use Rattle.printing.specs.Sheet.{congestionWord, refusal, congestionLine}
+use Rattle.printing.specs.Sheet.{congestionLabel, refusal, congestionLine}
 use Rattle.text.proofs.TextPuts.{put-both, put-same, put-within}
 use borrow.Author.Needs.{needs}
 use Rattle.printing.proofs.lines.congestion_line.Statement.{statement}
@@ -42,7 +42,7 @@ same-length : tie.Need-same-length
 same-length c = search needs
 
 returns : tie.Need-returns
-unfolding congestionLine congestionWord fields
+unfolding congestionLine congestionLabel fields
 returns c =
     let peak = c .before .before .before .before .before .before in
     let overlap = peak .before .before .before .before in
@@ -55,7 +55,7 @@ same-length-2 : tie.Need-same-length-2
 same-length-2 c = search needs
 
 returns-2 : tie.Need-returns-2
-unfolding congestionLine congestionWord refusal
+unfolding congestionLine congestionLabel refusal
 returns-2 c = put-same (sym (ap congestionLine (c .before .before .before .before .before .answer2 .given .1))) (put-within (omega arith) (put-both (c .before .before .before .before .before .before .before .before .before .put-word .ensures) (c .before .before .refused-fields .ensures)))
 
 pub congestion-line-spec : {M : Type 1} → statement M

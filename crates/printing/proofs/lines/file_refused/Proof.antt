@@ -1,5 +1,5 @@
 -- `printing::lines::file_refused` meets its contract: the name, and the fields after it. Assumes nothing.
-use Rattle.printing.specs.Sheet.{refusal, fileWord}
+use Rattle.printing.specs.Sheet.{refusal, fileLabel}
 use Rattle.text.proofs.TextPuts.{put-both}
 use borrow.Author.Needs.{needs}
 use Rattle.printing.proofs.lines.file_refused.Statement.{statement}
@@ -18,7 +18,7 @@ same-length : tie.Need-same-length
 same-length c = search needs
 
 returns : tie.Need-returns
-unfolding refusal fileWord
+unfolding refusal fileLabel
 returns c = put-both (c .before .before .before .before .before .before .put-word .ensures) (c .before .before .refused-fields .ensures)
 
 pub file-refused-spec : {M : Type 1} → statement M

@@ -1,7 +1,7 @@
 -- `printing::lines::put_gap` meets its contract: case by case. Assumes nothing.
 use mathlib.Core.Path.{sym, ap}
 use native.Mathlib.Omega.{arith}
-use Rattle.printing.specs.Fields.{gap, none}
+use Rattle.printing.specs.Fields.{gapText, noneText}
 use Rattle.text.proofs.TextPuts.{put-within, put-same}
 use borrow.Author.Needs.{needs}
 use Rattle.printing.proofs.lines.put_gap.Statement.{statement}
@@ -26,15 +26,15 @@ same-length : tie.Need-same-length
 same-length c = search needs
 
 returns : tie.Need-returns
-unfolding gap none
-returns c = put-same (sym (ap gap (c .before .before .before .before .before .enum-told .given .1))) (put-within (omega arith) (c .before .before .put-word .ensures))
+unfolding gapText noneText
+returns c = put-same (sym (ap gapText (c .before .before .before .before .before .enum-told .given .1))) (put-within (omega arith) (c .before .before .put-word .ensures))
 
 same-length-2 : tie.Need-same-length-2
 same-length-2 c = search needs
 
 returns-2 : tie.Need-returns-2
-unfolding gap
-returns-2 c = put-same (sym (ap gap (c .before .before .before .before .before .gap .given .1))) (c .before .before .put-float .ensures)
+unfolding gapText
+returns-2 c = put-same (sym (ap gapText (c .before .before .before .before .before .gap .given .1))) (c .before .before .put-float .ensures)
 
 pub put-gap-spec : {M : Type 1} → statement M
 put-gap-spec =

@@ -3,7 +3,7 @@ use mathlib.Core.Path.{ap}
 use mathlib.Core.List.{_∷_}
 use Rattle.text.specs.Text.{decimal}
 use Rattle.printing.specs.Fields.{fields}
-use Rattle.printing.specs.Sheet.{refusedWord}
+use Rattle.printing.specs.Sheet.{refusedLabel}
 use Rattle.text.proofs.TextPuts.{put-both, put-same}
 use borrow.Author.Needs.{needs}
 use Rattle.printing.proofs.lines.refused_fields.Statement.{statement}
@@ -31,7 +31,7 @@ same-length : tie.Need-same-length
 same-length c = search needs
 
 returns : tie.Need-returns
-unfolding fields refusedWord
+unfolding fields refusedLabel
 returns c =
     let count = put-same (ap (λ n. 32 ∷ decimal n) (c .before .before .before .before .before .before .before .before .number .ensures)) (c .before .before .before .before .before .before .count-field .ensures) in
     put-both (c .before .before .before .before .before .before .before .before .before .before .before .put-word .ensures) (put-both count (c .before .before .put-byte .ensures))

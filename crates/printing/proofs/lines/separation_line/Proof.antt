@@ -2,7 +2,7 @@
 use mathlib.Core.Path.{sym, ap}
 use native.Mathlib.Omega.{arith}
 use Rattle.printing.specs.Fields.{fields}
-use Rattle.printing.specs.Sheet.{separationWord, refusal, separationLine}
+use Rattle.printing.specs.Sheet.{separationLabel, refusal, separationLine}
 use Rattle.text.proofs.TextPuts.{put-both, put-same, put-within}
 use borrow.Author.Needs.{needs}
 use Rattle.printing.proofs.lines.separation_line.Statement.{statement}
@@ -33,14 +33,14 @@ same-length : tie.Need-same-length
 same-length c = search needs
 
 returns : tie.Need-returns
-unfolding separationLine separationWord fields
+unfolding separationLine separationLabel fields
 returns c = put-same (sym (ap separationLine (c .before .before .before .before .before .before .before .before .before .answer .given .1))) (put-both (c .before .before .before .before .before .before .before .before .before .before .before .before .before .put-word .ensures) (put-both (c .before .before .before .before .before .before .gap-field .ensures) (c .before .before .gap-and-visits .ensures)))
 
 same-length-2 : tie.Need-same-length-2
 same-length-2 c = search needs
 
 returns-2 : tie.Need-returns-2
-unfolding separationLine separationWord refusal
+unfolding separationLine separationLabel refusal
 returns-2 c = put-same (sym (ap separationLine (c .before .before .before .before .before .answer2 .given .1))) (put-within (omega arith) (put-both (c .before .before .before .before .before .before .before .before .before .put-word .ensures) (c .before .before .refused-fields .ensures)))
 
 pub separation-line-spec : {M : Type 1} → statement M

@@ -12,7 +12,7 @@ use Rattle.records.specs.Records.{ofEdgeNode}
 use Rattle.records.specs.Inner.NoRecord.{noEdgeNode}
 use Rattle.lines.specs.Inner.Lines.{entryOf}
 use Rattle.lines.proofs.Copying.{Copied, copied-none, copied-next}
-use Rattle.lines.proofs.Enough.{copied-enough}
+use Rattle.lines.proofs.UnpackCount.{copied-enough}
 use Rattle.records.proofs.edge_node.edge_node_lines.Statement.{statement}
 use Rattle.records.proofs.edge_node.edge_node_lines.Proof.Tie as tie
 
@@ -26,8 +26,8 @@ Inv-loop records n lines₀ i₀ lines i = (i ≤ n) × Copied entryOf ofEdgeNod
 abbrev μ-loop : tie.MeasureT-loop
 μ-loop records n lines₀ i₀ lines i = n - i
 
-unpacked-requires : tie.Need-unpacked-requires Inv-loop μ-loop
-unpacked-requires c κs = search needs
+unpack-count-requires : tie.Need-unpack-count-requires Inv-loop μ-loop
+unpack-count-requires c κs = search needs
 
 loop-holds : tie.Need-loop-holds Inv-loop μ-loop
 loop-holds c = (search needs, copied-none entryOf ofEdgeNode)
@@ -54,7 +54,7 @@ loop-again : tie.Need-loop-again Inv-loop μ-loop
 loop-again c = (search needs, copied-next entryOf ofEdgeNode noEdgeNode (c .before .before .before .loop .inv .1) (search needs) (search needs) (c .edge-node-line .ensures ∙ ap ofEdgeNode (c .before .edge-node-at .ensures)))
 
 returns : tie.Need-returns Inv-loop μ-loop
-returns c = copied-enough entryOf ofEdgeNode _ (c .before .loop .inv .1) (c .before .loop .inv .0) (c .loop-test .left) (c .before .before .unpacked .ensures .0) (length-replicate 4097 blank)
+returns c = copied-enough entryOf ofEdgeNode _ (c .before .loop .inv .1) (c .before .loop .inv .0) (c .loop-test .left) (c .before .before .unpack-count .ensures .0) (length-replicate 4097 blank)
 
 pub edge-node-lines-spec : {M : Type 1} → statement M
 edge-node-lines-spec =
@@ -62,7 +62,7 @@ edge-node-lines-spec =
     (tie.spec
     Inv-loop
     μ-loop
-    unpacked-requires
+    unpack-count-requires
     loop-holds
     edge-node-at-requires
     edge-node-line-requires

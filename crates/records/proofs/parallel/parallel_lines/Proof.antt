@@ -11,7 +11,7 @@ use Rattle.records.specs.Records.{ofParallel}
 use Rattle.records.specs.Inner.NoRecord.{noParallel}
 use Rattle.lines.specs.Inner.Lines.{entryOf}
 use Rattle.lines.proofs.Copying.{Copied, copied-none, copied-next}
-use Rattle.lines.proofs.Enough.{copied-enough}
+use Rattle.lines.proofs.UnpackCount.{copied-enough}
 use Rattle.records.proofs.parallel.parallel_lines.Statement.{statement}
 use Rattle.records.proofs.parallel.parallel_lines.Proof.Tie as tie
 
@@ -25,8 +25,8 @@ Inv-loop records n lines₀ i₀ lines i = (i ≤ n) × Copied entryOf ofParalle
 abbrev μ-loop : tie.MeasureT-loop
 μ-loop records n lines₀ i₀ lines i = n - i
 
-unpacked-requires : tie.Need-unpacked-requires Inv-loop μ-loop
-unpacked-requires c κs = search needs
+unpack-count-requires : tie.Need-unpack-count-requires Inv-loop μ-loop
+unpack-count-requires c κs = search needs
 
 loop-holds : tie.Need-loop-holds Inv-loop μ-loop
 loop-holds c = (search needs, copied-none entryOf ofParallel)
@@ -53,7 +53,7 @@ loop-again : tie.Need-loop-again Inv-loop μ-loop
 loop-again c = (search needs, copied-next entryOf ofParallel noParallel (c .before .before .before .loop .inv .1) (search needs) (search needs) (c .parallel-line .ensures ∙ ap ofParallel (c .before .parallel-at .ensures)))
 
 returns : tie.Need-returns Inv-loop μ-loop
-returns c = copied-enough entryOf ofParallel _ (c .before .loop .inv .1) (c .before .loop .inv .0) (c .loop-test .left) (c .before .before .unpacked .ensures .0) (length-replicate 4097 blank)
+returns c = copied-enough entryOf ofParallel _ (c .before .loop .inv .1) (c .before .loop .inv .0) (c .loop-test .left) (c .before .before .unpack-count .ensures .0) (length-replicate 4097 blank)
 
 pub parallel-lines-spec : {M : Type 1} → statement M
 parallel-lines-spec =
@@ -61,7 +61,7 @@ parallel-lines-spec =
     (tie.spec
     Inv-loop
     μ-loop
-    unpacked-requires
+    unpack-count-requires
     loop-holds
     parallel-at-requires
     parallel-line-requires

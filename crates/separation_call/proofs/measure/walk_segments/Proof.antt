@@ -20,10 +20,10 @@ use Rattle.separation_call.proofs.measure.walk_segments.Lts as lts
 use Rattle.rows.proofs.segments_to_sweep.Reads as segments-to-sweep-reads
 use Rattle.separation_call.proofs.along.sweep_along.Reads as sweep-along-reads
 use Rattle.separation.proofs.too_few.Reads as too-few-reads
-use Rattle.separation.proofs.together.Reads as together-reads
+use Rattle.separation.proofs.combined.Reads as combined-reads
 
 -- what is known of the drawing from the beginning
-module _ (c : lts.After-slice-known (segments-to-sweep-reads.Asked, segments-to-sweep-reads.Learnt, too-few-reads.Asked, too-few-reads.Learnt, sweep-along-reads.Asked, sweep-along-reads.Learnt, together-reads.Asked, together-reads.Learnt) reads.Pre reads.Post) where
+module _ (c : lts.After-slice-known (segments-to-sweep-reads.Asked, segments-to-sweep-reads.Learnt, too-few-reads.Asked, too-few-reads.Learnt, sweep-along-reads.Asked, sweep-along-reads.Learnt, combined-reads.Asked, combined-reads.Learnt) reads.Pre reads.Post) where
   abbrev columns : SegmentColumns
   columns = segmentColumns (now (c .before .before .before .before .before .before .args .net)) (now (c .before .before .before .before .before .before .args .orientation)) (now (c .before .before .before .before .before .before .args .fixed)) (now (c .before .before .before .before .before .before .args .start)) (now (c .before .before .before .before .before .before .args .end))
 
@@ -84,14 +84,14 @@ same-length-2 c = search needs
 returns-3 : tie.Need-returns-3
 returns-3 c = walk-stops-later _ _ _ (c .before .before .before .before .before .before .before .before .before .before .before .sweep-along .ensures) _ (c .before .before .before .before .before .before .before .first .given .1) _ (c .before .before .before .before .sweep-along2 .ensures) (c .enum-told2 .given .1)
 
-together-requires : tie.Need-together-requires
-together-requires c κs = search needs
+combined-requires : tie.Need-combined-requires
+combined-requires c κs = search needs
 
 same-length-3 : tie.Need-same-length-3
 same-length-3 c = search needs
 
 returns-4 : tie.Need-returns-4
-returns-4 c = walk-both _ _ _ (c .before .before .before .before .before .before .before .before .before .before .before .before .before .sweep-along .ensures) _ (c .before .before .before .before .before .before .before .before .before .first .given .1) _ (c .before .before .before .before .before .before .sweep-along2 .ensures) _ _ (c .before .before .second .given .1) (c .together .ensures .0) (c .together .ensures .1)
+returns-4 c = walk-both _ _ _ (c .before .before .before .before .before .before .before .before .before .before .before .before .before .sweep-along .ensures) _ (c .before .before .before .before .before .before .before .before .before .first .given .1) _ (c .before .before .before .before .before .before .sweep-along2 .ensures) _ _ (c .before .before .second .given .1) (c .combined .ensures .0) (c .combined .ensures .1)
 
 pub walk-segments-spec : {M : Type 1} → statement M
 walk-segments-spec =
@@ -110,6 +110,6 @@ walk-segments-spec =
     enum-told-2
     same-length-2
     returns-3
-    together-requires
+    combined-requires
     same-length-3
     returns-4)

@@ -25,14 +25,14 @@ part-sort-indices-end c = search needs
 sort-indices-requires : tie.Need-sort-indices-requires
 sort-indices-requires c κs = search needs
 
-hand-out-requires : tie.Need-hand-out-requires
-hand-out-requires c κs = words-in-order _ _ _ _ (c .before .before .before .before .before .before .before .before .before .before .pre) (c .before .before .before .before .before .before .before .fill-words .kept .0) (c .before .before .before .before .before .before .before .fill-words .ensures) (c .before .before .before .sort-indices .ensures)
+put-slots-requires : tie.Need-put-slots-requires
+put-slots-requires c κs = words-in-order _ _ _ _ (c .before .before .before .before .before .before .before .before .before .before .pre) (c .before .before .before .before .before .before .before .fill-words .kept .0) (c .before .before .before .before .before .before .before .fill-words .ensures) (c .before .before .before .sort-indices .ensures)
 
 same-length : tie.Need-same-length
 same-length c = search needs
 
 returns : tie.Need-returns
-returns c = let fill-words = c .before .before .before .before .before .before .before .before .before .before .fill-words in slots-assigned _ _ _ _ (c .before .before .before .before .before .before .before .before .before .before .before .before .before .pre) (fill-words .kept .0) (fill-words .ensures) (c .before .before .before .before .before .before .sort-indices .ensures) _ (c .before .before .hand-out .ensures)
+returns c = let fill-words = c .before .before .before .before .before .before .before .before .before .before .fill-words in slots-assigned _ _ _ _ (c .before .before .before .before .before .before .before .before .before .before .before .before .before .pre) (fill-words .kept .0) (fill-words .ensures) (c .before .before .before .before .before .before .sort-indices .ensures) _ (c .before .before .put-slots .ensures)
 
 pub assign-slots-spec : {M : Type 1} → statement M
 assign-slots-spec =
@@ -45,6 +45,6 @@ assign-slots-spec =
     part-sort-indices-start
     part-sort-indices-end
     sort-indices-requires
-    hand-out-requires
+    put-slots-requires
     same-length
     returns)

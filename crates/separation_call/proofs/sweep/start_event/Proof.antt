@@ -44,38 +44,38 @@ mul-slot-2 c = search needs
 slice-read-slot : tie.Need-slice-read-slot
 slice-read-slot c = search needs
 
-mul-look : tie.Need-mul-look
-mul-look c = search needs
+mul-with-nearest : tie.Need-mul-with-nearest
+mul-with-nearest c = search needs
 
-mul-look-2 : tie.Need-mul-look-2
-mul-look-2 c = search needs
+mul-with-nearest-2 : tie.Need-mul-with-nearest-2
+mul-with-nearest-2 c = search needs
 
-sub-look : tie.Need-sub-look
-sub-look c = search needs
+sub-with-nearest : tie.Need-sub-with-nearest
+sub-with-nearest c = search needs
 
-part-look-start : tie.Need-part-look-start
-part-look-start c = search needs
+part-with-nearest-start : tie.Need-part-with-nearest-start
+part-with-nearest-start c = search needs
 
-part-look-end : tie.Need-part-look-end
-part-look-end c = search needs
+part-with-nearest-end : tie.Need-part-with-nearest-end
+part-with-nearest-end c = search needs
 
-mul-look-3 : tie.Need-mul-look-3
-mul-look-3 c = search needs
+mul-with-nearest-3 : tie.Need-mul-with-nearest-3
+mul-with-nearest-3 c = search needs
 
-mul-look-4 : tie.Need-mul-look-4
-mul-look-4 c = search needs
+mul-with-nearest-4 : tie.Need-mul-with-nearest-4
+mul-with-nearest-4 c = search needs
 
-sub-look-2 : tie.Need-sub-look-2
-sub-look-2 c = search needs
+sub-with-nearest-2 : tie.Need-sub-with-nearest-2
+sub-with-nearest-2 c = search needs
 
-part-look-start-2 : tie.Need-part-look-start-2
-part-look-start-2 c = search needs
+part-with-nearest-start-2 : tie.Need-part-with-nearest-start-2
+part-with-nearest-start-2 c = search needs
 
-part-look-end-2 : tie.Need-part-look-end-2
-part-look-end-2 c = search needs
+part-with-nearest-end-2 : tie.Need-part-with-nearest-end-2
+part-with-nearest-end-2 c = search needs
 
-look-requires : tie.Need-look-requires
-look-requires c κs = start-lookable _ _ _ _ (c .before .before .before .before .before .before .before .pre)
+with-nearest-requires : tie.Need-with-nearest-requires
+with-nearest-requires c κs = start-lookable _ _ _ _ (c .before .before .before .before .before .before .before .pre)
 
 enum-known-handled : tie.Need-enum-known-handled
 enum-known-handled c = search needs
@@ -87,7 +87,7 @@ same-length : tie.Need-same-length
 same-length c = search needs
 
 returns : tie.Need-returns
-returns c = let b = c .before .before .before .before .before .before .before .before .before .before in let a = b .args in begins-not (now (a .s)) _ _ (a .state) (a .n) _ _ (b .pre .inside) (c .before .before .look .ensures) (c .enum-told .given .1)
+returns c = let b = c .before .before .before .before .before .before .before .before .before .before in let a = b .args in begins-not (now (a .s)) _ _ (a .state) (a .n) _ _ (b .pre .inside) (c .before .before .with-nearest .ensures) (c .enum-told .given .1)
 
 mul-enter : tie.Need-mul-enter
 mul-enter c = search needs
@@ -111,7 +111,7 @@ same-length-2 : tie.Need-same-length-2
 same-length-2 c = search needs
 
 returns-2 : tie.Need-returns-2
-returns-2 c = let b = c .before .before .before .before .before .before .before .before .before .before .before .before .before .before .before in let a = b .args in begins (now (a .s)) _ _ (a .state) (a .n) _ _ _ (c .before .before .enter .last .0) (b .pre .inside) (c .before .before .before .before .before .before .before .look .ensures) (c .before .before .before .before .before .handled .given .1) (c .before .before .enter .ensures .0) (c .before .before .enter .ensures .1) (c .before .before .enter .kept .0)
+returns-2 c = let b = c .before .before .before .before .before .before .before .before .before .before .before .before .before .before .before in let a = b .args in begins (now (a .s)) _ _ (a .state) (a .n) _ _ _ (c .before .before .enter .last .0) (b .pre .inside) (c .before .before .before .before .before .before .before .with-nearest .ensures) (c .before .before .before .before .before .handled .given .1) (c .before .before .enter .ensures .0) (c .before .before .enter .ensures .1) (c .before .before .enter .kept .0)
 
 pub start-event-spec : {M : Type 1} → statement M
 start-event-spec =
@@ -130,17 +130,17 @@ start-event-spec =
     add-slot
     mul-slot-2
     slice-read-slot
-    mul-look
-    mul-look-2
-    sub-look
-    part-look-start
-    part-look-end
-    mul-look-3
-    mul-look-4
-    sub-look-2
-    part-look-start-2
-    part-look-end-2
-    look-requires
+    mul-with-nearest
+    mul-with-nearest-2
+    sub-with-nearest
+    part-with-nearest-start
+    part-with-nearest-end
+    mul-with-nearest-3
+    mul-with-nearest-4
+    sub-with-nearest-2
+    part-with-nearest-start-2
+    part-with-nearest-end-2
+    with-nearest-requires
     enum-known-handled
     enum-told
     same-length

@@ -2,7 +2,7 @@
 use mathlib.Core.Path.{ap, _∙_}
 use borrow.Author.Needs.{needs}
 use Rattle.separation.specs.declared.summary.NetSummary.{NetSummary}
-use Rattle.separation.specs.Inner.Summaries.{hasOther}
+use Rattle.separation.specs.Inner.Summaries.{summaryHasOther}
 use Rattle.separation_call.proofs.tree.other_below.Statement.{statement}
 use Rattle.separation_call.proofs.tree.other_below.Tie as tie
 
@@ -19,7 +19,7 @@ has-other-requires : tie.Need-has-other-requires
 has-other-requires c κs = search needs
 
 returns : tie.Need-returns
-returns c = c .has-other .ensures ∙ ap (λ (s : NetSummary). hasOther s (c .before .before .before .before .args .excluded)) (c .before .summary-of-word .ensures)
+returns c = c .has-other .ensures ∙ ap (λ (s : NetSummary). summaryHasOther s (c .before .before .before .before .args .excluded)) (c .before .summary-of-word .ensures)
 
 pub other-below-spec : {M : Type 1} → statement M
 other-below-spec =

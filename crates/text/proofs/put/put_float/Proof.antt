@@ -1,6 +1,6 @@
 -- `text::put::put_float` meets its contract: the digits are those of its bits. Assumes nothing.
 use mathlib.Core.Path.{ap}
-use Rattle.text.specs.Text.{float, hexadecimal}
+use Rattle.text.specs.Text.{floatText, hexadecimal}
 use Rattle.text.proofs.TextPuts.{put-same}
 use borrow.Author.Needs.{needs}
 use Rattle.text.proofs.put.put_float.Statement.{statement}
@@ -16,7 +16,7 @@ same-length : tie.Need-same-length
 same-length c = search needs
 
 returns : tie.Need-returns
-unfolding float
+unfolding floatText
 returns c = put-same (ap (hexadecimal 16) (c .before .before .before .before .bits-of .ensures)) (c .before .before .put-hexadecimal .ensures)
 
 pub put-float-spec : {M : Type 1} → statement M

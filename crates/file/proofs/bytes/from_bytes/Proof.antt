@@ -1,9 +1,9 @@
--- `file::bytes::joined` meets its contract. Assumes nothing.
+-- `file::bytes::from_bytes` meets its contract. Assumes nothing.
 use native.Mathlib.Omega.{arith}
 use Rattle.file.specs.Reading.{bigEndian}
 use borrow.Author.Needs.{needs}
-use Rattle.file.proofs.bytes.joined.Statement.{statement}
-use Rattle.file.proofs.bytes.joined.Tie as tie
+use Rattle.file.proofs.bytes.from_bytes.Statement.{statement}
+use Rattle.file.proofs.bytes.from_bytes.Tie as tie
 
 mul-result : tie.Need-mul-result
 mul-result c = search needs
@@ -27,7 +27,7 @@ returns : tie.Need-returns
 unfolding bigEndian
 returns c = omega arith
 
-pub joined-spec : {M : Type 1} → statement M
-joined-spec =
+pub from-bytes-spec : {M : Type 1} → statement M
+from-bytes-spec =
     tie.close
     (tie.spec mul-result add-result mul-result-2 add-result-2 mul-result-3 add-result-3 returns)

@@ -1,9 +1,9 @@
--- `key_ranges::range::range_of` meets its contract: one search for each end. Assumes nothing.
+-- `key_ranges::range::cutoff_range` meets its contract: one search for each end. Assumes nothing.
 use native.Mathlib.Omega.{arith}
 use borrow.Author.Needs.{needs}
 use Rattle.key_ranges.proofs.KeySearch.{next-fits, reached}
-use Rattle.key_ranges.proofs.range.range_of.Statement.{statement}
-use Rattle.key_ranges.proofs.range.range_of.Tie as tie
+use Rattle.key_ranges.proofs.range.cutoff_range.Statement.{statement}
+use Rattle.key_ranges.proofs.range.cutoff_range.Tie as tie
 
 returns : tie.Need-returns
 returns c = λ p. absurd (omega (arith, p .1, c .if1 .taken))
@@ -43,8 +43,8 @@ returns-4 c = λ p.
     let q = c .before .before in
     reached (q .before .before .before .before .before .before .before .before .before .before .args .keys .now) _ _ _ _ _ _ _ (q .before .before .float-of-key .ensures) (q .before .key-of .ensures) (q .key-of2 .ensures) (c .before .first-at-least .ensures (p .0)) (c .first-at-least2 .ensures (p .0))
 
-pub range-of-spec : {M : Type 1} → statement M
-range-of-spec =
+pub cutoff-range-spec : {M : Type 1} → statement M
+cutoff-range-spec =
     tie.close
     (tie.spec
     returns

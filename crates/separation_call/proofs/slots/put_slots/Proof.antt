@@ -1,9 +1,9 @@
--- `separation_call::slots::hand_out` meets its contract: after k iterations the segments of the first k words have their slots. Assumes nothing.
+-- `separation_call::slots::put_slots` meets its contract: after k iterations the segments of the first k words have their slots. Assumes nothing.
 use Prim.Native.Nat.{_-_}
 use borrow.Author.Needs.{needs}
 use Rattle.separation_call.proofs.SlotLaws.{Handing, place-inside, handing-next, handing-end}
-use Rattle.separation_call.proofs.slots.hand_out.Statement.{statement}
-use Rattle.separation_call.proofs.slots.hand_out.Tie as tie
+use Rattle.separation_call.proofs.slots.put_slots.Statement.{statement}
+use Rattle.separation_call.proofs.slots.put_slots.Tie as tie
 
 abbrev Inv-loop : tie.InvT-loop
 Inv-loop s₀ n slot₀ last₀ k₀ s slot last k = Handing n s₀ s slot last k
@@ -56,8 +56,8 @@ same-length c = search needs
 returns : tie.Need-returns Inv-loop μ-loop
 returns c = handing-end _ _ _ _ _ _ (c .before .loop .inv) (c .loop-test .left)
 
-pub hand-out-spec : {M : Type 1} → statement M
-hand-out-spec =
+pub put-slots-spec : {M : Type 1} → statement M
+put-slots-spec =
     tie.close
     (tie.spec
     Inv-loop

@@ -1,9 +1,9 @@
--- `exemptions::range_of` meets its contract: the net's words are those from its least word on and before the next net's. Assumes nothing.
+-- `exemptions::net_range` meets its contract: the net's words are those from its least word on and before the next net's. Assumes nothing.
 use native.Mathlib.Omega.{arith}
 use borrow.Author.Needs.{needs}
 use Rattle.exemptions.proofs.ExemptLaws.{own-between, own-last}
-use Rattle.exemptions.proofs.range_of.Statement.{statement}
-use Rattle.exemptions.proofs.range_of.Tie as tie
+use Rattle.exemptions.proofs.net_range.Statement.{statement}
+use Rattle.exemptions.proofs.net_range.Tie as tie
 
 mul-first-at-least : tie.Need-mul-first-at-least
 mul-first-at-least c = search needs
@@ -28,8 +28,8 @@ returns-2 c = λ h.
     let f = c .before .before .first-at-least .ensures (omega arith) (h .room) (h .order) in
     own-between (c .before .before .before .before .args .words .now) _ _ _ f _ (c .first-at-least2 .ensures (f .to) (h .room) (λ i j p q t. h .order i j (omega arith) q t))
 
-pub range-of-spec : {M : Type 1} → statement M
-range-of-spec =
+pub net-range-spec : {M : Type 1} → statement M
+net-range-spec =
     tie.close
     (tie.spec
     mul-first-at-least

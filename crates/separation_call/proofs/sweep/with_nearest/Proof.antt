@@ -1,9 +1,9 @@
--- `separation_call::sweep::look` meets its contract: the own line, the search below and the search above, each within the visits that the one before it left. Assumes nothing.
+-- `separation_call::sweep::with_nearest` meets its contract: the own line, the search below and the search above, each within the visits that the one before it left. Assumes nothing.
 use borrow.Author.Needs.{needs}
 use denote.Ref.{now}
 use Rattle.separation_call.proofs.SweepSteps.{right-within, left-within, look-none, look-stops, look-on}
-use Rattle.separation_call.proofs.sweep.look.Statement.{statement}
-use Rattle.separation_call.proofs.sweep.look.Tie as tie
+use Rattle.separation_call.proofs.sweep.with_nearest.Statement.{statement}
+use Rattle.separation_call.proofs.sweep.with_nearest.Tie as tie
 
 has-other-at-requires : tie.Need-has-other-at-requires
 has-other-at-requires c κs = search needs
@@ -61,8 +61,8 @@ returns-3 c =
     let a = other .before .before .before .args in
     λ ls H active x k v f l. look-on (now (a .tree)) (now (a .fixed)) _ _ _ (a .state) ls H active x k v f l _ (other .has-other-at .ensures) _ _ _ (at .at .given .1) _ _ (own .with-own-line .ensures .0) (own .with-own-line .ensures .1) (below .before .rightmost-other .ensures) (below .with-search .ensures) _ _ _ (c .before .before .before .handled .given .1) (c .before .leftmost-other .ensures) (c .with-search2 .ensures)
 
-pub look-spec : {M : Type 1} → statement M
-look-spec =
+pub with-nearest-spec : {M : Type 1} → statement M
+with-nearest-spec =
     tie.close
     (tie.spec
     has-other-at-requires
