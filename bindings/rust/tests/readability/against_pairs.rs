@@ -1,5 +1,5 @@
 //! Random drawings against the computation over all pairs: figures bit by bit,
-//! visit counts within document 01's bounds, allowances, and the order of the
+//! visit counts within the bounds of SCOPE 4, allowances, and the order of the
 //! lists.
 
 use readability::{

@@ -1,4 +1,4 @@
-//! The bindings: what document 01 says of drawing D, of the marked cases and of
+//! The bindings: what SCOPE says of drawing D, of the marked cases and of
 //! the refusals; random drawings against a computation over all pairs; and the
 //! original module against this crate.
 

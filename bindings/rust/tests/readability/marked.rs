@@ -1,4 +1,4 @@
-//! Drawing D and the marked cases of document 01, (a) to (l).
+//! Drawing D and the marked cases of SCOPE 13, (a) to (l).
 
 use readability::{
     measure_edge_node_clearance_bounded, measure_parallel_congestion,

@@ -1,4 +1,4 @@
-//! The figures over all pairs, written from document 01: no tree and no sweep.
+//! The figures over all pairs, written from the request (SCOPE 3): no tree and no sweep.
 //! Every pair is looked at.
 
 use readability::{
@@ -115,7 +115,7 @@ fn add_neighbours(figures: &mut ParallelCongestion, shared: &[(f64, f64)]) {
     }
 }
 
-/// Document 01's formula.
+/// The formula of SCOPE 4.5.
 pub fn congestion_visits(drawing: &Drawing) -> usize {
     if drawing.cutoff <= 0.0 {
         return 0;
@@ -126,7 +126,7 @@ pub fn congestion_visits(drawing: &Drawing) -> usize {
     by_orientation(drawing, |segments, _| segments) + 2 * close
 }
 
-/// The most visits that document 01 leaves to separation.
+/// The most visits that SCOPE 4.4 leaves to separation.
 pub fn most_separation_visits(drawing: &Drawing) -> usize {
     by_orientation(drawing, |segments, levels| segments * (10 * levels + 5))
 }

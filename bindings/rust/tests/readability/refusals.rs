@@ -235,7 +235,7 @@ impl Columns {
     }
 
     /// What each of the five measures answers, if it refuses; and the scratch is
-    /// as document 01 says.
+    /// as SCOPE 7 says.
     fn measures(&self, threshold: f64, cutoff: f64, allowance: usize) -> [Option<Refusal>; 5] {
         let (s, n, r) = (self.segments(), self.nodes(), self.relations());
         [

@@ -1,7 +1,7 @@
 //! The swap: one piece of code, compiled once with the names of the original
 //! module and once with those of this crate, gives the same, bit by bit.
 //!
-//! The original is asked only where document 01 has no departure from it:
+//! The original is asked only where SCOPE 9 has no departure from it:
 //! congestion on the grid, with a segment at least and +0 for every zero.
 
 /// A caller of the module. Nothing in it but the `use` depends on where the names
