@@ -70,7 +70,10 @@ fn version_names(archive: &[u8]) -> BTreeSet<String> {
     archive
         .windows(VERSION.len())
         .enumerate()
-        .filter(|(_, bytes)| *bytes == VERSION.as_bytes())
+        .filter(|(place, bytes)| {
+            let within = *place > 0 && of_name(&archive[*place - 1]);
+            *bytes == VERSION.as_bytes() && !within
+        })
         .map(|(place, _)| {
             let name = archive[place..].iter().copied();
             name.take_while(of_name).map(char::from).collect()

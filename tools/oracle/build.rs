@@ -1,8 +1,8 @@
-//! Finds the reference, readability.rs, and hands its place to the compiler;
+//! Finds the reference, readability.rs, and passes its place to the compiler;
 //! links the port where its library has been made.
 //!
 //! The variable READABILITY_RS names it; without the variable it is looked for
-//! beside the project, where the papers lie. A relative path counts from the
+//! beside the project. A relative path counts from the
 //! project's root.
 
 use std::{env, path::Path, process::ExitCode};
@@ -16,8 +16,8 @@ const PROGRAM: &str = "target/bin/sheet";
 
 fn main() -> ExitCode {
     println!("cargo:rerun-if-env-changed=READABILITY_RS");
-    hand_on("OPT_LEVEL", "BUILT_AT_LEVEL");
-    hand_on("CARGO_ENCODED_RUSTFLAGS", "BUILT_WITH_FLAGS");
+    pass_to_program("OPT_LEVEL", "BUILT_AT_LEVEL");
+    pass_to_program("CARGO_ENCODED_RUSTFLAGS", "BUILT_WITH_FLAGS");
     let package = env::var("CARGO_MANIFEST_DIR").expect("cargo names the package's folder");
     let root = Path::new(&package).join("../..");
     link_port(&root.join(PORT));
@@ -40,7 +40,7 @@ fn main() -> ExitCode {
 }
 
 /// What cargo says of this build, for the program that is built.
-fn hand_on(said: &str, name: &str) {
+fn pass_to_program(said: &str, name: &str) {
     let value = env::var(said).unwrap_or_default();
     println!("cargo:rustc-env={name}={}", value.replace('\u{1f}', " "));
 }

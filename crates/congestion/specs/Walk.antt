@@ -72,7 +72,7 @@ neighbor c s r = r .active && (inRange c s (r .item .wire) && other s (r .item .
 abbrev pub same : Item → Item → Bool
 same i j = eqb (i .index) (j .index)
 
--- a row after the start of an item with n neighbors, and after an end: the row of the item itself, that of a neighbor, any other
+-- the state of a wire after the start of an item with n neighbors, and after an end: that of the item itself, of a neighbor, of any other
 abbrev pub risen : Bool → Bool → ℕ → WireState → WireState
 risen true b n r = record { item = r .item; active = true; neighbors = n }
 risen false true n r = record { item = r .item; active = r .active; neighbors = r .neighbors + 1 }

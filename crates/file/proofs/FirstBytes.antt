@@ -14,7 +14,7 @@ use mathlib.Core.Logic.{_⊎_, inl, inr}
 use Rattle.laws.proofs.Tests.{cond-true, le-or-lt}
 use Rattle.drawing.specs.declared.refusal.Refusal.{Refusal}
 use Rattle.drawing.specs.declared.refusal.Refusal.the-variants.{MalformedFile, TooManyEntries}
-use Rattle.file.specs.Reading.{Read, got, refused, then, bigEndian, number, float, version, orientation, segment, node, exemption, entries, counted, settings, parts, ended, read}
+use Rattle.file.specs.Reading.{Read, got, refused, then, bigEndian, number, float, versionByte, orientation, segment, node, exemption, entries, counted, settings, parts, ended, read}
 
 -- the same outcome with more bytes at the end
 abbrev pub behind : {A : Type 0} → List ℕ → Read A → Read A
@@ -80,8 +80,8 @@ in-float : Within 8 float
 unfolding float
 in-float = in-turn (in-number 8) (λ n. none-looked-at (ofBits binary64 n))
 
-in-version : Within 1 version
-unfolding version
+in-version : Within 1 versionByte
+unfolding versionByte
 in-version = in-turn (in-number 1) (λ n. either (eqb n 1) (none-looked-at n) (refused-at-once MalformedFile))
 
 in-orientation : Within 1 orientation

@@ -12,7 +12,7 @@ use lib.Seq.{drop-drop}
 use Rattle.laws.proofs.Tests.{cond-true, cond-false, or-false}
 use Rattle.drawing.specs.Entries.{Segment, Node, Exemption}
 use Rattle.drawing.specs.declared.refusal.Refusal.the-variants.{MalformedFile}
-use Rattle.file.specs.Reading.{got, refused, bigEndian, float, version, orientation, segment, node, exemption, Settings, settings}
+use Rattle.file.specs.Reading.{got, refused, bigEndian, float, versionByte, orientation, segment, node, exemption, Settings, settings}
 use Rattle.file.proofs.Fixed.{Fixed, fixed-number, fixed-got, fixed-then, fixed-as}
 
 -- the number of k bytes, and the float, from an offset on
@@ -44,8 +44,8 @@ fixed-where b a =
       reads = λ l h e. cond-true b _ _ (not-false b e);
     }
 
-pub fixed-version : Fixed 1 (λ l. not (eqb (numberAt 1 0 l) 1)) (numberAt 1 0) version
-unfolding version
+pub fixed-version : Fixed 1 (λ l. not (eqb (numberAt 1 0 l) 1)) (numberAt 1 0) versionByte
+unfolding versionByte
 fixed-version = fixed-then (fixed-number 1) (λ n. fixed-where (eqb n 1) n)
 
 fixed-orientation : Fixed 1 (λ l. ltb 1 (numberAt 1 0 l)) (numberAt 1 0) orientation

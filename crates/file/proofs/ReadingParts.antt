@@ -17,7 +17,7 @@ use Rattle.file.specs.declared.scan.ListCount.{ListCount}
 use Rattle.file.specs.declared.scan.ListCount.the-variants.{Entries, Refused}
 use Rattle.file.specs.declared.reading.Header.{Header}
 use Rattle.file.specs.declared.reading.Reading.the-variants as answers
-use Rattle.file.specs.Reading.{got, refused, number, version, counted, segment, node, exemption, Drawing, parts, ended, read}
+use Rattle.file.specs.Reading.{got, refused, number, versionByte, counted, segment, node, exemption, Drawing, parts, ended, read}
 use Rattle.file.specs.Inner.Places.{places, countOf, Room}
 use Rattle.file.specs.Columns.{headerOf, readingOf}
 use Rattle.file.proofs.Fixed.{then-got, then-refused, fixed-number}
@@ -115,7 +115,7 @@ other-version l h k =
 
 pub record HasVersion (l : List ℕ) : Type 0 where
   pub some : 1 ≤ length l
-  pub reads : version l ≡ got (numberAt 1 0 l) (drop 1 l)
+  pub reads : versionByte l ≡ got (numberAt 1 0 l) (drop 1 l)
 
 pub has-version : (l : List ℕ) → (length l ≡ 0 → ⊥) → getD l 0 0 ≡ 1 → HasVersion l
 has-version l h k =

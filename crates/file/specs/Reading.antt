@@ -32,8 +32,8 @@ unfoldable pub float : List ℕ → Read Float
 float l = then (number 8 l) (λ n rest. got (ofBits binary64 n) rest)
 
 -- SCOPE 7.1: "The file has a wrong version": the one version is 1
-unfoldable pub version : List ℕ → Read ℕ
-version l = then (number 1 l) (λ n rest. cond (eqb n 1) (got n rest) (refused MalformedFile))
+unfoldable pub versionByte : List ℕ → Read ℕ
+versionByte l = then (number 1 l) (λ n rest. cond (eqb n 1) (got n rest) (refused MalformedFile))
 
 -- SCOPE 7.1: "an orientation byte above 1"
 unfoldable pub orientation : List ℕ → Read ℕ
@@ -101,7 +101,7 @@ pub record Drawing : Type 0 where
 -- the parts in their order. SCOPE 7.3: "in the program more than 120 segments, 120 nodes or 240 exemptions"
 unfoldable pub parts : List ℕ → Read Drawing
 parts l =
-    then (version l) (λ v l1.
+    then (versionByte l) (λ v l1.
     then (counted 120 segment l1) (λ ss l2.
     then (counted 120 node l2) (λ ns l3.
     then (counted 240 exemption l3) (λ es l4.

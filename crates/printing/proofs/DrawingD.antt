@@ -10,7 +10,7 @@ use Rattle.separation.specs.Answer.{separationAnswer}
 use Rattle.separation.proofs.Examples as OfSeparation
 use Rattle.congestion.specs.Answer.{densityAnswer}
 use Rattle.congestion.proofs.Examples as OfCongestion
-use Rattle.file.specs.Reading.{got, Drawing, then, bigEndian, number, float as readFloat, version, orientation, segment, node, exemption, entries, counted, settings, parts, ended, read}
+use Rattle.file.specs.Reading.{got, Drawing, then, bigEndian, number, float as readFloat, versionByte, orientation, segment, node, exemption, entries, counted, settings, parts, ended, read}
 use Rattle.text.specs.Text.{glyph, hexadecimal, leading, decimal, floatText}
 use Rattle.printing.specs.Fields.{gapText, fields}
 use Rattle.printing.specs.Sheet.{clearanceLabel, separationLabel, congestionLabel, clearanceLine, separationLine, congestionLine, scratchWords, linesOfColumns, linesOfDrawing, printed, sheet}
@@ -52,7 +52,7 @@ abbrev congestionText : List ℕ
 congestionText = 99 ∷ 111 ∷ 110 ∷ 103 ∷ 101 ∷ 115 ∷ 116 ∷ 105 ∷ 111 ∷ 110 ∷ 32 ∷ 52 ∷ 48 ∷ 51 ∷ 52 ∷ 48 ∷ 48 ∷ 48 ∷ 48 ∷ 48 ∷ 48 ∷ 48 ∷ 48 ∷ 48 ∷ 48 ∷ 48 ∷ 48 ∷ 32 ∷ 52 ∷ 48 ∷ 50 ∷ 52 ∷ 48 ∷ 48 ∷ 48 ∷ 48 ∷ 48 ∷ 48 ∷ 48 ∷ 48 ∷ 48 ∷ 48 ∷ 48 ∷ 48 ∷ 32 ∷ 52 ∷ 48 ∷ 49 ∷ 52 ∷ 48 ∷ 48 ∷ 48 ∷ 48 ∷ 48 ∷ 48 ∷ 48 ∷ 48 ∷ 48 ∷ 48 ∷ 48 ∷ 48 ∷ 32 ∷ 49 ∷ 32 ∷ 52 ∷ 48 ∷ 49 ∷ 48 ∷ 48 ∷ 48 ∷ 48 ∷ 48 ∷ 48 ∷ 48 ∷ 48 ∷ 48 ∷ 48 ∷ 48 ∷ 48 ∷ 48 ∷ 32 ∷ 52 ∷ 10 ∷ []
 
 pub file-of-d : read bytes ≡ got drawing []
-unfolding then bigEndian number readFloat version orientation segment node exemption entries counted settings parts ended read
+unfolding then bigEndian number readFloat versionByte orientation segment node exemption entries counted settings parts ended read
 file-of-d = refl
 
 pub clearance-of-d : clearanceLine (clearanceAnswer (columnsOf (drawing .segments)) (nodeColumnsOf (drawing .nodes)) (exemptionColumnsOf (drawing .exemptions)) (drawing .settings .threshold) 1000 7744) ≡ clearanceText

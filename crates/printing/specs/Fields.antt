@@ -5,7 +5,7 @@ use Rattle.drawing.specs.declared.gap.Gap.{Gap}
 use Rattle.drawing.specs.declared.gap.Gap.the-variants.{Absent, Present}
 use Rattle.text.specs.Text.{floatText}
 
--- SCOPE 11.3: "an absent gap is `noneText`"
+-- SCOPE 11.3: "an absent gap is `none`"
 unfoldable pub noneText : List ℕ
 noneText = 110 ∷ 111 ∷ 110 ∷ 101 ∷ []
 

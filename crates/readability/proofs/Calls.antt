@@ -37,6 +37,6 @@ calls = record {
   of-density-by-records = record { ends = λ w γ k same. density-entry-reads.known w γ k _ same (density-entry.met (w .𝓤) (w .H) (w .𝓜) (w .𝓖) (w .𝓡)); asks-nothing = λ κs a. tt; says = λ κs a x e l. record { answers = l .0; leaves = l .1; held = l .2 } };
   of-profile-by-records = record { ends = λ w γ k same. profile-entry-reads.known w γ k _ same (profile-entry.met (w .𝓤) (w .H) (w .𝓜) (w .𝓖) (w .𝓡)); asks-nothing = λ κs a. tt; says = λ κs a x e l. record { answers = l .0; leaves = l .1; held = l .2 } };
   of-congestion-by-records = record { ends = λ w γ k same. congestion-entry-reads.known w γ k _ same (congestion-entry.met (w .𝓤) (w .H) (w .𝓜) (w .𝓖) (w .𝓡)); asks-nothing = λ κs a. tt; says = λ κs a x e l. record { answers = l .0; leaves = l .1; held = l .2 } };
-  stand-for = columns-entries;
+  columns-entries = columns-entries;
   never-differ = columns-same;
 }

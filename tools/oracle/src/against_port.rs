@@ -3,7 +3,7 @@
 
 use crate::{
     drawing::{drawing_d, Drawing, Segment, HORIZONTAL, VERTICAL},
-    port::{run, run_by_records, run_ratio, scratch_words, Call, Columns, Told, CALLS},
+    port::{run, run_by_records, run_ratio, scratch_words, Call, Columns, Returned, CALLS},
     random::Random,
     reference::{self, Fed, Run},
     refusals::{before_work, settle},
@@ -258,12 +258,12 @@ impl Tried {
     ) {
         let before = self.contents(words + GUARDS);
         let mut after = before.clone();
-        let told = run(self.call, columns, allowance, &mut after[..words]);
-        let expected = Told::expected(answer, told.words.len());
+        let returned = run(self.call, columns, allowance, &mut after[..words]);
+        let expected = Returned::expected(answer, returned.words.len());
         let call = self.call.name();
-        if told != expected {
+        if returned != expected {
             self.found.push(format!(
-                "the port's {call}, {about}: {told:x?}, where {expected:x?} is expected"
+                "the port's {call}, {about}: {returned:x?}, where {expected:x?} is expected"
             ));
         }
         let (lent, guards) = after.split_at(words);
@@ -279,8 +279,10 @@ impl Tried {
             ));
         }
         self.found.extend(
-            differs_by_records(self.call, columns, allowance, words, before, &told, &after)
-                .map(|difference| format!("the port's {call} by records, {about}: {difference}")),
+            differs_by_records(
+                self.call, columns, allowance, words, before, &returned, &after,
+            )
+            .map(|difference| format!("the port's {call} by records, {about}: {difference}")),
         );
     }
 
@@ -302,13 +304,15 @@ fn differs_by_records(
     allowance: u64,
     words: usize,
     mut scratch: Vec<u64>,
-    told: &Told,
+    returned: &Returned,
     left: &[u64],
 ) -> Option<String> {
     let records = columns.records()?;
     let by_records = run_by_records(call, &records, columns, allowance, &mut scratch[..words]);
-    if by_records != *told {
-        Some(format!("{by_records:x?}, where by columns it is {told:x?}"))
+    if by_records != *returned {
+        Some(format!(
+            "{by_records:x?}, where by columns it is {returned:x?}"
+        ))
     } else if scratch != left {
         Some("the scratch is not as by columns".to_string())
     } else {
@@ -330,20 +334,20 @@ pub fn differences_at_sizes() -> Vec<String> {
             let need = scratch_words(call.measure(), &drawing_of(count));
             for (lists, words) in [(&columns, need), (&columns, need - 1), (&uneven, need)] {
                 let mut visits = vec![u64::MAX];
-                let (told, _) = from_ones(call, lists, words, u64::MAX);
+                let (returned, _) = from_ones(call, lists, words, u64::MAX);
                 let expected = if count > 4_096 { 3 } else { 0 };
-                if words == need && lists.width.len() == 3 && told.status != expected {
+                if words == need && lists.width.len() == 3 && returned.status != expected {
                     found.push(format!(
-                        "the port's {}, {count} segments: {told:x?}",
+                        "the port's {}, {count} segments: {returned:x?}",
                         call.name()
                     ));
                 }
-                visits.extend([told.visits(), told.visits().saturating_sub(1), 0]);
+                visits.extend([returned.visits(), returned.visits().saturating_sub(1), 0]);
                 for allowance in visits {
-                    let (told, left) = from_ones(call, lists, words, allowance);
+                    let (returned, left) = from_ones(call, lists, words, allowance);
                     let ones = vec![u64::MAX; words + GUARDS];
                     let differs =
-                        differs_by_records(call, lists, allowance, words, ones, &told, &left);
+                        differs_by_records(call, lists, allowance, words, ones, &returned, &left);
                     found.extend(differs.map(|difference| {
                         let call = call.name();
                         format!("the port's {call} by records, {count} segments: {difference}")
@@ -356,10 +360,10 @@ pub fn differences_at_sizes() -> Vec<String> {
 }
 
 /// A call by columns from a scratch of ones: what it returns and leaves.
-fn from_ones(call: Call, columns: &Columns, words: usize, allowance: u64) -> (Told, Vec<u64>) {
+fn from_ones(call: Call, columns: &Columns, words: usize, allowance: u64) -> (Returned, Vec<u64>) {
     let mut scratch = vec![u64::MAX; words + GUARDS];
-    let told = run(call, columns, allowance, &mut scratch[..words]);
-    (told, scratch)
+    let returned = run(call, columns, allowance, &mut scratch[..words]);
+    (returned, scratch)
 }
 
 /// A fit drawing with this many segments, of both orientations and some nets,
@@ -411,11 +415,11 @@ pub fn ratio_differences(drawing: &Drawing, answer: &Answer) -> Vec<String> {
     }
     let mut found = Vec::new();
     for [total, congested] in pairs {
-        let told = run_ratio(total, congested);
+        let returned = run_ratio(total, congested);
         let expected = reference::ratio(total, congested);
-        if told.to_bits() != expected.to_bits() && !(told.is_nan() && expected.is_nan()) {
+        if returned.to_bits() != expected.to_bits() && !(returned.is_nan() && expected.is_nan()) {
             found.push(format!(
-                "the port's ratio of {congested:?} to {total:?}: {told:?}, where {expected:?} is expected"
+                "the port's ratio of {congested:?} to {total:?}: {returned:?}, where {expected:?} is expected"
             ));
         }
     }

@@ -14,7 +14,7 @@ use crate::{
     drawing::Drawing,
     kinds::{Kind, CLEARANCE, CONGESTION, SEPARATION, TIGHT_PAIR},
     pairs, plain_tight_pair,
-    port::{self, run_tight_pair, scratch_words, Call, Columns, Told},
+    port::{self, run_tight_pair, scratch_words, Call, Columns, Returned},
     reference::{Fed, Measured, Run},
     refusals::Refusal,
     report::{Measure, Report},
@@ -131,7 +131,7 @@ type Row<'a> = (&'a Kind, Times);
 fn print_rows<'a>(
     name: &str,
     kinds: &'a [Kind],
-    times_of: impl Fn(&Drawing) -> Result<Times, Told>,
+    times_of: impl Fn(&Drawing) -> Result<Times, Returned>,
 ) -> Result<Vec<Row<'a>>, String> {
     println!(
         "{name:<38}{:>8}{:>10}{:>10}{:>10}{:>8}{:>8}{:>10}",
@@ -139,9 +139,9 @@ fn print_rows<'a>(
     );
     let mut rows = Vec::new();
     for kind in kinds {
-        let times = times_of(&kind.drawing()).map_err(|told| {
+        let times = times_of(&kind.drawing()).map_err(|returned| {
             let kind = kind.name;
-            format!("{name}, {kind}: the port tells {told:?}, the Rust otherwise")
+            format!("{name}, {kind}: the port returns {returned:?}, the Rust otherwise")
         })?;
         let clearing = times
             .clearing
@@ -198,22 +198,22 @@ fn measure_times(
     drawing: &Drawing,
     runs: u64,
     limit: u64,
-) -> Result<Times, Told> {
+) -> Result<Times, Returned> {
     let call = Call::of_sheet(measure);
     let fed = Fed::as_given(drawing);
     let limit_of_rust = usize::try_from(limit).unwrap_or(usize::MAX);
     let columns = Columns::of(drawing);
     let mut scratch = vec![0; scratch_words(measure, drawing)];
-    let (told, turns) = in_turn(
+    let (returned, turns) = in_turn(
         runs,
         || black_box(&fed).measured(measure, black_box(limit_of_rust)),
         || port::run(call, black_box(&columns), black_box(limit), &mut scratch),
         agree,
     )?;
-    let work = if told.status == u32::from(Refusal::Spent.number()) {
+    let work = if returned.status == u32::from(Refusal::Spent.number()) {
         Work::Spent
     } else {
-        Work::Visits(told.visits())
+        Work::Visits(returned.visits())
     };
     let clearing = (0..turns.len())
         .map(|_| timed(|| black_box(&mut scratch[..]).fill(0)).1)
@@ -227,7 +227,7 @@ fn measure_times(
 
 /// The times of the tight pair, and of the loop in the reference's place. Which of
 /// several pairs at the least distance is answered is left to the port.
-fn tight_pair_times(drawing: &Drawing, runs: u64) -> Result<Times, Told> {
+fn tight_pair_times(drawing: &Drawing, runs: u64) -> Result<Times, Returned> {
     let columns = Columns::of(drawing);
     let (_, turns) = in_turn(
         runs,
@@ -236,11 +236,11 @@ fn tight_pair_times(drawing: &Drawing, runs: u64) -> Result<Times, Told> {
             plain_tight_pair::tight_pair(&drawing.segments, &drawing.nodes, &drawing.exemptions)
         },
         || run_tight_pair(black_box(&columns)),
-        |pair, told| {
+        |pair, returned| {
             let least = pair.map(|(segment, node)| {
                 pairs::distance(&drawing.segments[segment], &drawing.nodes[node])
             });
-            tight_pair::is_answer(told, drawing, least)
+            tight_pair::is_answer(returned, drawing, least)
         },
     )?;
     Ok(Times {
@@ -258,30 +258,30 @@ fn tight_pair_times(drawing: &Drawing, runs: u64) -> Result<Times, Told> {
 fn in_turn<R>(
     runs: u64,
     mut rust: impl FnMut() -> R,
-    mut port: impl FnMut() -> Told,
-    agree: impl Fn(R, &Told) -> bool,
-) -> Result<(Told, Vec<Turn>), Told> {
+    mut port: impl FnMut() -> Returned,
+    agree: impl Fn(R, &Returned) -> bool,
+) -> Result<(Returned, Vec<Turn>), Returned> {
     rust();
-    let mut told = port();
+    let mut returned = port();
     let mut turns = Vec::new();
     for run in 0..runs.max(1) {
         let (by_rust, of_rust, of_port);
         if run % 2 == 0 {
             (by_rust, of_rust) = timed(&mut rust);
-            (told, of_port) = timed(&mut port);
+            (returned, of_port) = timed(&mut port);
         } else {
-            (told, of_port) = timed(&mut port);
+            (returned, of_port) = timed(&mut port);
             (by_rust, of_rust) = timed(&mut rust);
         }
-        if !agree(by_rust, &told) {
-            return Err(told);
+        if !agree(by_rust, &returned) {
+            return Err(returned);
         }
         turns.push(Turn {
             rust: of_rust,
             port: of_port,
         });
     }
-    Ok((told, turns))
+    Ok((returned, turns))
 }
 
 fn timed<T>(call: impl FnOnce() -> T) -> (T, f64) {
@@ -292,7 +292,7 @@ fn timed<T>(call: impl FnOnce() -> T) -> (T, f64) {
 
 /// The figures are the same, or both are spent; the reference does not report its
 /// visits.
-fn agree(by_reference: Measured, by_port: &Told) -> bool {
+fn agree(by_reference: Measured, by_port: &Returned) -> bool {
     let answer = match Run::from(by_reference) {
         Run::Done(figures) => Ok(Report {
             figures,
@@ -301,5 +301,5 @@ fn agree(by_reference: Measured, by_port: &Told) -> bool {
         Run::Spent => Err(Refusal::Spent),
         Run::Unfit | Run::Panicked(_) => return false,
     };
-    Told::expected(&answer, by_port.words.len()) == *by_port
+    Returned::expected(&answer, by_port.words.len()) == *by_port
 }

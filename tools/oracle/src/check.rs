@@ -46,7 +46,7 @@ fn part(first: u64, step: u64, count: u64, seed: u64) -> Tally {
         if index == 0 {
             let examined = Examined::new(drawing_d());
             let mut differences = examined.differences();
-            differences.extend(differences_on_document_01());
+            differences.extend(differences_on_scopes_drawings());
             differences.extend(tally.sheets.compare_d(&mut random));
             #[cfg(port)]
             differences.extend(against_port::differences_at_sizes());
@@ -72,7 +72,7 @@ fn generated(random: &mut Random) -> (&'static str, Examined) {
 
 /// What SCOPE 11.5 and 13 say of single drawings: D's sheet and the marked cases.
 /// Both computations must give it.
-fn differences_on_document_01() -> Vec<String> {
+fn differences_on_scopes_drawings() -> Vec<String> {
     let mut found = Vec::new();
     for sheet in both_sheets(&drawing_d()) {
         if sheet != SHEET_OF_D {

@@ -44,7 +44,7 @@ enum Lines {
 
 /// What is exempt.
 enum Exempt {
-    /// So many pairs, each of any net and any node.
+    /// This many pairs, each of any net and any node.
     Any(usize),
     /// Every node, from net 0.
     All,

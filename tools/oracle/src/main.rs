@@ -85,7 +85,7 @@ usage: oracle COMMAND
   sample SEED COUNT  a sample of COUNT files with the Rust's sheets
   bench RUNS [ALLOWANCE]
                      the times of the Rust and of the port, best of RUNS; with an
-                     ALLOWANCE, of calls that have so many visits";
+                     ALLOWANCE, of calls that have that many visits";
 
 fn main() -> ExitCode {
     let words: Vec<String> = env::args().skip(1).collect();

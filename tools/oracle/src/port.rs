@@ -250,12 +250,12 @@ fn column<E, T>(entries: &[E], field: impl Fn(&E) -> T) -> Vec<T> {
 
 /// What the port returns: 0 or the refusal's number, and the report's words.
 #[derive(Clone, Debug, PartialEq)]
-pub struct Told {
+pub struct Returned {
     pub status: u32,
     pub words: Vec<u64>,
 }
 
-impl Told {
+impl Returned {
     /// What it has to return, in this many words, where the answer is this one.
     pub fn expected(answer: &Answer, words: usize) -> Self {
         match answer {
@@ -303,7 +303,7 @@ const UNWRITTEN: u64 = 0x5555_5555_5555_5555;
 /// A call is sound because the pointers and lengths are those of slices that
 /// live through it, and because only the scratch and the words, which no other
 /// slice overlaps, are written.
-macro_rules! told_of {
+macro_rules! returned_of {
     ($call:ident, [$($list:expr),*], [$($rest:expr),*], $words:literal) => {{
         let mut words = [UNWRITTEN; $words];
         let status = unsafe {
@@ -313,7 +313,7 @@ macro_rules! told_of {
                 &mut words,
             )
         };
-        Told {
+        Returned {
             status,
             words: words.to_vec(),
         }
@@ -321,9 +321,9 @@ macro_rules! told_of {
 }
 
 /// The same with the segments' columns first, then the other columns named.
-macro_rules! told {
+macro_rules! returned {
     ($call:ident, $columns:ident, [$($column:ident),*], [$($rest:expr),*], $words:literal) => {
-        told_of!(
+        returned_of!(
             $call,
             [
                 $columns.net,
@@ -340,40 +340,40 @@ macro_rules! told {
 }
 
 /// One call of the port. The call that is given no allowance leaves it aside.
-pub fn run(call: Call, columns: &Columns, allowance: u64, scratch: &mut [u64]) -> Told {
+pub fn run(call: Call, columns: &Columns, allowance: u64, scratch: &mut [u64]) -> Returned {
     let allowance = usize::try_from(allowance).unwrap_or(usize::MAX);
     let (threshold, cutoff) = (columns.threshold, columns.cutoff);
     let (start, length) = (scratch.as_mut_ptr(), scratch.len());
     match call {
-        Call::Clearance => told!(
+        Call::Clearance => returned!(
             readability_clearance,
             columns,
             [id, x, y, width, height, exempt_net, exempt_node],
             [threshold, allowance, start, length],
             4
         ),
-        Call::Separation => told!(
+        Call::Separation => returned!(
             readability_separation,
             columns,
             [],
             [allowance, start, length],
             5
         ),
-        Call::DensityProfile => told!(
+        Call::DensityProfile => returned!(
             readability_density_profile,
             columns,
             [],
             [cutoff, allowance, start, length],
             7
         ),
-        Call::CongestionProfile => told!(
+        Call::CongestionProfile => returned!(
             readability_congestion_profile,
             columns,
             [],
             [cutoff, allowance, start, length],
             7
         ),
-        Call::Congestion => told!(
+        Call::Congestion => returned!(
             readability_congestion,
             columns,
             [],
@@ -391,12 +391,12 @@ pub fn run_by_records(
     columns: &Columns,
     allowance: u64,
     scratch: &mut [u64],
-) -> Told {
+) -> Returned {
     let allowance = usize::try_from(allowance).unwrap_or(usize::MAX);
     let (threshold, cutoff) = (columns.threshold, columns.cutoff);
     let (start, length) = (scratch.as_mut_ptr(), scratch.len());
     match call {
-        Call::Clearance => told_of!(
+        Call::Clearance => returned_of!(
             readability_clearance_by_records,
             [
                 records,
@@ -411,25 +411,25 @@ pub fn run_by_records(
             [threshold, allowance, start, length],
             4
         ),
-        Call::Separation => told_of!(
+        Call::Separation => returned_of!(
             readability_separation_by_records,
             [records],
             [allowance, start, length],
             5
         ),
-        Call::DensityProfile => told_of!(
+        Call::DensityProfile => returned_of!(
             readability_density_profile_by_records,
             [records],
             [cutoff, allowance, start, length],
             7
         ),
-        Call::CongestionProfile => told_of!(
+        Call::CongestionProfile => returned_of!(
             readability_congestion_profile_by_records,
             [records],
             [cutoff, allowance, start, length],
             7
         ),
-        Call::Congestion => told_of!(
+        Call::Congestion => returned_of!(
             readability_congestion_by_records,
             [records],
             [cutoff, start, length],
@@ -440,8 +440,8 @@ pub fn run_by_records(
 
 /// The tight pair: its words say whether there is one, and then the positions
 /// of its segment and of its node.
-pub fn run_tight_pair(columns: &Columns) -> Told {
-    told!(
+pub fn run_tight_pair(columns: &Columns) -> Returned {
+    returned!(
         readability_tight_pair,
         columns,
         [id, x, y, width, height, exempt_net, exempt_node],

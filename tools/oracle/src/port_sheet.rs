@@ -27,7 +27,7 @@ const PROGRAM: &str = env!("SHEET_PROGRAM");
 const UNWRITTEN: u8 = 0xee;
 
 /// How many differences of D's files are printed, of up to 40,000.
-const TOLD: usize = 10;
+const MOST_PRINTED: usize = 10;
 
 /// Which ways a file goes.
 #[derive(Clone, Copy, Debug, PartialEq, Eq)]
@@ -65,7 +65,7 @@ impl Sheets {
                 found.extend(self.compare(&changed, way));
             }
         }
-        found.truncate(TOLD);
+        found.truncate(MOST_PRINTED);
         found
     }
 

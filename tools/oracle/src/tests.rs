@@ -137,7 +137,7 @@ fn what_is_tried_on_a_drawing_depends_on_every_part_of_it() {
 /// The reference knows no grid, so that `check` cannot hold refusal 6 against
 /// it.
 #[test]
-fn the_grid_ends_where_document_01_says() {
+fn the_grid_ends_where_scope_says() {
     let refusal_of_cutoff = |cutoff| {
         let mut drawing = drawing_d();
         drawing.cutoff = cutoff;
@@ -164,11 +164,11 @@ mod port {
     use crate::{
         drawing::{drawing_d, Drawing, SHEET_OF_D},
         file,
-        port::{run, run_ratio, run_tight_pair, Call, Columns, Told},
+        port::{run, run_ratio, run_tight_pair, Call, Columns, Returned},
         port_sheet::{difference_in_process, difference_through_the_program},
     };
 
-    fn told(call: Call, drawing: &Drawing, allowance: u64) -> Told {
+    fn returned(call: Call, drawing: &Drawing, allowance: u64) -> Returned {
         run(call, &Columns::of(drawing), allowance, &mut [1; 160])
     }
 
@@ -184,8 +184,8 @@ mod port {
             (Call::Congestion, vec![twenty, ten, five, 1, 1, four, 4]),
         ];
         for (call, words) in reports {
-            let report = Told { status: 0, words };
-            assert_eq!(told(call, &drawing_d(), 1_000), report, "{call:?}");
+            let report = Returned { status: 0, words };
+            assert_eq!(returned(call, &drawing_d(), 1_000), report, "{call:?}");
         }
     }
 
@@ -196,7 +196,7 @@ mod port {
             (Call::CongestionProfile, 7),
             (Call::Congestion, 0),
         ] {
-            assert_eq!(told(call, &drawing_d(), 3).status, status, "{call:?}");
+            assert_eq!(returned(call, &drawing_d(), 3).status, status, "{call:?}");
         }
     }
 
@@ -206,16 +206,16 @@ mod port {
         drawing.segments.swap(0, 1);
         let pair = run_tight_pair(&Columns::of(&drawing));
         let words = vec![1, 1, 0];
-        assert_eq!(pair, Told { status: 0, words });
+        assert_eq!(pair, Returned { status: 0, words });
         drawing.exemptions[0].net = 1;
         let pair = run_tight_pair(&Columns::of(&drawing));
         let words = vec![1, 0, 0];
-        assert_eq!(pair, Told { status: 0, words });
+        assert_eq!(pair, Returned { status: 0, words });
         drawing.segments.truncate(1);
         drawing.exemptions[0].net = 2;
         let pair = run_tight_pair(&Columns::of(&drawing));
         let words = vec![0; 3];
-        assert_eq!(pair, Told { status: 0, words });
+        assert_eq!(pair, Returned { status: 0, words });
     }
 
     #[test]

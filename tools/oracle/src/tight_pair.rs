@@ -5,7 +5,7 @@ use crate::{
     against_port::{change_length, turn_some, ALL_COLUMNS},
     drawing::Drawing,
     pairs,
-    port::{run_tight_pair, Columns, Told},
+    port::{run_tight_pair, Columns, Returned},
     refusals::{before_tight_pair, Refusal},
     report::{Figure, Measure},
 };
@@ -34,18 +34,18 @@ fn least_clearance(drawing: &Drawing) -> Option<f64> {
 }
 
 fn compare(about: &str, drawing: &Drawing, least: Option<f64>, found: &mut Vec<String>) {
-    let told = run_tight_pair(&Columns::of(drawing));
-    if !is_answer(&told, drawing, least) {
+    let returned = run_tight_pair(&Columns::of(drawing));
+    if !is_answer(&returned, drawing, least) {
         found.push(format!(
-            "the port's tight pair, {about}: {told:?}, where the least distance is {least:?}"
+            "the port's tight pair, {about}: {returned:?}, where the least distance is {least:?}"
         ));
     }
 }
 
 /// Whether what the port returns is absent where there is no least distance, and
 /// otherwise a pair that is not exempt and at that distance.
-pub fn is_answer(told: &Told, drawing: &Drawing, least: Option<f64>) -> bool {
-    match (told.status, &told.words[..], least) {
+pub fn is_answer(returned: &Returned, drawing: &Drawing, least: Option<f64>) -> bool {
+    match (returned.status, &returned.words[..], least) {
         (0, [0, 0, 0], None) => true,
         (0, [1, segment, node], Some(least)) => is_tight(drawing, *segment, *node, least),
         _ => false,
@@ -94,11 +94,11 @@ fn compare_refusals(drawing: &Drawing, columns: &Columns, found: &mut Vec<String
 }
 
 fn compare_refusal(about: &str, columns: &Columns, refusal: Refusal, found: &mut Vec<String>) {
-    let told = run_tight_pair(columns);
-    let expected = Told::expected(&Err(refusal), told.words.len());
-    if told != expected {
+    let returned = run_tight_pair(columns);
+    let expected = Returned::expected(&Err(refusal), returned.words.len());
+    if returned != expected {
         found.push(format!(
-            "the port's tight pair, {about}: {told:?}, where {expected:?} is expected"
+            "the port's tight pair, {about}: {returned:?}, where {expected:?} is expected"
         ));
     }
 }

@@ -209,7 +209,7 @@ fn j_the_cutoff_itself_is_not_close() {
 }
 
 #[test]
-fn k_the_grid_ends_where_document_01_says() {
+fn k_the_grid_ends_where_scope_says() {
     let last = 1_048_576.0;
     assert!(congestion(&[horizontal(1, 1.0 / 64.0, 0.0, last)], 1.0).is_ok());
     assert!(congestion(&[horizontal(1, -last, -last, last)], last).is_ok());

@@ -346,7 +346,7 @@ fn a_spent_allowance_is_7_and_clears_the_scratch() {
 }
 
 #[test]
-fn refusals_have_document_01s_numbers() {
+fn refusals_have_scopes_numbers() {
     let refusals = [
         Refusal::ColumnsDiffer,
         Refusal::TooManyEntries,

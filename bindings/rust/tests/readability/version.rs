@@ -46,6 +46,34 @@ fn the_header_has_the_packages_version() {
     }
 }
 
+/// The minor number, and the declarations of the header that has it.
+const DECLARED: (&str, u64) = ("0.2", 0x642a_ccb1_cdf1_6f98);
+
+/// A checksum (FNV-1a) of what a C compiler sees of the header: its text without
+/// comments and white space.
+fn declarations() -> u64 {
+    let mut parts = HEADER.split("/*");
+    let first = parts.next().into_iter();
+    let after_comments = parts.filter_map(|part| part.split_once("*/").map(|(_, code)| code));
+    let code = first.chain(after_comments).flat_map(str::bytes);
+    code.filter(|byte| !byte.is_ascii_whitespace())
+        .fold(0xcbf2_9ce4_8422_2325, |sum, byte| {
+            (sum ^ u64::from(byte)).wrapping_mul(0x0000_0100_0000_01b3)
+        })
+}
+
+#[test]
+fn the_declarations_are_those_of_the_minor_number() {
+    let minor = VERSION.rsplit_once('.').map_or("", |(minor, _)| minor);
+    let declared = (minor, declarations());
+    assert_eq!(
+        declared, DECLARED,
+        "the header's declarations changed: raise the minor number where a caller has to change \
+         something, and store {:#x} beside it",
+        declared.1
+    );
+}
+
 #[test]
 fn the_changelogs_newest_entry_is_the_packages_version() {
     let newest = CHANGELOG.lines().find_map(|line| line.strip_prefix("## "));
