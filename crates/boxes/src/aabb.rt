@@ -1,6 +1,8 @@
-// Axis-aligned boxes: those of nodes and segments, the union of two, and their distance. SCOPE 3.1 to 3.3, 15.3.
+// Axis-aligned boxes: those of nodes and of segments, given from either end, the union of two, and their distance. SCOPE 2.8, 3.1 to 3.3, 15.3.
 ghost use mathlib.Core.Path.{_≡_};
+ghost use Rattle.drawing.specs.Entries as Entries;
 ghost use Rattle.boxes.specs.Boxes as Boxes;
+use drawing::ends_in_order;
 use floats::greater;
 use floats::lesser;
 
@@ -37,23 +39,24 @@ impl Aabb {
         }
     }
 
-    // A segment's box, which has no extent across the segment.
+    // A segment's box, which has no extent across the segment. The ends may be given in either order.
     pub fn from_segment(horizontal: bool, fixed: f64, start: f64, end: f64) -> Aabb
-        ensures { λ r. ⌜ r ≡ Boxes.fromSegment horizontal fixed start end ⌝ }
+        ensures { λ r. ⌜ (let ends = Entries.endsInOrder start end in r ≡ Boxes.fromSegment horizontal fixed (ends .start) (ends .end)) ⌝ }
     {
+        let ends = ends_in_order(start, end);
         if horizontal {
             Aabb {
-                left: start,
+                left: ends.start,
                 top: fixed,
-                right: end,
+                right: ends.end,
                 bottom: fixed,
             }
         } else {
             Aabb {
                 left: fixed,
-                top: start,
+                top: ends.start,
                 right: fixed,
-                bottom: end,
+                bottom: ends.end,
             }
         }
     }

@@ -12,7 +12,7 @@ use Rattle.floats.specs.TotalOrder.{key, keyOf}
 use Rattle.floats.specs.Values.{lesserOf, greaterOf}
 use Rattle.drawing.specs.declared.gap.Gap.{Gap}
 use Rattle.drawing.specs.declared.gap.Gap.the-variants.{Absent, Present}
-use Rattle.drawing.specs.Entries.{SegmentColumns, NodeColumns, ExemptionColumns, segmentColumns, nodeColumns, exemptionColumns, segmentsOf, nodesOf, exemptionsOf}
+use Rattle.drawing.specs.Entries.{SegmentColumns, NodeColumns, ExemptionColumns, segmentColumns, nodeColumns, exemptionColumns, segmentsOf, segments, nodesOf, exemptionsOf}
 use Rattle.drawing.specs.Gaps.{gapFrom, leastGap, lesserGap}
 use Rattle.drawing.specs.Orders.{segmentRow, nodeRow, segmentsInOrder, nodesInOrder}
 use Rattle.drawing.specs.Refusals.{numberOf, firstOf}
@@ -73,6 +73,17 @@ measured s n e threshold allowance = resultOf (clearanceAnswer s n e threshold a
 abbrev report : Gap → ℕ → ℕ → ℕ × EdgeNodeClearance
 report g v n = (0, reportOf (record { least = g; violations = v }) n)
 
+-- D's wires along an orientation, each by its ends as they are given (SCOPE 2.8), and D's node upright
+abbrev drawn : ℕ → (Float × Float) → (Float × Float) → SegmentColumns
+drawn o a b = segmentColumns (1 ∷ 2 ∷ []) (o ∷ o ∷ []) (zero ∷ four ∷ []) (a .0 ∷ b .0 ∷ []) (a .1 ∷ b .1 ∷ [])
+
+abbrev d-nodes-upright : NodeColumns
+d-nodes-upright = nodeColumns (7 ∷ []) (one ∷ []) (two ∷ []) (two ∷ []) (three ∷ [])
+
+-- D's figures with 2 visits, and 7 with 1
+abbrev AsD : SegmentColumns → NodeColumns → Type 0
+AsD s n = (measured s n d-exemptions two 2 ≡ report (Present one) 1 2) × (measured s n d-exemptions two 1 ≡ (7, zeros))
+
 -- SCOPE 11.5: "clearance 3ff0000000000000 1 2", and the spent allowance below 2
 pub record Marked : Type 0 where
   pub d : measured d-segments d-nodes d-exemptions two 1000 ≡ report (Present one) 1 2
@@ -80,6 +91,10 @@ pub record Marked : Type 0 where
   pub d-sheet : clearanceAnswer d-segments d-nodes d-exemptions two 1000 7744 ≡ accepted (record { least = Present one; violations = 1 }) 2
   pub d-at-2 : measured d-segments d-nodes d-exemptions two 2 ≡ report (Present one) 1 2
   pub d-at-1 : measured d-segments d-nodes d-exemptions two 1 ≡ (7, zeros)
+  -- SCOPE 2.8: D with net 2 given from 15 to 5, with both wires so, and upright with both so
+  pub net-2-reversed : AsD (drawn 1 (zero, ten) (fifteen, five)) d-nodes
+  pub reversed : AsD (drawn 1 (ten, zero) (fifteen, five)) d-nodes
+  pub upright-reversed : AsD (drawn 0 (ten, zero) (fifteen, five)) d-nodes-upright
   -- D's first segment, D's node and another one below it, which is pruned: one visit for one segment and two nodes
   pub pruned : measured (segmentColumns (1 ∷ []) (1 ∷ []) (zero ∷ []) (zero ∷ []) (ten ∷ [])) (nodeColumns (7 ∷ 8 ∷ []) (two ∷ two ∷ []) (one ∷ twenty ∷ []) (three ∷ three ∷ []) (two ∷ two ∷ [])) d-exemptions zero 1000 ≡ report (Present one) 0 1
   -- SCOPE 13.g: "distance 2, threshold 2: no violation": D's first segment, and D's node one further away
@@ -90,5 +105,5 @@ pub record Marked : Type 0 where
   pub i : measured (segmentColumns [] [] [] [] []) d-nodes d-exemptions zero 0 ≡ report Absent 0 0
 
 pub marked : Marked
-unfolding ofBits toBits add sub lt some-of chosen fold cross rowLe insertBy sortBy lesser least runs settle key keyOf lesserOf greaterOf segmentsOf nodesOf exemptionsOf gapFrom leastGap lesserGap segmentRow nodeRow segmentsInOrder nodesInOrder numberOf firstOf differ tooMany shortScratch unfitFields unfitSegment unfitExtent unfitBox unfitNode unfitThreshold segmentsDiffer nodesDiffer exemptionsDiffer listConditions entryConditions clearanceConditions fromNode fromSegment nodeBox segmentBox union axisGap distance exempt distances violates figures indexed indexedRow indexedInOrder horizontalWider hull boundsOf build treeOf contributes withPair walk walkAll visitCount accepted allPairs clearanceAnswer resultOf
-marked = record { d = refl; d-sheet = refl; d-at-2 = refl; d-at-1 = refl; pruned = refl; g = refl; h = refl; i = refl }
+unfolding ofBits toBits add sub lt some-of chosen fold cross rowLe insertBy sortBy lesser least runs settle key keyOf lesserOf greaterOf segments segmentsOf nodesOf exemptionsOf gapFrom leastGap lesserGap segmentRow nodeRow segmentsInOrder nodesInOrder numberOf firstOf differ tooMany shortScratch unfitFields unfitSegment unfitExtent unfitBox unfitNode unfitThreshold segmentsDiffer nodesDiffer exemptionsDiffer listConditions entryConditions clearanceConditions fromNode fromSegment nodeBox segmentBox union axisGap distance exempt distances violates figures indexed indexedRow indexedInOrder horizontalWider hull boundsOf build treeOf contributes withPair walk walkAll visitCount accepted allPairs clearanceAnswer resultOf
+marked = record { d = refl; d-sheet = refl; d-at-2 = refl; d-at-1 = refl; net-2-reversed = (refl, refl); reversed = (refl, refl); upright-reversed = (refl, refl); pruned = refl; g = refl; h = refl; i = refl }

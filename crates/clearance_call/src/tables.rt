@@ -10,6 +10,7 @@ ghost use Rattle.drawing.specs.Inner.Lengths.{NodesAgree, SegmentsAgree};
 ghost use Rattle.clearance.specs.Tree.{indexedRow};
 ghost use Rattle.clearance_call.specs.Inner.Tables.{nodeRowAt, segmentRowAt, Filled, NodesFilled, SegmentsOrdered};
 use boxes::Aabb;
+use drawing::ends_in_order;
 use floats::key_of;
 use sorting::fill_places;
 use sorting::sort_indices;
@@ -89,7 +90,7 @@ pub(crate) fn fill_node_tables(
     fill_node_table(s, at + 5 * id.len(), false, id, x, y, width, height);
 }
 
-// The segments' rows, from `at` on: net, orientation byte and the keys of fixed, start and end.
+// The segments' rows, from `at` on: net, orientation byte and the keys of fixed, start and end, the ends in rising order.
 fn fill_segment_table(
     s: &mut [u64],
     at: usize,
@@ -104,9 +105,10 @@ fn fill_segment_table(
 {
     let mut i = 0;
     while i < net.len() {
+        let ends = ends_in_order(start[i], end[i]);
         let f = key_of(fixed[i]);
-        let b = key_of(start[i]);
-        let e = key_of(end[i]);
+        let b = key_of(ends.start);
+        let e = key_of(ends.end);
         put_row(s, at + 5 * i, net[i] as u64, orientation[i] as u64, f, b, e);
         i += 1;
     }

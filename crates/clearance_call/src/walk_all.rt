@@ -4,7 +4,7 @@ ghost use mathlib.Core.List.{List};
 ghost use Prim.Native.Nat.{_+_, _*_, _^_, _≤_, _<_};
 ghost use lib.ListN.{length};
 ghost use Rattle.laws.specs.Inner.Allowance.{within};
-ghost use Rattle.drawing.specs.Entries.{Exemption, segmentColumns};
+ghost use Rattle.drawing.specs.Entries.{Exemption, segmentColumns, asTaken};
 ghost use Rattle.boxes.specs.Boxes.{segmentBox};
 ghost use Rattle.boxes.specs.Inner.Fitting.{FitBox};
 ghost use Rattle.clearance_call.specs.Inner.Stored.{storedTree};
@@ -24,7 +24,7 @@ use clearance::Walked;
 use clearance::Walking;
 use clearance::at_start;
 
-// The walk of one segment over the m leaves of the tree; the marks are those of its net.
+// The walk of one segment, its ends in either order, over the m leaves of the tree; the marks are those of its net.
 fn walk_segment(
     tree: &[u64],
     m: usize,
@@ -41,8 +41,8 @@ fn walk_segment(
     requires { ⌜ Part (now tree) 0 m × (m ≤ 4096) ⌝ }
     requires { ⌜ NetMarks (now marks) (now groups) (now tree) ⌝ }
     requires { ⌜ state .violations + state .remaining < 2 ^ 64 ⌝ }
-    requires { ⌜ FitBox (segmentBox (record { net = net; orientation = orientation; fixed = fixed; start = start; end = end })) × Nested (storedTree m (now tree) 0 m) ⌝ }
-    ensures { λ r. ⌜ ((ex : List Exemption) → MarksOf (now (marks .entry)) (now (groups .entry)) (now (tree .entry)) ex net → outcomeOf r ≡ within (state .remaining) (walk ex threshold (record { net = net; orientation = orientation; fixed = fixed; start = start; end = end }) (storedTree m (now (tree .entry)) 0 m) (soFar state))) ⌝ }
+    requires { ⌜ FitBox (segmentBox (asTaken (record { net = net; orientation = orientation; fixed = fixed; start = start; end = end }))) × Nested (storedTree m (now tree) 0 m) ⌝ }
+    ensures { λ r. ⌜ ((ex : List Exemption) → MarksOf (now (marks .entry)) (now (groups .entry)) (now (tree .entry)) ex net → outcomeOf r ≡ within (state .remaining) (walk ex threshold (asTaken (record { net = net; orientation = orientation; fixed = fixed; start = start; end = end })) (storedTree m (now (tree .entry)) 0 m) (soFar state))) ⌝ }
 {
     let bounds = Aabb::from_segment(orientation == 1, fixed, start, end);
     let whole = Subtree {

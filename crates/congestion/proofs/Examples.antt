@@ -70,6 +70,14 @@ report t c o p g n = Report (record { congestion = record { «total_length» = t
 abbrev D : SegmentColumns
 D = segmentColumns (1 ∷ 2 ∷ []) (1 ∷ 1 ∷ []) (f0 ∷ f4 ∷ []) (f0 ∷ f5 ∷ []) (f10 ∷ f15 ∷ [])
 
+-- its wires along an orientation, each by its ends as they are given (SCOPE 2.8)
+abbrev drawn : ℕ → (Float × Float) → (Float × Float) → SegmentColumns
+drawn o a b = segmentColumns (1 ∷ 2 ∷ []) (o ∷ o ∷ []) (f0 ∷ f4 ∷ []) (a .0 ∷ b .0 ∷ []) (a .1 ∷ b .1 ∷ [])
+
+-- D's figures with 4 visits, and 7 with 3
+abbrev AsD : SegmentColumns → Type 0
+AsD s = (densityAnswer s f6 4 128 ≡ report f20 f10 f5 1 (Present f4) 4) × (densityAnswer s f6 3 128 ≡ Refused WorkLimitExceeded)
+
 -- SCOPE 13.k: a segment at 1,048,576 up to 1/32
 abbrev one-segment : Float → SegmentColumns
 one-segment start = segmentColumns (1 ∷ []) (1 ∷ []) (float 0x4130_0000_0000_0000 ∷ []) (start ∷ []) (float 0x3fa0_0000_0000_0000 ∷ [])
@@ -109,6 +117,12 @@ pub record Marked : Type 0 where
   -- SCOPE 13.k: "1/64 and 1,048,576 pass, 1/128 gives 6"
   pub on-the-grid : densityAnswer (one-segment f64th) f64th 0 96 ≡ report f64th f0 f0 0 Absent 0
   pub off-the-grid : densityAnswer (one-segment (float 0x3f80_0000_0000_0000)) f64th 0 96 ≡ Refused OffGrid
+  -- SCOPE 2.8: D with net 2 given from 15 to 5, with both wires so, and upright with both so
+  pub net-2-reversed : AsD (drawn 1 (f0, f10) (f15, f5))
+  pub reversed : AsD (drawn 1 (f10, f0) (f15, f5))
+  pub upright-reversed : AsD (drawn 0 (f10, f0) (f15, f5))
+  -- from 1/32 to 1/128
+  pub reversed-off-the-grid : densityAnswer (segmentColumns (1 ∷ []) (1 ∷ []) (f0 ∷ []) (float 0x3fa0_0000_0000_0000 ∷ []) (float 0x3f80_0000_0000_0000 ∷ [])) f64th 0 96 ≡ Refused OffGrid
   -- SCOPE 13.l: "fixed -1 and -0, cutoff 1: not close"
   pub minus-zero : densityAnswer (segmentColumns (1 ∷ 2 ∷ []) (1 ∷ 1 ∷ []) (float 0xbff0_0000_0000_0000 ∷ float 0x8000_0000_0000_0000 ∷ []) (f0 ∷ f0 ∷ []) (f10 ∷ f10 ∷ [])) (float 0x3ff0_0000_0000_0000) 2 128 ≡ report f20 f0 f0 0 Absent 2
   -- SCOPE 3.16, 4.5: "Cutoff 0 or less gives total length, zeros and an absent gap", and no visit: at 0, -0 and -4
@@ -126,5 +140,5 @@ pub record Marked : Type 0 where
   pub one-net : found 384 (flat 1 0 0 320 ∷ flat 1 64 0 320 ∷ []) ≡ gathered 640 0 0 0 none 4
 
 pub marked : Marked
-unfolding ofBits toBits round sub div lt some-of chosen fold pairs rowLe insertBy sortBy lesser least runs settle key keyOf lesserOf greaterOf gapOf absOf onGrid steps unit ofUnits segmentsOf segmentRow segmentsInOrder numberOf firstOf differ tooMany shortScratch unfitFields unfitSegment unfitCutoff offGridFields offGridSegment offGridCutoff segmentsDiffer congestionConditions gapFrom leastGap cutoffOf cellsFrom total stretches congested closeOtherPairs pairOverlap peak lengths leastNonzero closeFloats visitCount allPairs inOrder sweep along sweepWires walkAll settled densityAnswer profileAnswer congestionAnswer resultOf clamp ratio closePairs visits segmentConditions
-marked = record { D-at-4 = refl; D-at-3 = refl; D-sheet = refl; D-spent = refl; D-profile = refl; D-congestion = refl; D-sweep = refl; D-ratio = refl; gap-equals-cutoff = refl; on-the-grid = refl; off-the-grid = refl; minus-zero = refl; cutoff-zero = refl; cutoff-minus-zero = refl; cutoff-below-zero = refl; empty-list = refl; fork-figures = refl; fork-sweep = refl; stack-figures = refl; stack-sweep = refl; one-net = refl }
+unfolding ofBits toBits round sub div lt some-of chosen fold pairs rowLe insertBy sortBy lesser least runs settle key keyOf lesserOf greaterOf gapOf absOf onGrid steps unit ofUnits segments segmentsOf segmentRow segmentsInOrder numberOf firstOf differ tooMany shortScratch unfitFields unfitSegment unfitCutoff offGridFields offGridSegment offGridCutoff segmentsDiffer congestionConditions gapFrom leastGap cutoffOf cellsFrom total stretches congested closeOtherPairs pairOverlap peak lengths leastNonzero closeFloats visitCount allPairs inOrder sweep along sweepWires walkAll settled densityAnswer profileAnswer congestionAnswer resultOf clamp ratio closePairs visits segmentConditions
+marked = record { D-at-4 = refl; D-at-3 = refl; D-sheet = refl; D-spent = refl; D-profile = refl; D-congestion = refl; D-sweep = refl; D-ratio = refl; gap-equals-cutoff = refl; on-the-grid = refl; off-the-grid = refl; net-2-reversed = (refl, refl); reversed = (refl, refl); upright-reversed = (refl, refl); reversed-off-the-grid = refl; minus-zero = refl; cutoff-zero = refl; cutoff-minus-zero = refl; cutoff-below-zero = refl; empty-list = refl; fork-figures = refl; fork-sweep = refl; stack-figures = refl; stack-sweep = refl; one-net = refl }

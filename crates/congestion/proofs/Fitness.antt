@@ -68,7 +68,7 @@ fit-segment s e g =
     let d = of-true (onGrid (s .end)) (not-false (onGrid (s .end)) (neither-right (p || q) (not (onGrid (s .end))) g)) in
     let l = line-of s e in
     record {
-      byte = l .turned;
+      byte = l .orientation;
       fixed = of-true (onGrid (s .fixed)) (not-false (onGrid (s .fixed)) (neither-left p q g0));
       start = b;
       end = d;

@@ -4,7 +4,7 @@ use mathlib.Core.List.{List, _∷_, map}
 use Prim.Native.Nat.{ℕ, _+_, _≤_, _<_}
 use native.Mathlib.Numerals.{add-one}
 use native.Mathlib.Omega.{arith}
-use lib.Ieee.{Float, binary64, nan, add, sub}
+use lib.Ieee.{Float, binary64, add, sub}
 use lib.ListN.{length, getD, drop, drop-of-length-le}
 use lib.Seq.{drop-cons}
 use Rattle.floats.specs.Values.{plusZero, canonicalZero}
@@ -27,7 +27,7 @@ module _ (c : SegmentColumns) where
   unfolding roundedTotal
   summed-none a = record { agree = a; rest = refl }
 
-  pub summed-next : (total : Float) (i : ℕ) (from to : Float) → Summed c total i → i < length (c .net) → from ≡ canonicalZero (getD (c .start) i nan) → to ≡ canonicalZero (getD (c .end) i nan) → Summed c (add binary64 total (sub binary64 to from)) (i + 1)
+  pub summed-next : (total : Float) (i : ℕ) (from to : Float) → Summed c total i → i < length (c .net) → from ≡ canonicalZero (segmentAt c i .start) → to ≡ canonicalZero (segmentAt c i .end) → Summed c (add binary64 total (sub binary64 to from)) (i + 1)
   unfolding runningSum
   summed-next total i from to s h f t =
       let l = segments c in

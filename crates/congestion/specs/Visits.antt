@@ -1,4 +1,4 @@
--- Congestion's visit count (SCOPE 4.5), from the segments as they are given: their orientation bytes, and comparisons of floats.
+-- Congestion's visit count (SCOPE 4.5), from the segments as they are taken: their orientation bytes, and comparisons of floats.
 use mathlib.Core.List.{List}
 use mathlib.Core.Bool.{cond}
 use Prim.Native.Nat.{ℕ, _+_, _*_}

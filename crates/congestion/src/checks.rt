@@ -12,7 +12,7 @@ use floats::is_finite;
 use floats::on_grid;
 use list_checks::check_segments;
 
-// SCOPE 7.6: a coordinate is off the grid.
+// SCOPE 7.6: a coordinate is off the grid. Both ends are asked the same, so their order does not matter.
 fn segment_off_grid(fixed: f64, start: f64, end: f64) -> bool
     ensures { λ r. ⌜ r ≡ offGridFields fixed start end ⌝ }
 {

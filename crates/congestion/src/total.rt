@@ -1,8 +1,9 @@
-// The total length.
+// The total length, of segments with their ends in rising order (SCOPE 2.8, 3.11).
 ghost use mathlib.Core.Path.{_≡_};
 ghost use Rattle.drawing.specs.Entries.{segmentColumns, segments};
 ghost use Rattle.drawing.specs.Inner.Lengths.{SegmentsAgree};
 ghost use Rattle.congestion.specs.Rounded.{roundedTotal};
+use drawing::ends_in_order;
 use floats::canonical_zero;
 
 // The summed length of all segments, for columns of one length: the checks of a call come first. Where `start` or `end` is too short, the answer is 0.
@@ -25,8 +26,11 @@ pub fn total_length(
     let mut total = 0.0;
     let mut i = 0;
     while i < n {
-        let from = canonical_zero(start[i]);
-        let to = canonical_zero(end[i]);
+        let one = start[i];
+        let other = end[i];
+        let ends = ends_in_order(one, other);
+        let from = canonical_zero(ends.start);
+        let to = canonical_zero(ends.end);
         total = total + (to - from);
         i += 1;
     }

@@ -11,6 +11,7 @@ use Rattle.drawing.specs.declared.refusal.Refusal.{Refusal}
 use Rattle.drawing.specs.declared.refusal.Check.the-variants.{Refused}
 use Rattle.drawing.specs.Entries.{segments, nodes, exemptions}
 use Rattle.drawing.specs.Refusals.{numberOf, firstOf}
+use Rattle.drawing.proofs.AnyOrder.{lent-taken}
 use Rattle.clearance.specs.Figures.{Figures, figures}
 use Rattle.clearance.specs.declared.report.EdgeNodeClearance.{EdgeNodeClearance}
 use Rattle.clearance.specs.Answer.{allPairs, clearanceAnswer, resultOf}
@@ -41,7 +42,7 @@ same : (d e : Lists) (t : Float) (words : ℕ) → clearance .Reordered d e → 
 unfolding allPairs
 same d e t words o h p =
     let f = fit d t words h p in
-    let all = all-pairs-any-order (λ net. t) (o .2) (o .0) (o .1) (f .segments-fit) (f .nodes-fit) in
+    let all = all-pairs-any-order (λ net. t) (o .2) (lent-taken (d .segments) (e .segments) (o .0)) (o .1) (f .segments-fit) (f .nodes-fit) in
     record { figures = ap (λ (c : Charged Figures). c .value) all; count = ap (λ (c : Charged Figures). c .cost) all }
 
 walks : (d : Lists) (t : Float) (words : ℕ) → clearance .Held d t → Passes clearance d t words → clearance .walk d t ≡ record { value = clearance .figures d t; cost = clearance .count d t }

@@ -17,6 +17,7 @@ use Rattle.drawing.specs.declared.refusal.Refusal.{Refusal}
 use Rattle.drawing.specs.declared.refusal.Check.the-variants.{Passed, Refused as Stopped}
 use Rattle.drawing.specs.Entries.{SegmentColumns, segments}
 use Rattle.drawing.specs.Refusals.{numberOf, firstOf}
+use Rattle.drawing.proofs.AnyOrder.{lent-taken}
 use Rattle.congestion.specs.declared.report.ParallelCongestion.{ParallelCongestion}
 use Rattle.congestion.specs.declared.report.CongestionReport.{CongestionReport}
 use Rattle.congestion.specs.declared.report.CongestionAnswer.{CongestionAnswer}
@@ -77,7 +78,7 @@ module _ (part : Charges → Charges) (A : Type 0) (reach : A → ℕ → Bool) 
     settles = settles;
     apart = λ f n e. let z : _≡_ {A = ℕ} 0 7 = ap (λ (r : ℕ × CongestionReport). r .0) e in omega arith;
     same = λ s t cutoff words o h p.
-        let all = all-pairs-order cutoff (fit-cutoff s cutoff words p) o (fit-list s cutoff words p) in
+        let all = all-pairs-order cutoff (fit-cutoff s cutoff words p) (lent-taken s t o) (fit-list s cutoff words p) in
         record { figures = ap (λ (c : Charges). part c .value) all; count = ap (λ (c : Charges). c .cost) all };
     walks = λ s cutoff words h p.
         let all = sweep-is-all-pairs cutoff (fit-cutoff s cutoff words p) (segments s) (fit-list s cutoff words p) in

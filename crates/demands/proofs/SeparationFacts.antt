@@ -12,6 +12,7 @@ use Rattle.drawing.specs.declared.refusal.Check.the-variants.{Refused}
 use Rattle.drawing.specs.Entries.{SegmentColumns, segments}
 use Rattle.drawing.specs.Refusals.{numberOf, firstOf}
 use Rattle.drawing.specs.Gaps.{leastGap}
+use Rattle.drawing.proofs.AnyOrder.{lent-taken}
 use Rattle.separation.specs.declared.report.ParallelSeparation.{ParallelSeparation}
 use Rattle.separation.specs.Figures.{Figures, figures, leastOf, gaps}
 use Rattle.separation.specs.Answer.{allPairs, separationAnswer, resultOf}
@@ -38,7 +39,7 @@ apart f n e = let z : _≡_ {A = ℕ} 0 7 = ap (λ (r : ℕ × ParallelSeparatio
 same : (s t : SegmentColumns) (none : Unit {0}) (words : ℕ) → separation .Reordered s t → separation .Held s none → Passes separation s none words → Same separation s t none
 unfolding allPairs
 same s t none words o h p =
-    let all = all-pairs-any o (passed-fit s words p h) in
+    let all = all-pairs-any (lent-taken s t o) (passed-fit s words p h) in
     record { figures = ap (λ (c : Charged Figures). c .value) all; count = ap (λ (c : Charged Figures). c .cost) all }
 
 walks : (s : SegmentColumns) (none : Unit {0}) (words : ℕ) → separation .Held s none → Passes separation s none words → separation .walk s none ≡ record { value = separation .figures s none; cost = separation .count s none }

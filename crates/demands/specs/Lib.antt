@@ -5,6 +5,7 @@ pub mod Demand3
 pub mod TightPair
 pub mod Marked
 pub mod ShutOut
+pub mod Directions
 -- what they use: which refusal applies, and the measures and their runs
 pub mod Applies
 pub mod Measures

@@ -13,7 +13,7 @@ use Rattle.drawing.specs.declared.refusal.Refusal.{Refusal}
 use Rattle.drawing.specs.declared.refusal.Check.the-variants.{Passed}
 use Rattle.drawing.specs.declared.gap.Gap.{Gap}
 use Rattle.drawing.specs.declared.gap.Gap.the-variants.{Absent, Present}
-use Rattle.drawing.specs.Entries.{SegmentColumns, NodeColumns, ExemptionColumns, segments, nodes, exemptions}
+use Rattle.drawing.specs.Entries.{SegmentColumns, NodeColumns, ExemptionColumns, asLent, segments, nodes, exemptions}
 use Rattle.drawing.specs.Held.{Binary64, SegmentsHeld, NodesHeld}
 use Rattle.drawing.specs.Refusals.{firstOf, scratchAfter}
 use Rattle.clearance.specs.declared.report.EdgeNodeClearance.{EdgeNodeClearance}
@@ -40,7 +40,7 @@ use Rattle.congestion.specs.Answer.{densityAnswer, profileAnswer, congestionAns
 pub record Measure : Type 1 where
   -- SCOPE 6.6: "A drawing's lists are its segments, nodes and exemptions, as far as the measure takes them", as columns
   pub Drawing : Type 0
-  -- SCOPE 6.6: "two orders hold the same whole entries, bit by bit, each equally often"
+  -- SCOPE 6.6: "two orders hold the same whole entries, bit by bit, each equally often": the entries as they are lent, in whichever direction
   pub Reordered : Drawing → Drawing → Type 0
   -- SCOPE 6.6: "Settings are whatever else it is given to read, allowance and scratch left aside."
   pub Settings : Type 0
@@ -100,7 +100,7 @@ pub record Lists : Type 0 where
 abbrev pub clearance : Measure
 clearance = record {
   Drawing = Lists;
-  Reordered = λ d e. Perm (segments (d .segments)) (segments (e .segments)) × Perm (nodes (d .nodes)) (nodes (e .nodes)) × Perm (exemptions (d .exemptions)) (exemptions (e .exemptions));
+  Reordered = λ d e. Perm (asLent (d .segments)) (asLent (e .segments)) × Perm (nodes (d .nodes)) (nodes (e .nodes)) × Perm (exemptions (d .exemptions)) (exemptions (e .exemptions));
   Settings = Float;
   Held = λ d threshold. SegmentsHeld (d .segments) × NodesHeld (d .nodes) × Binary64 threshold;
   Allowance = ℕ;
@@ -123,7 +123,7 @@ clearance = record {
 abbrev pub separation : Measure
 separation = record {
   Drawing = SegmentColumns;
-  Reordered = λ s t. Perm (segments s) (segments t);
+  Reordered = λ s t. Perm (asLent s) (asLent t);
   Settings = Unit {0};
   Held = λ s none. SegmentsHeld s;
   Allowance = ℕ;
@@ -146,7 +146,7 @@ separation = record {
 abbrev pub ofCongestion : (Charged (ParallelCongestion × Gap) → Charged (ParallelCongestion × Gap)) → (A : Type 0) → (A → ℕ → Bool) → (SegmentColumns → Float → A → ℕ → CongestionAnswer) → Measure
 ofCongestion part A reach answers = record {
   Drawing = SegmentColumns;
-  Reordered = λ s t. Perm (segments s) (segments t);
+  Reordered = λ s t. Perm (asLent s) (asLent t);
   Settings = Float;
   Held = λ s cutoff. SegmentsHeld s × Binary64 cutoff;
   Allowance = A;

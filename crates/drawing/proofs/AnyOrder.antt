@@ -7,8 +7,8 @@ use lib.Dec.{eqb}
 use lib.ListN.{length}
 use Rattle.laws.specs.Lists.{some-of}
 use Rattle.laws.specs.Perm.{Perm}
-use Rattle.laws.proofs.Perms.{perm-length, perm-some}
-use Rattle.drawing.specs.Entries.{SegmentColumns, NodeColumns, ExemptionColumns, segments, nodes, exemptions}
+use Rattle.laws.proofs.Perms.{perm-length, perm-map, perm-some}
+use Rattle.drawing.specs.Entries.{SegmentColumns, NodeColumns, ExemptionColumns, asLent, asTaken, segments, nodes, exemptions}
 use Rattle.drawing.specs.Conditions.{differ, unfitSegment, unfitNode}
 use Rattle.drawing.specs.Checks.{segmentsDiffer, nodesDiffer, exemptionsDiffer, segmentConditions, listConditions, entryConditions}
 use Rattle.drawing.specs.Inner.Lengths.{SegmentsAgree, NodesAgree, ExemptionsAgree}
@@ -45,6 +45,11 @@ pub record SameExemptions (e f : ExemptionColumns) : Type 0 where
   pub one : ExemptionsAgree e
   pub other : ExemptionsAgree f
   pub perm : Perm (exemptions e) (exemptions f)
+
+-- two orders of the list as lent are two orders of the list as taken
+pub lent-taken : (s t : SegmentColumns) → Perm (asLent s) (asLent t) → Perm (segments s) (segments t)
+unfolding segments
+lent-taken s t p = perm-map asTaken p
 
 module _ (s t : SegmentColumns) (o : SameSegments s t) where
   pub segment-count : length (s .net) ≡ length (t .net)

@@ -3,7 +3,7 @@ use mathlib.Core.Path.{_≡_, refl, ap}
 use mathlib.Core.Bool.{false}
 use mathlib.Core.List.{List, [], _∷_}
 use lib.ListN.{length, length-map}
-use Rattle.drawing.specs.Entries.{Segment, segments, segmentsOf, columnsOf}
+use Rattle.drawing.specs.Entries.{Segment, asLent, segmentsOf, columnsOf}
 use Rattle.drawing.specs.Inner.Lengths.{SegmentsAgree}
 use Rattle.drawing.specs.Checks.{segmentsDiffer}
 use Rattle.drawing.proofs.AnyOrder.{same-segments}
@@ -21,7 +21,7 @@ unfolding columnsOf
 columns-count l = length-map l (λ (s : Segment). s .net)
 
 -- the columns hold the list
-pub columns-entries : (l : List Segment) → segments (columnsOf l) ≡ l
+pub columns-entries : (l : List Segment) → asLent (columnsOf l) ≡ l
 unfolding columnsOf segmentsOf
 columns-entries [] = refl
 columns-entries (s ∷ l) = ap (λ (r : List Segment). s ∷ r) (columns-entries l)

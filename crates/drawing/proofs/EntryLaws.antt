@@ -1,12 +1,12 @@
 -- The entries of columns of equal length, by index. Assumes nothing.
-use mathlib.Core.Path.{_≡_, refl, ap}
-use mathlib.Core.List.{List, [], _∷_}
+use mathlib.Core.Path.{_≡_, refl, ap, _∙_}
+use mathlib.Core.List.{List, [], _∷_, map}
 use Prim.Native.Nat.{ℕ, zero, suc, _<_}
 use native.Mathlib.Nat.{not-suc-le-zero, le-of-suc-le-suc}
 use native.Mathlib.Omega.{arith}
 use lib.Ieee.{Float, nan}
-use lib.ListN.{length, getD}
-use Rattle.drawing.specs.Entries.{Segment, Node, SegmentColumns, NodeColumns, ExemptionColumns, segmentsOf, nodesOf, exemptionsOf, segments, nodes, exemptions}
+use lib.ListN.{length, length-map, getD}
+use Rattle.drawing.specs.Entries.{Segment, Node, SegmentColumns, NodeColumns, ExemptionColumns, segmentsOf, nodesOf, exemptionsOf, asLent, asTaken, segments, nodes, exemptions}
 use Rattle.drawing.specs.Inner.Entries.{nodeAt, segmentAt}
 use Rattle.drawing.specs.Inner.Lengths.{SegmentsAgree, NodesAgree, ExemptionsAgree}
 
@@ -33,11 +33,24 @@ segments-get (n ∷ ns) (o ∷ os) (f ∷ fs) (s ∷ ss) [] p q r t z i h = absu
 segments-get (n ∷ ns) (o ∷ os) (f ∷ fs) (s ∷ ss) (e ∷ es) p q r t z zero h = refl
 segments-get (n ∷ ns) (o ∷ os) (f ∷ fs) (s ∷ ss) (e ∷ es) p q r t z (suc i) h = segments-get ns os fs ss es (same p) (same q) (same r) (same t) z i (le-of-suc-le-suc h)
 
+length-lent : (c : SegmentColumns) → SegmentsAgree c → length (asLent c) ≡ length (c .net)
+length-lent c a = segments-length (c .net) (c .orientation) (c .fixed) (c .start) (c .end) (a .orientation) (a .fixed) (a .start) (a .end)
+
+taken-get : (l : List Segment) (y z : Segment) (i : ℕ) → i < length l → getD (map asTaken l) i z ≡ asTaken (getD l i y)
+taken-get [] y z i h = absurd (not-suc-le-zero h)
+taken-get (s ∷ l) y z zero h = refl
+taken-get (s ∷ l) y z (suc i) h = taken-get l y z i (le-of-suc-le-suc h)
+
+-- ---- as many are taken as are lent, each at its index
 pub length-segments : (c : SegmentColumns) → SegmentsAgree c → length (segments c) ≡ length (c .net)
-length-segments c a = segments-length (c .net) (c .orientation) (c .fixed) (c .start) (c .end) (a .orientation) (a .fixed) (a .start) (a .end)
+unfolding segments
+length-segments c a = length-map (asLent c) asTaken ∙ length-lent c a
 
 pub segments-at : (c : SegmentColumns) → SegmentsAgree c → (z : Segment) (i : ℕ) → i < length (c .net) → getD (segments c) i z ≡ segmentAt c i
-segments-at c a z i h = segments-get (c .net) (c .orientation) (c .fixed) (c .start) (c .end) (a .orientation) (a .fixed) (a .start) (a .end) z i h
+unfolding segments
+segments-at c a z i h =
+    taken-get (asLent c) z z i (omega (arith, length-lent c a))
+    ∙ ap asTaken (segments-get (c .net) (c .orientation) (c .fixed) (c .start) (c .end) (a .orientation) (a .fixed) (a .start) (a .end) z i h)
 
 nodes-length : (is : List ℕ) (xs ys ws hs : List Float) → length xs ≡ length is → length ys ≡ length is → length ws ≡ length is → length hs ≡ length is → length (nodesOf is xs ys ws hs) ≡ length is
 unfolding nodesOf

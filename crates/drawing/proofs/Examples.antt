@@ -5,10 +5,11 @@ use mathlib.Core.List.{[], _∷_}
 use Prim.Native.Nat.{ℕ}
 use lib.Ieee.{Float, binary64, ofBits, lt}
 use Rattle.laws.specs.Lists.{some-of}
+use Rattle.floats.specs.Values.{lesserOf, greaterOf}
 use Rattle.floats.specs.Grid.{onGrid}
 use Rattle.drawing.specs.declared.refusal.Refusal.the-variants.{ShortScratch, InvalidInput}
-use Rattle.drawing.specs.declared.refusal.Check.the-variants.{Refused}
-use Rattle.drawing.specs.Entries.{SegmentColumns, segmentColumns, segmentsOf}
+use Rattle.drawing.specs.declared.refusal.Check.the-variants.{Passed, Refused}
+use Rattle.drawing.specs.Entries.{SegmentColumns, segmentColumns, segmentsOf, segments}
 use Rattle.drawing.specs.Refusals.{firstOf}
 use Rattle.drawing.specs.Conditions.{differ, tooMany, shortScratch, unfitFields, unfitSegment, unfitThreshold, offGridFields}
 use Rattle.drawing.specs.Checks.{segmentsDiffer, segmentConditions}
@@ -21,18 +22,30 @@ one-segment fixed start end = segmentColumns (1 ∷ []) (1 ∷ []) (float fixed 
 
 -- of two faults the earlier refusal: the scratch is short, and the start is not below the end
 pub two-faults : firstOf (segmentConditions (one-segment 0 0 0) 95) ≡ Refused ShortScratch
-unfolding firstOf segmentConditions segmentsDiffer differ some-of tooMany shortScratch segmentsOf unfitSegment unfitFields ofBits lt
+unfolding firstOf segmentConditions segmentsDiffer differ some-of tooMany shortScratch segments segmentsOf lesserOf greaterOf unfitSegment unfitFields ofBits lt
 two-faults = refl
 
 -- with one word more the second refusal is returned
 pub second-fault : firstOf (segmentConditions (one-segment 0 0 0) 96) ≡ Refused InvalidInput
-unfolding firstOf segmentConditions segmentsDiffer differ some-of tooMany shortScratch segmentsOf unfitSegment unfitFields ofBits lt
+unfolding firstOf segmentConditions segmentsDiffer differ some-of tooMany shortScratch segments segmentsOf lesserOf greaterOf unfitSegment unfitFields ofBits lt
 second-fault = refl
 
--- a start of -0 is not below an end of +0
-pub zeros-are-equal : firstOf (segmentConditions (one-segment 0 0x8000_0000_0000_0000 0) 96) ≡ Refused InvalidInput
-unfolding firstOf segmentConditions segmentsDiffer differ some-of tooMany shortScratch segmentsOf unfitSegment unfitFields ofBits lt
-zeros-are-equal = refl
+-- SCOPE 2.8, 7.5: a segment is fit in either direction, "Start equal to end still gives 5", and -0 equals +0 in either direction; a number that is not finite is refused wherever it is given
+pub record EndsChecked : Type 0 where
+  pub from-10-to-5 : firstOf (segmentConditions (one-segment 0 0x4024_0000_0000_0000 0x4014_0000_0000_0000) 96) ≡ Passed
+  pub from-5-to-10 : firstOf (segmentConditions (one-segment 0 0x4014_0000_0000_0000 0x4024_0000_0000_0000) 96) ≡ Passed
+  pub from-5-to-5 : firstOf (segmentConditions (one-segment 0 0x4014_0000_0000_0000 0x4014_0000_0000_0000) 96) ≡ Refused InvalidInput
+  pub from-minus-zero-to-zero : firstOf (segmentConditions (one-segment 0 0x8000_0000_0000_0000 0) 96) ≡ Refused InvalidInput
+  pub from-zero-to-minus-zero : firstOf (segmentConditions (one-segment 0 0 0x8000_0000_0000_0000) 96) ≡ Refused InvalidInput
+  pub from-nan : firstOf (segmentConditions (one-segment 0 0x7ff8_0000_0000_0000 0x4014_0000_0000_0000) 96) ≡ Refused InvalidInput
+  pub to-nan : firstOf (segmentConditions (one-segment 0 0x4014_0000_0000_0000 0x7ff8_0000_0000_0000) 96) ≡ Refused InvalidInput
+  pub from-infinity-to-3 : firstOf (segmentConditions (one-segment 0 0x7ff0_0000_0000_0000 0x4008_0000_0000_0000) 96) ≡ Refused InvalidInput
+  pub from-3-to-minus-infinity : firstOf (segmentConditions (one-segment 0 0x4008_0000_0000_0000 0xfff0_0000_0000_0000) 96) ≡ Refused InvalidInput
+  pub reversed-of-orientation-2 : firstOf (segmentConditions (segmentColumns (1 ∷ []) (2 ∷ []) (float 0 ∷ []) (float 0x4024_0000_0000_0000 ∷ []) (float 0 ∷ [])) 96) ≡ Refused InvalidInput
+
+pub ends-checked : EndsChecked
+unfolding firstOf segmentConditions segmentsDiffer differ some-of tooMany shortScratch segments segmentsOf lesserOf greaterOf unfitSegment unfitFields ofBits lt
+ends-checked = record { from-10-to-5 = refl; from-5-to-10 = refl; from-5-to-5 = refl; from-minus-zero-to-zero = refl; from-zero-to-minus-zero = refl; from-nan = refl; to-nan = refl; from-infinity-to-3 = refl; from-3-to-minus-infinity = refl; reversed-of-orientation-2 = refl }
 
 -- SCOPE 7.5: "a threshold below 0 (-0 passes)"
 pub minus-zero-threshold : unfitThreshold (float 0x8000_0000_0000_0000) ≡ false

@@ -35,7 +35,7 @@ below-of : (x y : Float) → not (lt x y) ≡ false → T (lt x y)
 below-of x y e = of-true (lt x y) (not-false (lt x y) e)
 
 pub record Line (s : Segment) : Type 0 where
-  pub turned : s .orientation ≤ 1
+  pub orientation : s .orientation ≤ 1
   pub fixed : T (finite (s .fixed))
   pub start : T (finite (s .start))
   pub end : T (finite (s .end))
@@ -52,7 +52,7 @@ line-of s e =
     let c0 = neither-left c (not (finite (s .end))) d0 in
     let b0 = neither-left b (not (finite (s .start))) c0 in
     record {
-      turned = ltb-false 1 (s .orientation) (neither-left a (not (finite (s .fixed))) b0);
+      orientation = ltb-false 1 (s .orientation) (neither-left a (not (finite (s .fixed))) b0);
       fixed = finite-of (s .fixed) (neither-right a (not (finite (s .fixed))) b0);
       start = finite-of (s .start) (neither-right b (not (finite (s .start))) c0);
       end = finite-of (s .end) (neither-right c (not (finite (s .end))) d0);

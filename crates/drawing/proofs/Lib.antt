@@ -1,5 +1,6 @@
 -- The laws of the definitions, a file for each notion.
 pub mod EntryLaws
+pub mod Directions
 pub mod Scans
 pub mod FirstRefusal
 pub mod AnyOrder

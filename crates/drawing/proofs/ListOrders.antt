@@ -3,14 +3,18 @@ use mathlib.Core.Path.{_≡_, sym, ap, subst}
 use mathlib.Core.List.{List, [], _∷_}
 use Prim.Native.Nat.{ℕ}
 use native.Mathlib.Omega.{arith}
+use lib.Ieee.{nan, lt}
+use lib.ListN.{getD}
 use Rattle.laws.specs.Lists.{All}
 use Rattle.laws.specs.Perm.{Perm}
 use Rattle.laws.specs.Rows.{rowLe}
 use Rattle.laws.proofs.Places.{at-all}
 use Rattle.laws.proofs.RowLaws.{row-antisym, by-rows}
 use Rattle.laws.proofs.Sorting.{sort-same, sort-perm}
+use Rattle.floats.specs.Values.{lesserOf, greaterOf}
+use Rattle.floats.proofs.Extremes.{picked}
 use Rattle.floats.proofs.NumberKeys.{key-of-one}
-use Rattle.drawing.specs.Entries.{Segment, Node, SegmentColumns, segments}
+use Rattle.drawing.specs.Entries.{Segment, Node, SegmentColumns, asTaken, segments}
 use Rattle.drawing.specs.Inner.Entries.{segmentAt}
 use Rattle.drawing.specs.Inner.Lengths.{SegmentsAgree}
 use Rattle.drawing.specs.Held.{Binary64, SegmentHeld, NodeHeld, SegmentsHeld}
@@ -66,5 +70,10 @@ nodes-in-order-perm l = sort-perm (λ a b. rowLe (nodeRow a) (nodeRow b)) l
 pub segments-all : (P : Segment → Type 0) (c : SegmentColumns) → SegmentsAgree c → ((i : ℕ) → P (segmentAt c i)) → All P (segments c)
 segments-all P c a h = at-all P (segmentAt c 0) (segments c) (λ k b. subst P (sym (segments-at c a (segmentAt c 0) k (omega (arith, length-segments c a)))) (h k))
 
-pub segments-held : (c : SegmentColumns) → SegmentsAgree c → ((i : ℕ) → Binary64 (segmentAt c i .fixed)) → ((i : ℕ) → Binary64 (segmentAt c i .start)) → ((i : ℕ) → Binary64 (segmentAt c i .end)) → SegmentsHeld c
-segments-held c a f b e = segments-all SegmentHeld c a (λ i. record { fixed = f i; start = b i; end = e i })
+-- the ends in rising order are values of binary64, as the ends are
+pub taken-held : (s : Segment) → SegmentHeld s → SegmentHeld (asTaken s)
+unfolding lesserOf greaterOf
+taken-held s h = record { fixed = h .fixed; start = picked Binary64 (lt (s .end) (s .start)) (s .start) (s .end) (h .start) (h .end); end = picked Binary64 (lt (s .end) (s .start)) (s .end) (s .start) (h .end) (h .start) }
+
+pub segments-held : (c : SegmentColumns) → SegmentsAgree c → ((i : ℕ) → Binary64 (getD (c .fixed) i nan)) → ((i : ℕ) → Binary64 (getD (c .start) i nan)) → ((i : ℕ) → Binary64 (getD (c .end) i nan)) → SegmentsHeld c
+segments-held c a f b e = segments-all SegmentHeld c a (λ i. taken-held _ (record { fixed = f i; start = b i; end = e i }))

@@ -22,7 +22,7 @@ tooMany n = ltb 4096 n
 unfoldable pub shortScratch : ℕ → ℕ → ℕ → Bool
 shortScratch words segments nodes = ltb words (32 * (segments + nodes) + 64)
 
--- SCOPE 7.5: "an orientation byte above 1, a non-finite number, start not below end"
+-- SCOPE 7.5: "an orientation byte above 1, a non-finite number, start not below end". The segment is one as it is taken (SCOPE 2.8), so that the last is "Start equal to end still gives 5"
 unfoldable pub unfitFields : ℕ → Float → Float → Float → Bool
 unfitFields orientation fixed start end = ltb 1 orientation || not (finite fixed) || not (finite start) || not (finite end) || not (lt start end)
 

@@ -2,6 +2,8 @@
 use mathlib.Core.List.{List, [], _∷_, map}
 use Prim.Native.Nat.{ℕ}
 use lib.Ieee.{Float}
+use Rattle.floats.specs.Values.{lesserOf, greaterOf}
+use Rattle.drawing.specs.declared.ends.Ends.{Ends}
 
 pub record Segment : Type 0 where
   pub net : ℕ
@@ -71,8 +73,21 @@ exemptionsOf [] ms = []
 exemptionsOf (n ∷ ns) [] = []
 exemptionsOf (n ∷ ns) (m ∷ ms) = record { net = n; node = m } ∷ exemptionsOf ns ms
 
-abbrev pub segments : SegmentColumns → List Segment
-segments c = segmentsOf (c .net) (c .orientation) (c .fixed) (c .start) (c .end)
+-- the segments as they are lent: files, columns and records keep this direction
+abbrev pub asLent : SegmentColumns → List Segment
+asLent c = segmentsOf (c .net) (c .orientation) (c .fixed) (c .start) (c .end)
+
+-- the two ends in rising order: exchanged where the end is below the start, as IEEE 754 compares, and otherwise as they are
+abbrev pub endsInOrder : Float → Float → Ends
+endsInOrder start end = record { start = lesserOf start end; end = greaterOf end start }
+
+-- SCOPE 2.8: "A segment with start above end is now taken as if its two ends had been given in rising order"
+abbrev pub asTaken : Segment → Segment
+asTaken s = record { net = s .net; orientation = s .orientation; fixed = s .fixed; start = endsInOrder (s .start) (s .end) .start; end = endsInOrder (s .start) (s .end) .end }
+
+-- the segments as "every measure and the tight pair" take them: whatever is checked, ordered, walked or measured is of these
+unfoldable pub segments : SegmentColumns → List Segment
+segments c = map asTaken (asLent c)
 
 abbrev pub nodes : NodeColumns → List Node
 nodes c = nodesOf (c .id) (c .x) (c .y) (c .width) (c .height)

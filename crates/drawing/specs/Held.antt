@@ -18,6 +18,7 @@ pub record NodeHeld (n : Node) : Type 0 where
   pub width : Binary64 (n .width)
   pub height : Binary64 (n .height)
 
+-- of the segments as they are taken, whose floats are those of the segments as lent
 abbrev pub SegmentsHeld : SegmentColumns → Type 0
 SegmentsHeld c = All SegmentHeld (segments c)
 

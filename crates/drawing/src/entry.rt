@@ -1,25 +1,30 @@
 // Refusal 5 of one entry or setting. SCOPE 7.5.
 ghost use mathlib.Core.Path.{_≡_};
+ghost use Rattle.drawing.specs.Entries as Entries;
 ghost use Rattle.drawing.specs.Conditions as Conditions;
+use crate::ends::ends_in_order;
 use floats::is_finite;
 
-// A segment: an orientation byte above 1, a number that is not finite, or a start not below the end.
+// A segment, its ends in either order: an orientation byte above 1, a number that is not finite, or ends that are equal.
 pub fn segment_unfit(orientation: u8, fixed: f64, start: f64, end: f64) -> bool
-    ensures { λ r. ⌜ r ≡ Conditions.unfitFields orientation fixed start end ⌝ }
+    ensures { λ r. ⌜ (let ends = Entries.endsInOrder start end in r ≡ Conditions.unfitFields orientation fixed (ends .start) (ends .end)) ⌝ }
 {
+    let ends = ends_in_order(start, end);
+    let first = ends.start;
+    let last = ends.end;
     if 1 < orientation {
         return true;
     }
     if !is_finite(fixed) {
         return true;
     }
-    if !is_finite(start) {
+    if !is_finite(first) {
         return true;
     }
-    if !is_finite(end) {
+    if !is_finite(last) {
         return true;
     }
-    !(start < end)
+    !(first < last)
 }
 
 // One axis of a node's box: its corner and its extent.

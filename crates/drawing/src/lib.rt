@@ -1,10 +1,13 @@
-// What every measure shares: the gap and the refusals, the tests of one entry, the clearing of the scratch, and the visits that were used.
+// What every measure shares: the gap and the refusals, the ends of a segment in rising order, the tests of one entry, the clearing of the scratch, and the visits that were used.
+pub mod ends;
 pub mod entry;
 pub mod gap;
 pub mod refusal;
 pub mod scratch;
 pub mod visits;
 
+pub use ends::Ends;
+pub use ends::ends_in_order;
 pub use entry::node_unfit;
 pub use entry::segment_unfit;
 pub use entry::threshold_unfit;

@@ -6,6 +6,7 @@ pub mod Bits
 pub mod Zeros
 pub mod Gaps
 pub mod Extremes
+pub mod Trichotomy
 pub mod Keys
 pub mod NumberKeys
 pub mod TotalOrder

@@ -13,7 +13,7 @@ use denote.Triple.Clauses.{AtExit}
 use denote.Ref.{now}
 use mathlib.Core.Path.{_≡_}
 use mathlib.Core.Bool.{false}
-use Rattle.drawing.specs.Entries.{Segment, segments, columnsOf, segmentColumns, nodeColumns, exemptionColumns}
+use Rattle.drawing.specs.Entries.{Segment, asLent, columnsOf, segmentColumns, nodeColumns, exemptionColumns}
 use Rattle.drawing.specs.Checks.{segmentsDiffer}
 use Rattle.tight_pair.specs.TightPair.{Answered}
 use Rattle.clearance_call.proofs.measure.measure_edge_node_clearance_bounded.Kinds as clearanceKinds
@@ -104,5 +104,5 @@ pub record Calls : Type 2 where
   -- records, cutoff, scratch: no allowance
   pub of-congestion-by-records : Contract 2 congestionEntryKinds.ps congestionEntryKinds.r congestionEntryCode.routine congestionEntryReads.Asked congestionEntryReads.Learnt (λ κs a x e. Says congestion (parallelColumns (now (a .0))) (a .1 .0) tt (now (a .1 .1 .0)) x (now (e .1 .1 .0)))
   -- the entries of a list's columns are that list, so lists of records in two orders are drawings in two orders, and so are one of records and one of columns; and refusal 2 does not arise for them
-  pub columns-entries : (l : List Segment) → segments (columnsOf l) ≡ l
+  pub columns-entries : (l : List Segment) → asLent (columnsOf l) ≡ l
   pub never-differ : (l : List Segment) → segmentsDiffer (columnsOf l) ≡ false

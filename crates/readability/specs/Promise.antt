@@ -5,6 +5,7 @@ use Rattle.demands.specs.Demand3.{Demand3}
 use Rattle.demands.specs.TightPair.{TightPairs}
 use Rattle.demands.specs.Marked.{Marked}
 use Rattle.demands.specs.ShutOut.{ShutOut}
+use Rattle.demands.specs.Directions.{Directions}
 use Rattle.readability.specs.Calls.{Calls}
 
 pub record Promise : Type 2 where
@@ -20,3 +21,5 @@ pub record Promise : Type 2 where
   pub marked : Marked
   -- SCOPE 14: "These are shut out"
   pub shut-out : ShutOut
+  -- SCOPE 2.8, request 1: "A segment with start above end is now taken as if its two ends had been given in rising order, by every measure and the tight pair"
+  pub directions : Directions

@@ -52,13 +52,13 @@ oriented-perm o l = sort-perm rowsInOrder (chosen (λ (s : Segment). eqb (s .ori
 pub record RowOf (o : ℕ) (l : List Segment) (r : Row) : Type 0 where
   pub segment : Segment
   pub there : Mem segment l
-  pub turned : segment .orientation ≡ o
+  pub orientation : segment .orientation ≡ o
   pub is : r ≡ rowOf segment
 
 pub mem-oriented : (o : ℕ) (l : List Segment) (r : Row) → Mem r (oriented o l) → RowOf o l r
 mem-oriented o l r m =
     let g = mem-chosen (λ (s : Segment). eqb (s .orientation) o) rowOf r (segmentsInOrder l) (perm-mem r (oriented-perm o l) m) in
-    record { segment = g .0; there = perm-mem (g .0) (segments-in-order-perm l) (g .1); turned = eqb-true (g .0 .orientation) o (g .2); is = g .3 }
+    record { segment = g .0; there = perm-mem (g .0) (segments-in-order-perm l) (g .1); orientation = eqb-true (g .0 .orientation) o (g .2); is = g .3 }
 
 pub oriented-mem : (o : ℕ) (l : List Segment) (s : Segment) → Mem s l → s .orientation ≡ o → Mem (rowOf s) (oriented o l)
 oriented-mem o l s m e = perm-mem (rowOf s) (perm-sym (oriented-perm o l)) (chosen-mem (λ (t : Segment). eqb (t .orientation) o) rowOf s (segmentsInOrder l) (perm-mem s (perm-sym (segments-in-order-perm l)) m) (eq-eqb (s .orientation) o e))

@@ -1,6 +1,6 @@
 -- How many segments are swept: counted from the orientation bytes, it is the number of rows in orientations with at least two of them. Assumes nothing.
 use mathlib.Core.Path.{_≡_, refl, sym, ap, ap₂, _∙_}
-use mathlib.Core.List.{List, [], _∷_}
+use mathlib.Core.List.{List, [], _∷_, map}
 use mathlib.Core.Bool.{Bool, true, false, cond}
 use Prim.Native.Nat.{ℕ, suc, _+_, _≤_, _<_, zero-le}
 use native.Mathlib.Nat.{le-refl}
@@ -13,7 +13,7 @@ use lib.ListN.{length, getD, drop, drop-of-length-le}
 use lib.Seq.{drop-cons}
 use Rattle.laws.specs.Lists.{fold, bit, count}
 use Rattle.laws.proofs.Tests.{cond-true, cond-false}
-use Rattle.drawing.specs.Entries.{Segment, SegmentColumns, segmentsOf, segments}
+use Rattle.drawing.specs.Entries.{Segment, SegmentColumns, segmentsOf, asTaken, segments}
 use Rattle.drawing.specs.Inner.Lengths.{SegmentsAgree}
 use Rattle.rows.specs.Rows.{oriented, atLeastTwo}
 use Rattle.rows.specs.Inner.Rows.{ofOrientation, segmentsToSweep}
@@ -87,7 +87,7 @@ module _ (l : List ℕ) (m n a b : ℕ) (across : m ≡ ofOrientation 1 l) (down
   sum-is = ap₂ _+_ (one ∙ ap atLeastTwo across) (other ∙ ap atLeastTwo down)
 
 -- ---- the bytes are those of the segments
-bytes : (o : ℕ) (ns os : List ℕ) (fs ss es : List Float) → length os ≡ length ns → length fs ≡ length ns → length ss ≡ length ns → length es ≡ length ns → ofOrientation o os ≡ count (λ (s : Segment). eqb (s .orientation) o) (segmentsOf ns os fs ss es)
+bytes : (o : ℕ) (ns os : List ℕ) (fs ss es : List Float) → length os ≡ length ns → length fs ≡ length ns → length ss ≡ length ns → length es ≡ length ns → ofOrientation o os ≡ count (λ (s : Segment). eqb (s .orientation) o) (map asTaken (segmentsOf ns os fs ss es))
 unfolding fold segmentsOf
 bytes o [] [] fs ss es p q r t = refl
 bytes o [] (x ∷ os) fs ss es p q r t = absurd (omega arith)
@@ -98,6 +98,7 @@ bytes o (n ∷ ns) (x ∷ os) (f ∷ fs) (s ∷ ss) [] p q r t = absurd (omega a
 bytes o (n ∷ ns) (x ∷ os) (f ∷ fs) (s ∷ ss) (e ∷ es) p q r t = ap (λ (m : ℕ). bit (eqb x o) + m) (bytes o ns os fs ss es (omega arith) (omega arith) (omega arith) (omega arith))
 
 rows-counted : (o : ℕ) (c : SegmentColumns) → SegmentsAgree c → ofOrientation o (c .orientation) ≡ length (oriented o (segments c))
+unfolding segments
 rows-counted o c a = bytes o (c .net) (c .orientation) (c .fixed) (c .start) (c .end) (a .orientation) (a .fixed) (a .start) (a .end) ∙ sym (oriented-length o (segments c))
 
 -- the segments that are swept are the rows of the orientations that have at least two of them

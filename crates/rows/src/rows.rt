@@ -5,10 +5,11 @@ ghost use lib.ListN.{length, drop};
 ghost use lib.Seq.{paste};
 ghost use Rattle.floats.specs.TotalOrder.{keyOf};
 ghost use Rattle.floats.specs.Values.{canonicalZero};
-ghost use Rattle.drawing.specs.Entries.{segmentColumns};
+ghost use Rattle.drawing.specs.Entries.{segmentColumns, endsInOrder, asTaken};
 ghost use Rattle.rows.specs.Rows.{words};
 ghost use Rattle.rows.specs.Inner.Placed.{rowCount, rowsPlaced, rowColumn, rowsSpread};
 ghost use Rattle.rows.specs.Inner.Tables.{Orderable, Spreadable, RowAdded, Gathered};
+use drawing::ends_in_order;
 use floats::canonical_zero;
 use floats::key_of;
 use list_checks::segments_differ;
@@ -16,14 +17,15 @@ use sorting::fill_places;
 use sorting::rows_fit;
 use sorting::sort_indices;
 
-// The four words of a row, from `at` on. Zeros become +0.
+// The four words of a row, from `at` on: the ends in rising order, then zeros as +0.
 fn put_row(s: &mut [u64], at: usize, net: u32, fixed: f64, start: f64, end: f64)
     requires { ⌜ at + 4 ≤ length (now s) ⌝ }
-    ensures { λ _. ⌜ now (s .exit) ≡ paste (now (s .entry)) at (words (record { net = net; line = keyOf (canonicalZero fixed); start = keyOf (canonicalZero start); end = keyOf (canonicalZero end) })) 4 ⌝ }
+    ensures { λ _. ⌜ (let ends = endsInOrder start end in now (s .exit) ≡ paste (now (s .entry)) at (words (record { net = net; line = keyOf (canonicalZero fixed); start = keyOf (canonicalZero (ends .start)); end = keyOf (canonicalZero (ends .end)) })) 4) ⌝ }
 {
+    let ends = ends_in_order(start, end);
     let line = key_of(canonical_zero(fixed));
-    let first = key_of(canonical_zero(start));
-    let last = key_of(canonical_zero(end));
+    let first = key_of(canonical_zero(ends.start));
+    let last = key_of(canonical_zero(ends.end));
     s[at] = line;
     s[at + 1] = first;
     s[at + 2] = last;
@@ -43,7 +45,7 @@ fn add_row(
     end: f64,
 ) -> usize
     requires { ⌜ t + 4 * n + 4 ≤ length (now p) ⌝ }
-    ensures { λ r. ⌜ RowAdded t n wanted (record { net = net; orientation = orientation; fixed = fixed; start = start; end = end }) (now (p .entry)) (now (p .exit)) r ⌝ }
+    ensures { λ r. ⌜ RowAdded t n wanted (asTaken (record { net = net; orientation = orientation; fixed = fixed; start = start; end = end })) (now (p .entry)) (now (p .exit)) r ⌝ }
 {
     if orientation != wanted {
         return n;

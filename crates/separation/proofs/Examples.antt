@@ -16,7 +16,7 @@ use Rattle.floats.specs.TotalOrder.{key, keyOf, patternAt, floatAt}
 use Rattle.drawing.specs.declared.gap.Gap.{Gap}
 use Rattle.drawing.specs.declared.gap.Gap.the-variants.{Absent, Present}
 use Rattle.drawing.specs.declared.refusal.Refusal.the-variants.{WorkLimitExceeded}
-use Rattle.drawing.specs.Entries.{SegmentColumns, segmentColumns, segmentsOf}
+use Rattle.drawing.specs.Entries.{SegmentColumns, segmentColumns, segmentsOf, segments}
 use Rattle.drawing.specs.Orders.{segmentRow, segmentsInOrder}
 use Rattle.drawing.specs.Gaps.{gapFrom, leastGap, lesserGap}
 use Rattle.drawing.specs.Refusals.{numberOf, firstOf}
@@ -65,8 +65,16 @@ related = two 1 1 (0, 0, 0x4024_0000_0000_0000) (0x3ff0_0000_0000_0000, 0x4014_0
 abbrev far : SegmentColumns
 far = two 1 2 (0x7fef_ffff_ffff_ffff, 0, 0x4024_0000_0000_0000) (0xffef_ffff_ffff_ffff, 0x4014_0000_0000_0000, 0x4022_0000_0000_0000)
 
+-- D's wires along an orientation, each by the bits of its ends as they are given (SCOPE 2.8)
+abbrev drawn : ℕ → (ℕ × ℕ) → (ℕ × ℕ) → SegmentColumns
+drawn o a b = segmentColumns (1 ∷ 2 ∷ []) (o ∷ o ∷ []) (float 0 ∷ float 0x4010_0000_0000_0000 ∷ []) (float (a .0) ∷ float (b .0) ∷ []) (float (a .1) ∷ float (b .1) ∷ [])
+
 abbrev four : Gap
 four = Present (float 0x4010_0000_0000_0000)
+
+-- D's figures with 16 visits, and 7 with 15
+abbrev AsD : SegmentColumns → Type 0
+AsD s = (separationAnswer s 16 128 ≡ accepted (record { least = four; leastNonzero = four }) 16) × (separationAnswer s 15 128 ≡ Refused WorkLimitExceeded)
 
 -- columns, allowance and words of scratch
 pub record Marked : Type 0 where
@@ -85,9 +93,17 @@ pub record Marked : Type 0 where
   -- SCOPE 13.f: "one net, gap 1: absent"
   pub f : separationAnswer related 1000 128 ≡ accepted noFigures 14
   pub overflow : separationAnswer far 1000 128 ≡ accepted (record { least = Present (inf false); leastNonzero = Present (inf false) }) 16
+  -- SCOPE 2.8: D with net 2 given from 15 to 5, with both wires so, and upright with both so
+  pub net-2-reversed : AsD (drawn 1 (0, 0x4024_0000_0000_0000) (0x402e_0000_0000_0000, 0x4014_0000_0000_0000))
+  pub reversed : AsD (drawn 1 (0x4024_0000_0000_0000, 0) (0x402e_0000_0000_0000, 0x4014_0000_0000_0000))
+  pub upright-reversed : AsD (drawn 0 (0x4024_0000_0000_0000, 0) (0x402e_0000_0000_0000, 0x4014_0000_0000_0000))
+  -- one wire given both ways, for two nets
+  pub both-ways : separationAnswer (two 1 2 (0, 0, 0x4024_0000_0000_0000) (0, 0x4024_0000_0000_0000, 0)) 1000 128 ≡ accepted (record { least = Present plusZero; leastNonzero = Absent }) 10
+  -- from 1/32 to 1/128: separation has no grid
+  pub reversed-off-the-grid : separationAnswer (segmentColumns (1 ∷ []) (1 ∷ []) (float 0 ∷ []) (float 0x3fa0_0000_0000_0000 ∷ []) (float 0x3f80_0000_0000_0000 ∷ [])) 0 96 ≡ accepted noFigures 0
   -- SCOPE 6.3, 7.4: a refusal's number and values, one word of scratch too few
   pub short : resultOf (separationAnswer D 16 127) ≡ (4, record { minimum = Absent; «minimum_positive» = Absent; visits = 0 })
 
 pub marked : Marked
-unfolding ofBits ofFields toBits round units odd size span climb neg sum add sub lt eq trailingZeros some-of chosen pairs rowLe insertBy sortBy lesser least runs settle canonicalZero lesserOf greaterOf absOf gapOf key keyOf patternAt floatAt segmentsOf segmentRow segmentsInOrder gapFrom leastGap lesserGap numberOf firstOf differ tooMany shortScratch unfitFields unfitSegment segmentsDiffer segmentConditions separationConditions fixedOf startOf endOf overlapping isCounted gapBetween gaps nonzero leastOf figures rowOf words oriented distinct lines index levels moment eventsFrom events otherIn rightmost leftmost setRun lesserFigures same remove withNearest startsAt endsAt step sweep along walkAll visitCount allPairs separationAnswer resultOf
-marked = record { a = refl; b-accepted = refl; b-refused = refl; d-sheet = refl; d = refl; e = refl; e-zeros = refl; f = refl; overflow = refl; short = refl }
+unfolding ofBits ofFields toBits round units odd size span climb neg sum add sub lt eq trailingZeros some-of chosen pairs rowLe insertBy sortBy lesser least runs settle canonicalZero lesserOf greaterOf absOf gapOf key keyOf patternAt floatAt segments segmentsOf segmentRow segmentsInOrder gapFrom leastGap lesserGap numberOf firstOf differ tooMany shortScratch unfitFields unfitSegment segmentsDiffer segmentConditions separationConditions fixedOf startOf endOf overlapping isCounted gapBetween gaps nonzero leastOf figures rowOf words oriented distinct lines index levels moment eventsFrom events otherIn rightmost leftmost setRun lesserFigures same remove withNearest startsAt endsAt step sweep along walkAll visitCount allPairs separationAnswer resultOf
+marked = record { a = refl; b-accepted = refl; b-refused = refl; d-sheet = refl; d = refl; e = refl; e-zeros = refl; f = refl; overflow = refl; net-2-reversed = (refl, refl); reversed = (refl, refl); upright-reversed = (refl, refl); both-ways = refl; reversed-off-the-grid = refl; short = refl }

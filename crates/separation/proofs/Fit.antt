@@ -26,7 +26,7 @@ use Rattle.separation.proofs.Places.{Plain, Placed, placed, key-of-rank
 use Rattle.separation.proofs.Sweeps.{Meet}
 
 pub record Fit (s : Segment) : Type 0 where
-  pub turned : s .orientation ≤ 1
+  pub orientation : s .orientation ≤ 1
   pub fixed : Plain (fixedOf s)
   pub start : Plain (startOf s)
   pub end : Plain (endOf s)
@@ -42,7 +42,7 @@ fit-of s p e =
     let l = line-of s e in
     let up = lt→ binary64 (s .start) (s .end) (fin-num binary64 (s .start) (p .start, l .start)) (fin-num binary64 (s .end) (p .end, l .end)) (l .rising) in
     record {
-      turned = l .turned;
+      orientation = l .orientation;
       fixed = plain-of (s .fixed) (p .fixed, l .fixed);
       start = plain-of (s .start) (p .start, l .start);
       end = plain-of (s .end) (p .end, l .end);

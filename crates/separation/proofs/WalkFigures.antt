@@ -160,7 +160,7 @@ module _ (l : List Segment) (fit : All Fit l) where
         other = b .segment;
         one-in = a .there;
         other-in = b .there;
-        parallel = a .turned ∙ sym (b .turned);
+        parallel = a .orientation ∙ sym (b .orientation);
         meet = subst (λ (z : Row). Meet (rowOf (a .segment)) z) (b .is) (subst (λ (z : Row). Meet z (p .other)) (a .is) (p .meet));
         is = u .2 ∙ gap-is (a .segment) (b .segment) (a .there) (b .there) (u .0) (p .first ∙ ap (λ (z : Row). z .line) (a .is)) (p .second ∙ ap (λ (z : Row). z .line) (b .is));
       }
@@ -205,7 +205,7 @@ module _ (l : List Segment) (fit : All Fit l) where
       up : (x : Float) → Mem x (gaps l) → Reached (compared 1 ++ compared 0) x
       up x m =
           let p = mem-gaps l fit x m in
-          let t = all-mem Fit l fit (p .one) (p .one-in) .turned in
+          let t = all-mem Fit l fit (p .one) (p .one-in) .orientation in
           elim (le-or-lt 1 (p .one .orientation)) [
             | inl h ↦ let r = compared-reached 1 x p (omega arith) in record { gap = r .gap; there = append-left (r .gap) (compared 1) (compared 0) (r .there); low = r .low; true-one = r .true-one }
             | inr h ↦ let r = compared-reached 0 x p (omega arith) in record { gap = r .gap; there = append-right (r .gap) (compared 1) (compared 0) (r .there); low = r .low; true-one = r .true-one }

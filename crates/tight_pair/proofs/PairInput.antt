@@ -13,12 +13,13 @@ use Rattle.laws.proofs.Places.{at-all}
 use Rattle.drawing.specs.declared.refusal.Refusal.{Refusal}
 use Rattle.drawing.specs.declared.refusal.Check.the-variants.{Passed}
 use Rattle.drawing.specs.Entries.{Segment, Node, SegmentColumns, NodeColumns, ExemptionColumns, segments, nodes}
-use Rattle.drawing.specs.Inner.Entries.{segmentAt, nodeAt}
+use Rattle.drawing.specs.Inner.Entries.{nodeAt}
 use Rattle.drawing.specs.Inner.Lengths.{SegmentsAgree, NodesAgree, ExemptionsAgree}
 use Rattle.drawing.specs.Refusals.{firstOf}
 use Rattle.drawing.specs.Conditions.{unfitSegment, unfitNode}
 use Rattle.drawing.specs.Checks.{listConditions, entryConditions}
-use Rattle.drawing.proofs.EntryLaws.{length-segments, segments-at, length-nodes, nodes-at}
+use Rattle.drawing.proofs.EntryLaws.{length-nodes, nodes-at}
+use Rattle.drawing.proofs.ListOrders.{segments-held}
 use Rattle.drawing.proofs.FirstRefusal.{ListsPass, lists-pass, passed-head, first-no}
 use Rattle.drawing.specs.Held.{SegmentHeld, NodeHeld}
 use Rattle.drawing.proofs.Fit.{FitSegment, FitNode}
@@ -48,10 +49,6 @@ pub record FloatsLent (s : SegmentColumns) (n : NodeColumns) : Type 0 where
   pub height : Floats (n .height)
 
 module _ (s : SegmentColumns) (n : NodeColumns) (l : FloatsLent s n) where
-  segments-held : SegmentsAgree s → All SegmentHeld (segments s)
-  segments-held a = at-all SegmentHeld (segmentAt s 0) (segments s) (λ i b.
-      subst SegmentHeld (sym (segments-at s a (segmentAt s 0) i (omega (arith, length-segments s a)))) (record { fixed = l .fixed i; start = l .start i; end = l .end i }))
-
   nodes-held : NodesAgree n → All NodeHeld (nodes n)
   nodes-held a = at-all NodeHeld (nodeAt n 0) (nodes n) (λ i b.
       subst NodeHeld (sym (nodes-at n a (nodeAt n 0) i (omega (arith, length-nodes n a)))) (record { x = l .x i; y = l .y i; width = l .width i; height = l .height i }))
@@ -82,7 +79,7 @@ module _ (s : SegmentColumns) (n : NodeColumns) (e : ExemptionColumns) (p : firs
 
   pub pair-segments : FloatsLent s n → All FitSegment (segments s)
   unfolding entryConditions
-  pair-segments l = fit-segments (segments s) (segments-held s n l (lists .segments)) (passed-head _ _ _ (parts .1) .0)
+  pair-segments l = fit-segments (segments s) (segments-held s (lists .segments) (l .fixed) (l .start) (l .end)) (passed-head _ _ _ (parts .1) .0)
 
   pub pair-nodes : FloatsLent s n → All FitNode (nodes n)
   unfolding entryConditions

@@ -8,7 +8,7 @@ use lib.Ieee.{Float, binary64, ofBits, toBits, add, sub, lt}
 use Rattle.laws.specs.Lists.{some-of, chosen, cross}
 use Rattle.laws.specs.Least.{lesser, least}
 use Rattle.laws.proofs.Tests.{clash}
-use Rattle.floats.specs.Values.{greaterOf}
+use Rattle.floats.specs.Values.{lesserOf, greaterOf}
 use Rattle.drawing.specs.Entries.{Segment, Node, SegmentColumns, NodeColumns, ExemptionColumns, segmentColumns, nodeColumns, exemptionColumns, segmentsOf, nodesOf, exemptionsOf, segments, nodes, exemptions}
 use Rattle.drawing.specs.Gaps.{gapFrom, leastGap}
 use Rattle.drawing.specs.Refusals.{numberOf, firstOf}
@@ -30,6 +30,9 @@ d-segments =
     segmentColumns (1 ∷ 2 ∷ []) (1 ∷ 1 ∷ []) (float 0 ∷ float 0x4010_0000_0000_0000 ∷ []) (float 0 ∷ float 0x4014_0000_0000_0000 ∷ [])
     (float 0x4024_0000_0000_0000 ∷ float 0x402e_0000_0000_0000 ∷ [])
 
+abbrev d-reversed-segments : SegmentColumns
+d-reversed-segments = segmentColumns (d-segments .net) (d-segments .orientation) (d-segments .fixed) (d-segments .end) (d-segments .start)
+
 abbrev d-nodes : NodeColumns
 d-nodes = nodeColumns (7 ∷ []) (float 0x4000_0000_0000_0000 ∷ []) (float 0x3ff0_0000_0000_0000 ∷ []) (float 0x4008_0000_0000_0000 ∷ []) (float 0x4000_0000_0000_0000 ∷ [])
 
@@ -47,6 +50,9 @@ pub record PairExamples : Type 0 where
   pub d : (i j : ℕ) → tightPairAnswer d-segments d-nodes d-exemptions (i, j) ≡ Pair i j
   -- segment 0 and node 0 are tight
   pub d-tight : Tight (exemptions d-exemptions) (segments d-segments) (nodes d-nodes) 0 0
+  -- SCOPE 2.8: the same with both wires given from their greater ends
+  pub d-reversed : (i j : ℕ) → tightPairAnswer d-reversed-segments d-nodes d-exemptions (i, j) ≡ Pair i j
+  pub d-reversed-tight : Tight (exemptions d-exemptions) (segments d-reversed-segments) (nodes d-nodes) 0 0
   -- without nodes, and where every pair is exempt, there is none
   pub no-nodes-absent : (pair : ℕ × ℕ) → tightPairAnswer d-segments no-nodes d-exemptions pair ≡ Absent
   pub all-exempt-absent : (pair : ℕ × ℕ) → tightPairAnswer d-segments d-nodes (exemptionColumns (1 ∷ 2 ∷ []) (7 ∷ 7 ∷ [])) pair ≡ Absent
@@ -55,10 +61,12 @@ pub record PairExamples : Type 0 where
   pub no-length : (pair : ℕ × ℕ) → resultOf (tightPairAnswer (segmentColumns (1 ∷ []) (1 ∷ []) (float 0 ∷ []) (float 0 ∷ []) (float 0 ∷ [])) d-nodes d-exemptions pair) ≡ refusal 5
 
 pub pair-examples : PairExamples
-unfolding ofBits toBits add sub lt some-of chosen cross lesser least greaterOf segmentsOf nodesOf exemptionsOf gapFrom leastGap numberOf firstOf differ tooMany unfitFields unfitSegment unfitExtent unfitBox unfitNode segmentsDiffer nodesDiffer exemptionsDiffer listConditions entryConditions tightPairConditions fromNode fromSegment nodeBox segmentBox axisGap distance exempt distances pairIfAny tightPairAnswer resultOf
+unfolding ofBits toBits add sub lt some-of chosen cross lesser least greaterOf lesserOf segments segmentsOf nodesOf exemptionsOf gapFrom leastGap numberOf firstOf differ tooMany unfitFields unfitSegment unfitExtent unfitBox unfitNode segmentsDiffer nodesDiffer exemptionsDiffer listConditions entryConditions tightPairConditions fromNode fromSegment nodeBox segmentBox axisGap distance exempt distances pairIfAny tightPairAnswer resultOf
 pair-examples = record {
   d = λ i j. refl;
   d-tight = record { segment = _; node = _; segment-at = refl; node-at = refl; free = refl; least = refl };
+  d-reversed = λ i j. refl;
+  d-reversed-tight = record { segment = _; node = _; segment-at = refl; node-at = refl; free = refl; least = refl };
   no-nodes-absent = λ pair. refl;
   all-exempt-absent = λ pair. refl;
   columns-differ = λ pair. refl;
@@ -75,7 +83,7 @@ id-of (some n) = n .id
 
 -- no other pair of D is tight: segment 1 and node 0 are exempt
 only-tight : (i j : ℕ) → Tight (exemptions d-exemptions) (segments d-segments) (nodes d-nodes) i j → Pair i j ≡ Pair 0 0
-unfolding segmentsOf nodesOf exemptionsOf exempt some-of
+unfolding greaterOf lesserOf segments segmentsOf nodesOf exemptionsOf exempt some-of
 only-tight zero zero t = refl
 only-tight zero (suc j) t = let z : _≡_ {A = ℕ} 0 1 = cc (t .node-at) in absurd (omega arith)
 only-tight (suc zero) zero t = clash _ (sym (λ i. exempt (exemptions d-exemptions) (ap net-of (t .segment-at) i) (ap id-of (t .node-at) i))) (t .free)

@@ -5,6 +5,7 @@ use Prim.Native.Nat.{_-_}
 use lib.ListN.{length}
 use Rattle.drawing.specs.Entries.{segmentColumns}
 use Rattle.drawing.specs.Conditions.{offGridSegment}
+use Rattle.drawing.proofs.Directions.{grid-either-way}
 use Rattle.drawing.proofs.Scans.{SegmentsScanned, segments-none, segments-hit, segments-next, segments-all}
 use Rattle.congestion.proofs.checks.segments_off_grid.Statement.{statement}
 use Rattle.congestion.proofs.checks.segments_off_grid.Tie as tie
@@ -43,7 +44,7 @@ segment-off-grid-requires c κs = search needs
 
 returns : tie.Need-returns Inv-loop μ-loop
 unfolding offGridSegment
-returns c = segments-hit offGridSegment (segmentColumns _ _ _ _ _) _ (c .before .before .before .before .before .before .loop .inv) (c .before .before .before .before .before .loop-test .taken) (sym (c .before .segment-off-grid .ensures) ∙ c .if1 .taken)
+returns c = segments-hit offGridSegment (segmentColumns _ _ _ _ _) _ (c .before .before .before .before .before .before .loop .inv) (c .before .before .before .before .before .loop-test .taken) (grid-either-way _ _ _ ∙ sym (c .before .segment-off-grid .ensures) ∙ c .if1 .taken)
 
 add-i : tie.Need-add-i Inv-loop μ-loop
 add-i c = search needs
@@ -53,7 +54,7 @@ loop-less c = search needs
 
 loop-again : tie.Need-loop-again Inv-loop μ-loop
 unfolding offGridSegment
-loop-again c = segments-next offGridSegment (segmentColumns _ _ _ _ _) _ (c .before .before .before .before .before .before .loop .inv) (c .before .before .before .before .before .loop-test .taken) (sym (c .before .segment-off-grid .ensures) ∙ c .if1 .left)
+loop-again c = segments-next offGridSegment (segmentColumns _ _ _ _ _) _ (c .before .before .before .before .before .before .loop .inv) (c .before .before .before .before .before .loop-test .taken) (grid-either-way _ _ _ ∙ sym (c .before .segment-off-grid .ensures) ∙ c .if1 .left)
 
 returns-2 : tie.Need-returns-2 Inv-loop μ-loop
 returns-2 c = segments-all offGridSegment (segmentColumns _ _ _ _ _) _ (c .before .loop .inv) (c .loop-test .left)

@@ -1,5 +1,6 @@
 -- `rows::rows::add_row` meets its contract: a segment of another orientation adds no row. Assumes nothing.
 use borrow.Author.Needs.{needs}
+use Rattle.drawing.specs.Entries.{asTaken}
 use Rattle.rows.proofs.RowTables.{row-passed, row-added}
 use Rattle.rows.proofs.rows.add_row.Statement.{statement}
 use Rattle.rows.proofs.rows.add_row.Tie as tie
@@ -7,7 +8,7 @@ use Rattle.rows.proofs.rows.add_row.Tie as tie
 returns : tie.Need-returns
 returns c =
     let a = c .before .before .args in
-    row-passed (a .t) (a .n) (a .wanted) (record { net = a .net; orientation = a .orientation; fixed = a .fixed; start = a .start; end = a .end }) (a .p .now) (c .if1 .taken)
+    row-passed (a .t) (a .n) (a .wanted) (asTaken (record { net = a .net; orientation = a .orientation; fixed = a .fixed; start = a .start; end = a .end })) (a .p .now) (c .if1 .taken)
 
 mul-at : tie.Need-mul-at
 mul-at c = search needs
@@ -29,7 +30,7 @@ returns-2 c =
     let turn = c .before .before .before .before in
     let start = turn .before .before in
     let a = start .args in
-    row-added (a .t) (a .n) (a .wanted) (record { net = a .net; orientation = a .orientation; fixed = a .fixed; start = a .start; end = a .end }) (a .p .now) _ (turn .if1 .left) (start .pre) (c .before .before .put-row .ensures)
+    row-added (a .t) (a .n) (a .wanted) (asTaken (record { net = a .net; orientation = a .orientation; fixed = a .fixed; start = a .start; end = a .end })) (a .p .now) _ (turn .if1 .left) (start .pre) (c .before .before .put-row .ensures)
 
 pub add-row-spec : {M : Type 1} → statement M
 add-row-spec =

@@ -2,10 +2,15 @@
 use borrow.Author.Needs.{needs}
 use mathlib.Core.Path.{refl, ap, _∙_}
 use lib.ListN.{length-set}
+use Rattle.floats.specs.Values.{canonicalZero}
 use Rattle.floats.specs.TotalOrder.{keyOf}
+use Rattle.drawing.specs.declared.ends.Ends.{Ends}
 use Rattle.rows.proofs.RowTables.{four-stores}
 use Rattle.rows.proofs.rows.put_row.Statement.{statement}
 use Rattle.rows.proofs.rows.put_row.Tie as tie
+
+ends-in-order-requires : tie.Need-ends-in-order-requires
+ends-in-order-requires c κs = search needs
 
 canonical-zero-requires : tie.Need-canonical-zero-requires
 canonical-zero-requires c κs = search needs
@@ -65,16 +70,18 @@ returns : tie.Need-returns
 returns c =
     let a = c .before .before in
     let b = a .before .before in
-    let start = b .before .before .before in
+    let start = b .before .before .before .before in
+    let ends = b .before .before .ends-in-order .ensures in
     let line = b .key-of .ensures ∙ ap keyOf (b .before .canonical-zero .ensures) in
-    let first = a .key-of2 .ensures ∙ ap keyOf (a .before .canonical-zero2 .ensures) in
-    let last = c .key-of3 .ensures ∙ ap keyOf (c .before .canonical-zero3 .ensures) in
+    let first = a .key-of2 .ensures ∙ ap keyOf (a .before .canonical-zero2 .ensures) ∙ ap (λ (z : Ends). keyOf (canonicalZero (z .start))) ends in
+    let last = c .key-of3 .ensures ∙ ap keyOf (c .before .canonical-zero3 .ensures) ∙ ap (λ (z : Ends). keyOf (canonicalZero (z .end))) ends in
     four-stores (start .args .s .now) (start .args .at) _ _ _ _ _ (start .pre) line first last refl
 
 pub put-row-spec : {M : Type 1} → statement M
 put-row-spec =
     tie.close
     (tie.spec
+    ends-in-order-requires
     canonical-zero-requires
     key-of-requires
     canonical-zero-requires-2
