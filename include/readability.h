@@ -6,7 +6,7 @@
  * VERSION. While the major number is 0, the minor number rises whenever a caller
  * has to change something: a signature, the meaning of a word or of a status. The
  * patch number rises otherwise. CHANGELOG.md says what to change. A program that
- * includes this header refers to readability_version_0_2, so that it does not
+ * includes this header refers to readability_version_0_3, so that it does not
  * link with a library of another major or minor number: the linker names that
  * symbol as undefined.
  *
@@ -16,6 +16,8 @@
  *   segments    net, orientation (1 horizontal, 0 vertical), fixed, start, end.
  *               A horizontal segment lies at y = fixed from x = start to
  *               x = end, a vertical one at x = fixed from y = start to y = end.
+ *               Either end may be the greater: a segment with start above end is
+ *               measured as if the two had been exchanged. Equal ends are unfit.
  *   nodes       id, x, y, width, height. Ids need not differ.
  *   exemptions  net and node id: segments of that net and nodes of that id are
  *               not measured against each other.
@@ -41,9 +43,9 @@
  *   3  a list holds more than 4,096 entries
  *   4  the scratch is shorter than readability_scratch_words gives
  *   5  unfit: an orientation above 1, a number that is NaN or infinite (the
- *      threshold and the cutoff included), start not below end, width or
- *      height not above 0, x + width or y + height that is not finite, or a
- *      threshold below 0 (-0 passes)
+ *      threshold and the cutoff included), start equal to end (+0 and -0 are
+ *      equal), width or height not above 0, x + width or y + height that is not
+ *      finite, or a threshold below 0 (-0 passes)
  *   6  congestion only: a coordinate or the cutoff is off the grid, that is, no
  *      whole multiple of 1/64 or above 1,048,576 in absolute value
  *   7  the drawing's visit count is above the allowance
@@ -68,7 +70,7 @@
  *                                         position
  *
  * readability_ratio returns a float, readability_sheet a length and
- * readability_version_0_2 a number; none of them has a status or words.
+ * readability_version_0_3 a number; none of them has a status or words.
  *
  * ALLOWANCE. A drawing has one visit count for each measure, which depends
  * neither on the allowance nor on the scratch nor on the order of the lists. An
@@ -98,7 +100,7 @@ extern "C" {
 
 /* The version of this header. */
 #define READABILITY_VERSION_MAJOR 0
-#define READABILITY_VERSION_MINOR 2
+#define READABILITY_VERSION_MINOR 3
 #define READABILITY_VERSION_PATCH 0
 
 /* The same as one number. */
@@ -107,7 +109,7 @@ extern "C" {
      READABILITY_VERSION_PATCH)
 
 /* The library's version, as that number; it may differ in the patch alone. */
-uint32_t readability_version_0_2(void);
+uint32_t readability_version_0_3(void);
 
 /*
  * Makes each file that includes the header refer to the function above. The
@@ -126,7 +128,7 @@ uint32_t readability_version_0_2(void);
 #endif
 
 static uint32_t (*const readability_version_needed)(void) READABILITY_KEPT =
-    readability_version_0_2;
+    readability_version_0_3;
 
 /* The most entries that a list may hold. */
 #define READABILITY_MOST_ENTRIES 4096
@@ -290,7 +292,8 @@ uint32_t readability_congestion(
  * The same measures of a list of records: each has the words, the checks and the
  * visit count of the call by columns without _by_records, and 2 is only for the
  * columns of nodes and exemptions. A list above 4,096 records is refused
- * with 3 as there.
+ * with 3 as there. Start may be above or below end as there, and only equal ends
+ * are refused; the records are only read.
  */
 struct readability_segment {
     uint32_t net;
@@ -378,12 +381,12 @@ uint32_t readability_tight_pair(
  * line 'file refused' with the number 1 or 3.
  *
  * The file is big-endian: the byte 1; a 32-bit count of segments and for each
- * net (32 bits), orientation (a byte), fixed, start, end; a 32-bit count of nodes
- * and for each id (32 bits), x, y, width, height; a 32-bit count of exemptions
- * and for each net and node (32 bits each); threshold, cutoff; the allowances of
- * clearance, separation and congestion (64 bits each). Floats are their 64 bits.
- * It holds at most 120 segments, 120 nodes and 240 exemptions (else 3); 1 is a
- * wrong first byte, an orientation above 1, bytes missing or left over.
+ * net (32 bits), orientation (a byte), fixed, start, end (in either direction); a
+ * 32-bit count of nodes and for each id (32 bits), x, y, width, height; a 32-bit
+ * count of exemptions and for each net and node (32 bits each); threshold, cutoff;
+ * the allowances of clearance, separation and congestion (64 bits each). Floats are
+ * their 64 bits. It holds at most 120 segments, 120 nodes and 240 exemptions (else
+ * 3); 1 is a wrong first byte, an orientation above 1, bytes missing or left over.
  */
 size_t readability_sheet(
     const uint8_t *bytes, size_t bytes_length,

@@ -21,4 +21,4 @@ pub use records_export::readability_separation_by_records;
 pub use separation_export::readability_separation;
 pub use sheet_export::readability_sheet;
 pub use tight_pair_export::readability_tight_pair;
-pub use version_export::readability_version_0_2;
+pub use version_export::readability_version_0_3;

@@ -3,7 +3,7 @@ ghost use mathlib.Core.Path.{_≡_};
 ghost use Rattle.version.specs.Version.{version};
 
 #[no_mangle]
-pub extern "C" fn readability_version_0_2() -> u32
+pub extern "C" fn readability_version_0_3() -> u32
     ensures { λ r. ⌜ r ≡ version ⌝ }
 {
     version::number()

@@ -5,5 +5,5 @@ ghost use Rattle.version.specs.Version.{version};
 pub fn number() -> u32
     ensures { λ r. ⌜ r ≡ version ⌝ }
 {
-    2_000
+    3_000
 }
