@@ -7,7 +7,8 @@ use crate::{
     NetId, NodeId,
 };
 
-/// A straight route segment of one net, along one axis.
+/// A straight route segment of one net, along one axis, in either direction: it is
+/// measured as if its lesser end had been given first.
 #[derive(Clone, Copy, Debug, PartialEq)]
 pub struct EdgeNodeSegment {
     /// The net that the segment belongs to.
@@ -18,7 +19,8 @@ pub struct EdgeNodeSegment {
     pub fixed: f64,
     /// Where it begins.
     pub start: f64,
-    /// Where it ends, above `start`.
+    /// Where it ends, above or below `start`. Equal ends, +0 and -0 among them, are
+    /// unfit.
     pub end: f64,
 }
 
@@ -61,7 +63,8 @@ pub struct EdgeNodeClearance {
 #[derive(Clone, Copy, Debug, Eq, PartialEq)]
 #[non_exhaustive]
 pub enum EdgeNodeClearanceError {
-    /// An entry or the threshold is unfit.
+    /// An entry or the threshold is unfit. A start above its end is fit; the module
+    /// that these names come from refuses it.
     InvalidInput,
     /// The drawing takes more visits than were allowed.
     WorkLimitExceeded,

@@ -29,7 +29,8 @@ pub fn scratch_words(segments: usize, nodes: usize) -> usize {
 }
 
 /// Segments by columns: an orientation is 1 where the segment is horizontal and
-/// 0 where it is vertical.
+/// 0 where it is vertical. A start may be above or below its end: which of the two
+/// changes no answer.
 #[derive(Clone, Copy, Debug, Default)]
 #[allow(missing_docs)]
 pub struct SegmentColumns<'a> {

@@ -113,7 +113,7 @@ extern "C" {
 
     pub fn readability_ratio(total: f64, congested: f64) -> f64;
 
-    pub fn readability_version_0_2() -> u32;
+    pub fn readability_version_0_3() -> u32;
 
     pub fn readability_tight_pair(
         net: *const u32,

@@ -13,7 +13,7 @@ use crate::{
     declarations::{
         readability_clearance, readability_congestion, readability_congestion_profile,
         readability_density_profile, readability_ratio, readability_separation, readability_sheet,
-        readability_tight_pair, readability_version_0_2, SHEET_BYTES,
+        readability_tight_pair, readability_version_0_3, SHEET_BYTES,
     },
 };
 
@@ -155,7 +155,7 @@ pub fn ratio(total: f64, congested: f64) -> f64 {
 /// The version, as one number.
 pub fn version() -> u32 {
     // SAFETY: there is no pointer.
-    unsafe { readability_version_0_2() }
+    unsafe { readability_version_0_3() }
 }
 
 /// The length of a sheet's text, and the text with zeros after it.

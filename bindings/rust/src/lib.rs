@@ -89,14 +89,18 @@
 //! # What differs from the module
 //!
 //! Every figure of an accepted call equals the module's, bit by bit, but for the
-//! departures listed in the project's docs/DIFFERENCES.md. Two of them show in
+//! departures listed in the project's docs/DIFFERENCES.md. Three of them show in
 //! what is accepted:
 //!
+//! - a segment may be given in either direction. Where its start is above its end
+//!   it is measured as if the two had been exchanged; the module's clearance and
+//!   separation refuse it, and its congestion gives a wrong total or panics. Equal
+//!   ends are refused (refusal 5);
 //! - a list of more than 4,096 entries is refused (refusal 3);
 //! - congestion accepts only coordinates and a cutoff that are whole multiples
 //!   of 1/64, at most 1,048,576 in absolute value, and refuses any other
-//!   (refusal 6), a NaN or infinite one and a start not below its end (5). The
-//!   module takes all floats there, and may panic or give wrong figures.
+//!   (refusal 6), a NaN or infinite one and equal ends (5). The module takes all
+//!   floats there, and may panic or give wrong figures.
 //!
 //! Congestion turns every -0 into +0 first, as separation does in the module too,
 //! and its total for no segments is +0, where the module's sign depends on the

@@ -14,9 +14,10 @@ pub enum Refusal {
     TooManyEntries,
     /// 4: the scratch has too few words. Only a call by columns can meet it.
     ShortScratch,
-    /// 5: a number that is NaN or infinite, start not below end, width or height
-    /// not above 0, a right or bottom edge that is not finite, a threshold below
-    /// 0 (-0 passes), or, by columns, an orientation above 1.
+    /// 5: a number that is NaN or infinite, a start equal to its end (+0 and -0 are
+    /// equal), width or height not above 0, a right or bottom edge that is not
+    /// finite, a threshold below 0 (-0 passes), or, by columns, an orientation above
+    /// 1.
     InvalidInput,
     /// 6: in congestion a coordinate or the cutoff is no whole multiple of 1/64,
     /// or above 1,048,576 in absolute value.

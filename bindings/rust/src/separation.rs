@@ -7,7 +7,8 @@ use crate::{
     NetId,
 };
 
-/// A straight wire of one net, along one axis.
+/// A straight wire of one net, along one axis, in either direction: it is measured
+/// as if its lesser end had been given first.
 #[derive(Clone, Copy, Debug, PartialEq)]
 pub struct ParallelSegment {
     /// The net that the wire belongs to.
@@ -18,7 +19,8 @@ pub struct ParallelSegment {
     pub fixed: f64,
     /// Where it begins.
     pub start: f64,
-    /// Where it ends, above `start`.
+    /// Where it ends, above or below `start`. Equal ends, +0 and -0 among them, are
+    /// unfit.
     pub end: f64,
 }
 
@@ -37,7 +39,8 @@ pub struct ParallelSeparation {
 #[derive(Clone, Copy, Debug, Eq, PartialEq)]
 #[non_exhaustive]
 pub enum ParallelSeparationError {
-    /// A segment is unfit.
+    /// A segment is unfit. A start above its end is fit; the module that these names
+    /// come from refuses it.
     InvalidInput,
     /// The drawing takes more visits than were allowed.
     WorkLimitExceeded,

@@ -89,9 +89,35 @@ fn differences_by(
             let about = format!("{about}, allowance {allowance}");
             tried.compare(&about, &columns, words, allowance, &expected);
         }
+        if !columns.are_those_of(lists) {
+            let call = call.name();
+            let difference = "the columns are not as they were lent";
+            let found = format!("the port's {call}, {about}: {difference}");
+            tried.found.push(found);
+        }
     }
+    compare_directions(drawing, need, answer, &mut tried);
     compare_refusals(drawing, need, &mut tried);
     tried.found
+}
+
+/// The same answer to the drawing with its segments as they are taken, and to the
+/// one with every segment reversed: the direction in which a segment is given
+/// decides nothing (SCOPE 2.8), refusals and scratch included. One allowance is
+/// enough, and the lists as given have been compared under all of them.
+fn compare_directions(drawing: &Drawing, need: usize, answer: &Answer, tried: &mut Tried) {
+    let allowance = match tried.call {
+        Call::Congestion => u64::MAX,
+        call => call.measure().allowance(drawing),
+    };
+    let expected = answer.clone().and_then(|report| settle(report, allowance));
+    for (about, lists) in [
+        ("every segment rising", drawing.rising()),
+        ("every segment reversed", drawing.reversed()),
+    ] {
+        let columns = Columns::of(&lists);
+        tried.compare(about, &columns, need, allowance, &expected);
+    }
 }
 
 /// Allowances around the visit count, and around the least that the segments in
@@ -160,18 +186,18 @@ fn compare_refusals(drawing: &Drawing, need: usize, tried: &mut Tried) {
     let mut moved = drawing.clone();
     move_some(&mut moved, &mut tried.random);
     tried.compare_refusal("off the grid", &moved, &Columns::of(&moved), need);
-    let mut turned = drawing.clone();
-    turn_some(&mut turned, &mut tried.random);
-    tried.compare_refusal("an orientation", &turned, &Columns::of(&turned), need);
+    let mut unfit = drawing.clone();
+    spoil_orientation(&mut unfit, &mut tried.random);
+    tried.compare_refusal("an orientation", &unfit, &Columns::of(&unfit), need);
 
-    move_some(&mut turned, &mut tried.random);
-    let mut several = Columns::of(&turned);
+    move_some(&mut unfit, &mut tried.random);
+    let mut several = Columns::of(&unfit);
     if tried.random.once_in(2) {
         let place = tried.random.below(columns_taken);
         change_length(&mut several, place, true);
     }
     let words = need - tried.random.below(2);
-    tried.compare_refusal("several at once", &turned, &several, words);
+    tried.compare_refusal("several at once", &unfit, &several, words);
 }
 
 /// How many of the columns that `change_length` knows, from the first on, the
@@ -211,7 +237,7 @@ pub fn change_length(columns: &mut Columns, place: usize, longer: bool) {
 }
 
 /// Gives one segment an orientation above 1, if there is a segment.
-pub fn turn_some(drawing: &mut Drawing, random: &mut Random) {
+pub fn spoil_orientation(drawing: &mut Drawing, random: &mut Random) {
     if !drawing.segments.is_empty() {
         let place = random.below(drawing.segments.len());
         drawing.segments[place].orientation = random.pick(&[2, 3, 128, 255]);
@@ -308,8 +334,11 @@ fn differs_by_records(
     left: &[u64],
 ) -> Option<String> {
     let records = columns.records()?;
-    let by_records = run_by_records(call, &records, columns, allowance, &mut scratch[..words]);
-    if by_records != *returned {
+    let lent = records.clone();
+    let by_records = run_by_records(call, &lent, columns, allowance, &mut scratch[..words]);
+    if !lent.iter().zip(&records).all(|(one, other)| one.is(other)) {
+        Some("the records are not as they were lent".to_string())
+    } else if by_records != *returned {
         Some(format!(
             "{by_records:x?}, where by columns it is {returned:x?}"
         ))
@@ -366,19 +395,26 @@ fn from_ones(call: Call, columns: &Columns, words: usize, allowance: u64) -> (Re
     (returned, scratch)
 }
 
-/// A fit drawing with this many segments, of both orientations and some nets,
-/// and three nodes.
+/// A fit drawing with this many segments, of both orientations and some nets, a
+/// third of them reversed, and three nodes.
 fn drawing_of(count: usize) -> Drawing {
     let mut drawing = drawing_d();
     let node = drawing.nodes[0];
     drawing.nodes = vec![node; 3];
     drawing.segments = (0..count)
-        .map(|place| Segment {
-            net: (place % 7) as u32,
-            orientation: (place % 2) as u8,
-            fixed: (place % 501) as f64,
-            start: (place % 97) as f64,
-            end: (place % 97 + 1 + place % 13) as f64,
+        .map(|place| {
+            let segment = Segment {
+                net: (place % 7) as u32,
+                orientation: (place % 2) as u8,
+                fixed: (place % 501) as f64,
+                start: (place % 97) as f64,
+                end: (place % 97 + 1 + place % 13) as f64,
+            };
+            if place % 3 == 0 {
+                segment.reversed()
+            } else {
+                segment
+            }
         })
         .collect();
     drawing

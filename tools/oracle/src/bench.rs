@@ -200,7 +200,7 @@ fn measure_times(
     limit: u64,
 ) -> Result<Times, Returned> {
     let call = Call::of_sheet(measure);
-    let fed = Fed::as_given(drawing);
+    let fed = Fed::in_given_order(drawing);
     let limit_of_rust = usize::try_from(limit).unwrap_or(usize::MAX);
     let columns = Columns::of(drawing);
     let mut scratch = vec![0; scratch_words(measure, drawing)];

@@ -13,7 +13,7 @@ use crate::{
     marked,
     random::Random,
     report::MEASURES,
-    sheet,
+    reversed, sheet,
 };
 
 /// Compares `count` drawings, D first, prints what was met, and returns how
@@ -47,7 +47,11 @@ fn part(first: u64, step: u64, count: u64, seed: u64) -> Tally {
             let examined = Examined::new(drawing_d());
             let mut differences = examined.differences();
             differences.extend(differences_on_scopes_drawings());
+            differences.extend(differences_on_reversed_drawings());
             differences.extend(tally.sheets.compare_d(&mut random));
+            for case in reversed::cases() {
+                differences.extend(tally.sheets.compare_drawing(&case.drawing, &mut random));
+            }
             #[cfg(port)]
             differences.extend(against_port::differences_at_sizes());
             tally.add(index, "drawing D", examined, differences);
@@ -92,6 +96,23 @@ fn differences_on_scopes_drawings() -> Vec<String> {
     found
 }
 
+/// What SCOPE 2.8 and 7.5 say of segments whose start is above their end, or equal
+/// to it. Both computations must give it.
+fn differences_on_reversed_drawings() -> Vec<String> {
+    let mut found = Vec::new();
+    for case in reversed::cases() {
+        for sheet in both_sheets(&case.drawing) {
+            if sheet != case.sheet {
+                found.push(format!("{}: {sheet}", case.name));
+            }
+        }
+        for difference in Examined::new(case.drawing).differences() {
+            found.push(format!("{}: {difference}", case.name));
+        }
+    }
+    found
+}
+
 /// The Rust's sheet and the all-pairs sheet, or the fault in the place of one.
 fn both_sheets(drawing: &Drawing) -> [String; 2] {
     [sheet::by_reference(drawing), sheet::by_pairs(drawing)]
@@ -122,6 +143,8 @@ struct Tally {
     agree: u64,
     differ: u64,
     kinds: Vec<(&'static str, u64)>,
+    segments: u64,
+    reversed_segments: u64,
     reports: [u64; 3],
     refused: [u64; 3],
     sheets: Sheets,
@@ -138,6 +161,12 @@ impl Tally {
         differences: Vec<String>,
     ) {
         self.count_kind(kind, 1);
+        let segments = &examined.drawing.segments;
+        let reversed = segments
+            .iter()
+            .filter(|segment| segment.end < segment.start);
+        self.segments += segments.len() as u64;
+        self.reversed_segments += reversed.count() as u64;
         for (place, answer) in examined.answers.iter().enumerate() {
             match answer {
                 Ok(Ok(_)) => self.reports[place] += 1,
@@ -161,6 +190,8 @@ impl Tally {
         for (kind, count) in other.kinds {
             self.count_kind(kind, count);
         }
+        self.segments += other.segments;
+        self.reversed_segments += other.reversed_segments;
         for place in 0..MEASURES.len() {
             self.reports[place] += other.reports[place];
             self.refused[place] += other.refused[place];
@@ -202,6 +233,10 @@ impl Tally {
             .map(|(name, count)| format!("{name} {count}"))
             .collect();
         println!("drawings: {}", kinds.join(", "));
+        println!(
+            "segments: {}, of which {} are given from the greater end to the lesser one",
+            self.segments, self.reversed_segments
+        );
         for (place, measure) in MEASURES.into_iter().enumerate() {
             println!(
                 "{}: {} reports, {} refused before work",

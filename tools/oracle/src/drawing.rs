@@ -9,7 +9,8 @@ pub const VERTICAL: u8 = 0;
 pub const HORIZONTAL: u8 = 1;
 
 /// A straight wire. `fixed` is y for a horizontal wire and x for a vertical
-/// one; `start` and `end` lie along the other axis.
+/// one; `start` and `end` lie along the other axis, in the direction in which the
+/// wire was drawn: either may be the greater.
 #[derive(Clone, Copy, Debug)]
 pub struct Segment {
     pub net: u32,
@@ -65,6 +66,25 @@ pub fn plus_zero(value: f64) -> f64 {
 }
 
 impl Segment {
+    /// The same wire given in the other direction.
+    pub fn reversed(self) -> Self {
+        Self {
+            start: self.end,
+            end: self.start,
+            ..self
+        }
+    }
+
+    /// The segment as it is taken (SCOPE 2.8): reversed exactly where its end is
+    /// below its start.
+    fn rising(self) -> Self {
+        if self.end < self.start {
+            self.reversed()
+        } else {
+            self
+        }
+    }
+
     fn with_plus_zeros(self) -> Self {
         Self {
             fixed: plus_zero(self.fixed),
@@ -124,9 +144,22 @@ impl Drawing {
 
     /// The same drawing with the zeros of its segments made +0.
     pub fn with_plus_zeros(&self) -> Self {
-        let segments = self.segments.iter().copied();
+        self.with_each_segment(Segment::with_plus_zeros)
+    }
+
+    /// The same drawing with its segments as they are taken.
+    pub fn rising(&self) -> Self {
+        self.with_each_segment(Segment::rising)
+    }
+
+    /// The same drawing with each segment given in the other direction.
+    pub fn reversed(&self) -> Self {
+        self.with_each_segment(Segment::reversed)
+    }
+
+    fn with_each_segment(&self, change: fn(Segment) -> Segment) -> Self {
         Self {
-            segments: segments.map(Segment::with_plus_zeros).collect(),
+            segments: self.segments.iter().copied().map(change).collect(),
             ..self.clone()
         }
     }

@@ -151,7 +151,7 @@ fn compare_reordered(
     reordered: &Drawing,
     found: &mut Differences,
 ) {
-    let fed = Fed::as_given(reordered);
+    let fed = Fed::in_given_order(reordered);
     for limit in [report.visits.saturating_sub(1), report.visits] {
         let about = format!("lists in another order, under the limit {limit}");
         let run = fed.run(measure, limit);

@@ -32,7 +32,8 @@
 //! The last five are too long for files of the program. Besides, every
 //! drawing draws its orientations (mixed or one only), its lists' lengths (0
 //! and 1 among them), its threshold and cutoff, and for each measure an aim
-//! for its allowance: the visit count, one below, 0, or 2^64 - 1.
+//! for its allowance: the visit count, one below, 0, or 2^64 - 1. Whatever the
+//! kind, a third of the segments are given from the greater end to the lesser one.
 
 use crate::{
     drawing::Drawing,
@@ -179,6 +180,24 @@ pub fn any_length(random: &mut Random) -> Limits {
 /// A drawing of the kind. `most` bounds its lists, unless the kind is about
 /// their lengths. Every allowance is 2^64 - 1.
 pub fn drawing(kind: Kind, most: &Limits, random: &mut Random) -> Drawing {
+    let mut drawing = with_rising_segments(kind, most, random);
+    reverse_some(&mut drawing);
+    drawing
+}
+
+/// Reverses a third of the segments, unfit ones included. Which ones is drawn
+/// from a generator that belongs to the drawing, so that everything else, its
+/// allowances too, is what it would be without.
+fn reverse_some(drawing: &mut Drawing) {
+    let mut random = drawing.random();
+    for segment in &mut drawing.segments {
+        if random.once_in(3) {
+            *segment = segment.reversed();
+        }
+    }
+}
+
+fn with_rising_segments(kind: Kind, most: &Limits, random: &mut Random) -> Drawing {
     match kind {
         Kind::Ties => fit(TINY, most, random),
         Kind::Zeros => fit(ZEROS, most, random),

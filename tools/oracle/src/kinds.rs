@@ -28,6 +28,9 @@ pub struct Kind {
     /// Whether the lists come in the order of SCOPE 9.4; otherwise
     /// the segments are shuffled.
     in_order: bool,
+    /// Whether a third of the wires are given from the greater end to the lesser
+    /// one. The wires are otherwise the same.
+    reversed: bool,
 }
 
 /// The lines that the wires lie on.
@@ -63,6 +66,14 @@ const SPARSE: Kind = Kind {
     nets: 256,
     exempt: Exempt::Any(0),
     in_order: false,
+    reversed: false,
+};
+
+/// The reference is fed the wires in rising order, ready before its time begins.
+const SPARSE_REVERSED: Kind = Kind {
+    name: "sparse, a third reversed",
+    reversed: true,
+    ..SPARSE
 };
 
 const DENSE: Kind = Kind {
@@ -131,8 +142,9 @@ const APART: Kind = Kind {
     ..DENSE
 };
 
-pub const CLEARANCE: [Kind; 10] = [
+pub const CLEARANCE: [Kind; 11] = [
     SPARSE,
+    SPARSE_REVERSED,
     Kind {
         segments: 256,
         nodes: 256,
@@ -168,8 +180,9 @@ pub const CLEARANCE: [Kind; 10] = [
     },
 ];
 
-pub const SEPARATION: [Kind; 8] = [
+pub const SEPARATION: [Kind; 9] = [
     SPARSE,
+    SPARSE_REVERSED,
     DENSE,
     ONE_NET,
     ONE_LINE,
@@ -185,8 +198,9 @@ pub const SEPARATION: [Kind; 8] = [
     ALL_OVERLAPPING,
 ];
 
-pub const CONGESTION: [Kind; 11] = [
+pub const CONGESTION: [Kind; 12] = [
     SPARSE,
+    SPARSE_REVERSED,
     Kind {
         segments: 256,
         ..DENSE
@@ -263,6 +277,14 @@ impl Kind {
         random.shuffle(&mut drawing.segments);
         if let Exempt::All = self.exempt {
             random.shuffle(&mut drawing.exemptions);
+        }
+        // Last, so that nothing else of the drawing depends on it.
+        if self.reversed {
+            for segment in &mut drawing.segments {
+                if random.once_in(3) {
+                    *segment = segment.reversed();
+                }
+            }
         }
         drawing
     }

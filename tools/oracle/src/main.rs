@@ -33,6 +33,7 @@ mod random;
 mod reference;
 mod refusals;
 mod report;
+mod reversed;
 mod sample;
 mod shapes;
 mod sheet;
@@ -81,7 +82,8 @@ usage: oracle COMMAND
   shrink             the smallest part of the drawing on standard input that
                      still differs, if it does
   drawing-d          the file of drawing D
-  drawings DIR       the files of D and of the marked cases, written to DIR
+  drawings DIR       the files of D, of D reversed and of the marked cases,
+                     written to DIR
   sample SEED COUNT  a sample of COUNT files with the Rust's sheets
   bench RUNS [ALLOWANCE]
                      the times of the Rust and of the port, best of RUNS; with an

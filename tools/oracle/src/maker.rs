@@ -48,6 +48,7 @@ impl<'a> Maker<'a> {
         }
     }
 
+    /// With the lesser end first.
     fn segment(&mut self) -> Segment {
         loop {
             let one = self.coordinate();

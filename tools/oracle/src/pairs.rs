@@ -108,7 +108,7 @@ fn for_each_route_and_node(drawing: &Drawing, mut pair: impl FnMut(f64, bool)) {
 
 /// The larger of the gaps along x and along y.
 pub fn distance(segment: &Segment, node: &Node) -> f64 {
-    let along = (segment.start, segment.end);
+    let along = extent(segment);
     let across = (segment.fixed, segment.fixed);
     let (in_x, in_y) = if segment.orientation == HORIZONTAL {
         (along, across)
@@ -122,6 +122,13 @@ pub fn distance(segment: &Segment, node: &Node) -> f64 {
     } else {
         gap_y
     }
+}
+
+/// The lesser and the greater end of a segment, whichever was given first
+/// (SCOPE 2.8). Worked out here and not taken from what the reference is fed.
+fn extent(segment: &Segment) -> (f64, f64) {
+    let (one, other) = (segment.start, segment.end);
+    (one.min(other), one.max(other))
 }
 
 /// One rounded subtraction, or 0 where two extents touch or overlap.
@@ -165,7 +172,9 @@ fn separation(drawing: &Drawing) -> Vec<Figure> {
 
 /// Same orientation and an overlap of positive length.
 fn run_side_by_side(one: &Segment, other: &Segment) -> bool {
-    one.orientation == other.orientation && one.start.max(other.start) < one.end.min(other.end)
+    let (from, to) = extent(one);
+    let (other_from, other_to) = extent(other);
+    one.orientation == other.orientation && from.max(other_from) < to.min(other_to)
 }
 
 /// Sums `cost` over the orientations that hold two segments or more. It is
@@ -193,7 +202,7 @@ fn by_orientation(drawing: &Drawing, cost: impl Fn(u64, u64) -> u64) -> u64 {
 
 // Congestion
 
-/// A segment on the grid, its coordinates counted in 1/64.
+/// A segment on the grid, its coordinates counted in 1/64, `start` its lesser end.
 #[derive(Clone, Copy)]
 struct Wire {
     net: u32,
@@ -345,12 +354,15 @@ fn wires(drawing: &Drawing) -> Vec<Wire> {
     drawing
         .segments
         .iter()
-        .map(|segment| Wire {
-            net: segment.net,
-            orientation: segment.orientation,
-            fixed: in_64ths(segment.fixed),
-            start: in_64ths(segment.start),
-            end: in_64ths(segment.end),
+        .map(|segment| {
+            let (one, other) = (in_64ths(segment.start), in_64ths(segment.end));
+            Wire {
+                net: segment.net,
+                orientation: segment.orientation,
+                fixed: in_64ths(segment.fixed),
+                start: one.min(other),
+                end: one.max(other),
+            }
         })
         .collect()
 }

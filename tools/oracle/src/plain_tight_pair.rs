@@ -11,7 +11,8 @@
 use crate::drawing::{Exemption, Node, Segment, HORIZONTAL};
 
 /// The positions of the first segment and node that are not exempt and at the
-/// least distance. That the lists are fit is not checked.
+/// least distance. That the lists are fit is not checked, and no segment may have
+/// its start above its end.
 pub fn tight_pair(
     segments: &[Segment],
     nodes: &[Node],

@@ -9,7 +9,7 @@ use crate::{
     declarations::{
         readability_clearance, readability_congestion, readability_congestion_profile,
         readability_density_profile, readability_ratio, readability_separation, readability_sheet,
-        readability_tight_pair, readability_version_0_2, SHEET_BYTES,
+        readability_tight_pair, readability_version_0_3, SHEET_BYTES,
     },
     drawing::Drawing,
     refusals::{scratch_need, Lent},
@@ -91,6 +91,16 @@ pub struct Record {
     fixed: f64,
     start: f64,
     end: f64,
+}
+
+impl Record {
+    /// Whether it is the same bit by bit. A call only reads its records.
+    pub fn is(&self, other: &Self) -> bool {
+        let floats = |record: &Self| [record.fixed, record.start, record.end].map(f64::to_bits);
+        self.net == other.net
+            && self.horizontal == other.horizontal
+            && floats(self) == floats(other)
+    }
 }
 
 /// The five measures of SCOPE 6.1. Congestion's three have
@@ -221,6 +231,30 @@ impl Columns {
         Some((0..count).map(record).collect())
     }
 
+    /// Whether they are the drawing's columns, bit by bit. A call only reads them.
+    pub fn are_those_of(&self, drawing: &Drawing) -> bool {
+        let other = Self::of(drawing);
+        let floats = |columns: &Self| {
+            let Self {
+                fixed,
+                start,
+                end,
+                x,
+                y,
+                width,
+                height,
+                ..
+            } = columns;
+            [fixed, start, end, x, y, width, height].map(|column| bits(column))
+        };
+        self.net == other.net
+            && self.orientation == other.orientation
+            && self.id == other.id
+            && self.exempt_net == other.exempt_net
+            && self.exempt_node == other.exempt_node
+            && floats(self) == floats(&other)
+    }
+
     /// What a call with these columns and this many words is lent.
     pub fn lent(&self, scratch_words: usize) -> Lent {
         Lent {
@@ -246,6 +280,10 @@ impl Columns {
 
 fn column<E, T>(entries: &[E], field: impl Fn(&E) -> T) -> Vec<T> {
     entries.iter().map(field).collect()
+}
+
+fn bits(column: &[f64]) -> Vec<u64> {
+    column.iter().map(|value| value.to_bits()).collect()
 }
 
 /// What the port returns: 0 or the refusal's number, and the report's words.
@@ -457,7 +495,7 @@ pub fn run_ratio(total: f64, congested: f64) -> f64 {
 
 /// The version of the library.
 pub fn version() -> String {
-    let version = unsafe { readability_version_0_2() };
+    let version = unsafe { readability_version_0_3() };
     let (major, minor) = (version / 1_000_000, version / 1_000 % 1_000);
     format!("{major}.{minor}.{}", version % 1_000)
 }

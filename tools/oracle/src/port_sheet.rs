@@ -75,19 +75,29 @@ impl Sheets {
         self.through_the_program += other.through_the_program;
     }
 
-    /// The drawing's file and a damaged one; the program gets one of the two.
+    /// The drawing's file and a damaged one; the program gets one of the two. In
+    /// process the file's sheet is also that of the drawing with its segments as they
+    /// are taken, and of the one with every segment reversed (SCOPE 2.8).
     pub fn compare_drawing(&mut self, drawing: &Drawing, random: &mut Random) -> Vec<String> {
         let whole = file::write(drawing);
         let damaged = damaged(drawing, &whole, random);
-        let ways = if random.once_in(2) {
+        let [way_of_whole, way_of_damaged] = if random.once_in(2) {
             [Way::Both, Way::InProcess]
         } else {
             [Way::InProcess, Way::Both]
         };
         let mut found = Vec::new();
-        for (file, way) in [whole, damaged].iter().zip(ways) {
-            found.extend(self.compare(file, way));
+        match expected_sheet(&whole) {
+            Ok(expected) => {
+                found.extend(self.compare_with(&expected, &whole, way_of_whole));
+                for other in [drawing.rising(), drawing.reversed()] {
+                    let file = file::write(&other);
+                    found.extend(self.compare_with(&expected, &file, Way::InProcess));
+                }
+            }
+            Err(fault) => found.push(fault),
         }
+        found.extend(self.compare(&damaged, way_of_damaged));
         found
     }
 
@@ -99,26 +109,42 @@ impl Sheets {
     }
 
     fn compare(&mut self, file: &[u8], way: Way) -> Vec<String> {
-        let expected = match sheet::of_file(file, sheet::by_reference) {
-            Ok(expected) => expected,
-            Err(fault) => return vec![format!("{fault}, for the file {}", hexadecimal(file))],
-        };
+        match expected_sheet(file) {
+            Ok(expected) => self.compare_with(&expected, file, way),
+            Err(fault) => vec![fault],
+        }
+    }
+
+    fn compare_with(&mut self, expected: &str, file: &[u8], way: Way) -> Vec<String> {
         let mut found = Vec::new();
         self.in_process += 1;
-        found.extend(difference_in_process(file, &expected));
+        found.extend(difference_in_process(file, expected));
         if way == Way::Both {
             self.through_the_program += 1;
-            found.extend(difference_through_the_program(file, &expected));
+            found.extend(difference_through_the_program(file, expected));
         }
         found
     }
 }
 
+/// The reference's sheet of a file, or its fault in words.
+fn expected_sheet(file: &[u8]) -> Result<String, String> {
+    sheet::of_file(file, sheet::by_reference)
+        .map_err(|fault| format!("{fault}, for the file {}", hexadecimal(file)))
+}
+
 /// The export gives the expected text at the front of the buffer and leaves
-/// the rest of it alone.
+/// the rest of it alone, and the file.
 pub fn difference_in_process(file: &[u8], expected: &str) -> Option<String> {
     let mut text = [UNWRITTEN; SHEET_BYTES];
-    let length = run_sheet(file, &mut text);
+    let lent = file.to_vec();
+    let length = run_sheet(&lent, &mut text);
+    if lent != file {
+        let file = hexadecimal(file);
+        return Some(format!(
+            "the port's sheet, file {file}: the file is written"
+        ));
+    }
     let written = text.get(..length).unwrap_or(&text);
     if length != written.len() || written != expected.as_bytes() {
         return Some(difference("the port's sheet", file, written, expected));

@@ -1,7 +1,9 @@
 //! The reference: the unchanged Rust, run on a drawing's lists.
 //!
-//! It is given lists in the order of SCOPE 9.4. Congestion gets +0 for every
-//! zero, and the total of an empty list is read as +0: SCOPE 9.2 and 9.3. A panic of the reference is caught and reported as a fault.
+//! It is given segments as they are taken, the lesser end first (SCOPE 9.6), and
+//! then lists in the order of SCOPE 9.4. Congestion gets +0 for every zero, and
+//! the total of an empty list is read as +0: SCOPE 9.2 and 9.3. A panic of the
+//! reference is caught and reported as a fault.
 
 use std::{
     cell::Cell,
@@ -83,17 +85,27 @@ pub struct Fed {
 }
 
 impl Fed {
-    /// The lists in the order of SCOPE 9.4: what every comparison rests on.
+    /// The lists in the order of SCOPE 9.4, which sorts the segments as they are
+    /// taken: what every comparison rests on.
     pub fn in_list_order(drawing: &Drawing) -> Self {
+        let taken = drawing.rising();
         Self::new(
-            &drawing.in_list_order(),
-            &drawing.with_plus_zeros().in_list_order(),
+            &taken.in_list_order(),
+            &taken.with_plus_zeros().in_list_order(),
         )
     }
 
-    /// The lists in the order that they are given in: only to see that the
-    /// order decides nothing.
-    pub fn as_given(drawing: &Drawing) -> Self {
+    /// The segments as they are taken, the lists in the order that they are given
+    /// in: to see that the order decides nothing, and for times.
+    pub fn in_given_order(drawing: &Drawing) -> Self {
+        let taken = drawing.rising();
+        Self::new(&taken, &taken.with_plus_zeros())
+    }
+
+    /// The lists as they are given, ends included: only to see what the reference
+    /// does with a segment whose start is above its end.
+    #[cfg(test)]
+    pub fn with_ends_as_given(drawing: &Drawing) -> Self {
         Self::new(drawing, &drawing.with_plus_zeros())
     }
 

@@ -181,7 +181,8 @@ fn segment_fits(segment: &Segment) -> bool {
     let numbers = [segment.fixed, segment.start, segment.end];
     segment.orientation <= 1
         && numbers.iter().all(|number| number.is_finite())
-        && segment.start < segment.end
+        // Equal as numbers: +0 and -0 are the ends of no wire.
+        && segment.start != segment.end
 }
 
 fn node_fits(node: &Node) -> bool {

@@ -10,11 +10,11 @@ use crate::{
     random::Random,
     reference::Fault,
     refusals::Limits,
-    sheet,
+    reversed, sheet,
 };
 
 /// `count` records: D, the marked cases, damaged files, lists at the program's
-/// limits and over them, then every other kind in turn.
+/// limits and over them, reversed segments, then every other kind in turn.
 pub fn sample(seed: u64, count: usize) -> Result<Vec<u8>, Fault> {
     let mut files = vec![file::write(&drawing_d())];
     files.extend(
@@ -26,6 +26,11 @@ pub fn sample(seed: u64, count: usize) -> Result<Vec<u8>, Fault> {
     for kind in [Kind::AtLimits, Kind::OverLimits].repeat(4) {
         files.push(generated_file(kind, &SMALL, seed, files.len()));
     }
+    files.extend(
+        reversed::cases()
+            .iter()
+            .map(|case| file::write(&case.drawing)),
+    );
     while files.len() < count {
         let place = files.len();
         let (kind, _, _) = KINDS[place % SMALL_KINDS];

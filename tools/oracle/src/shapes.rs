@@ -1,7 +1,6 @@
 //! The kinds of drawings that are more than a palette of numbers: what is
-//! repeated, lined up, spoilt or made long in them.
-
-use std::mem;
+//! repeated, lined up, spoilt or made long in them. Every segment that is not
+//! spoilt has its start below its end here; `generate` reverses some afterwards.
 
 use crate::{
     drawing::{Drawing, Exemption, Node, Segment, HORIZONTAL},
@@ -238,7 +237,9 @@ fn spoil_segment(segments: &mut [Segment], random: &mut Random) {
         1 => segment.start = random.pick(&NOT_FINITE),
         2 => segment.end = random.pick(&NOT_FINITE),
         3 => segment.start = segment.end,
-        4 => mem::swap(&mut segment.start, &mut segment.end),
+        // Turned into rising order it has an end that is not finite.
+        4 => (segment.start, segment.end) = (f64::INFINITY, 3.0),
+        // Zeros are equal whatever their signs.
         5 => (segment.start, segment.end) = (-0.0, 0.0),
         _ => (segment.start, segment.end) = (0.0, -0.0),
     }

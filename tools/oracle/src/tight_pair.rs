@@ -2,7 +2,7 @@
 //! pairs at the least distance it answers is left to it.
 
 use crate::{
-    against_port::{change_length, turn_some, ALL_COLUMNS},
+    against_port::{change_length, spoil_orientation, ALL_COLUMNS},
     drawing::Drawing,
     pairs,
     port::{run_tight_pair, Columns, Returned},
@@ -22,8 +22,29 @@ pub fn differences(drawing: &Drawing, reordered: &Drawing) -> Vec<String> {
             compare("lists in another order", reordered, least, &mut found);
         }
     }
+    compare_directions(drawing, &columns, &mut found);
     compare_refusals(drawing, &columns, &mut found);
     found
+}
+
+/// The very same pair, or the same refusal, with the segments as they are taken
+/// and with every segment reversed (SCOPE 2.8).
+fn compare_directions(drawing: &Drawing, columns: &Columns, found: &mut Vec<String>) {
+    let expected = run_tight_pair(columns);
+    for (about, lists) in [
+        ("every segment rising", drawing.rising()),
+        ("every segment reversed", drawing.reversed()),
+    ] {
+        let returned = run_tight_pair(&Columns::of(&lists));
+        if returned != expected {
+            found.push(format!(
+                "the port's tight pair, {about}: {returned:?}, where as given it is {expected:?}"
+            ));
+        }
+    }
+    if !columns.are_those_of(drawing) {
+        found.push("the port's tight pair: the columns are not as they were lent".to_string());
+    }
 }
 
 fn least_clearance(drawing: &Drawing) -> Option<f64> {
@@ -81,14 +102,14 @@ fn compare_refusals(drawing: &Drawing, columns: &Columns, found: &mut Vec<String
         }
     }
     let mut random = drawing.random();
-    let mut turned = drawing.clone();
-    turn_some(&mut turned, &mut random);
-    let mut columns = Columns::of(&turned);
-    if let Some(refusal) = before_tight_pair(&turned, &columns.lent(0)) {
+    let mut unfit = drawing.clone();
+    spoil_orientation(&mut unfit, &mut random);
+    let mut columns = Columns::of(&unfit);
+    if let Some(refusal) = before_tight_pair(&unfit, &columns.lent(0)) {
         compare_refusal("an orientation", &columns, refusal, found);
     }
     change_length(&mut columns, random.below(ALL_COLUMNS), true);
-    if let Some(refusal) = before_tight_pair(&turned, &columns.lent(0)) {
+    if let Some(refusal) = before_tight_pair(&unfit, &columns.lent(0)) {
         compare_refusal("both", &columns, refusal, found);
     }
 }

@@ -23,6 +23,29 @@ impl Drawing {
         }
     }
 
+    /// The same drawing with each wire's lesser end first, as it is taken.
+    pub fn rising(&self) -> Self {
+        self.with_each_wire(|wire| {
+            if wire.end < wire.start {
+                reversed(wire)
+            } else {
+                wire
+            }
+        })
+    }
+
+    /// The same drawing with each wire given in the other direction.
+    pub fn reversed(&self) -> Self {
+        self.with_each_wire(reversed)
+    }
+
+    fn with_each_wire(&self, change: fn(ParallelSegment) -> ParallelSegment) -> Self {
+        Self {
+            wires: self.wires.iter().copied().map(change).collect(),
+            ..self.clone()
+        }
+    }
+
     /// The wires as clearance takes them.
     pub fn routes(&self) -> Vec<EdgeNodeSegment> {
         self.wires
@@ -35,6 +58,15 @@ impl Drawing {
                 end: wire.end,
             })
             .collect()
+    }
+}
+
+/// The wire given in the other direction.
+pub fn reversed(wire: ParallelSegment) -> ParallelSegment {
+    ParallelSegment {
+        start: wire.end,
+        end: wire.start,
+        ..wire
     }
 }
 

@@ -2,7 +2,7 @@
 
 use readability::{NetNodeRelation, NodeGeometry, ParallelSegment};
 
-use crate::drawing::Drawing;
+use crate::drawing::{reversed, Drawing};
 
 /// A generator of random numbers (splitmix64).
 pub struct Random {
@@ -98,7 +98,8 @@ impl Numbers {
     }
 }
 
-/// A fit drawing. Some have no entries in a list, a few have many.
+/// A fit drawing, a third of its wires from the greater end to the lesser one. Some
+/// have no entries in a list, a few have many.
 pub fn drawing(numbers: Numbers, seed: u64) -> Drawing {
     let mut random = Random::new(seed);
     let most = if random.below(20) == 0 { 200 } else { 24 };
@@ -129,12 +130,17 @@ fn wire(numbers: Numbers, nets: usize, random: &mut Random) -> ParallelSegment {
             break (one, other);
         }
     };
-    ParallelSegment {
+    let wire = ParallelSegment {
         net: random.below(nets) as u32,
         horizontal: random.below(3) != 0,
         fixed: numbers.coordinate(random),
         start,
         end,
+    };
+    if random.below(3) == 0 {
+        reversed(wire)
+    } else {
+        wire
     }
 }
 

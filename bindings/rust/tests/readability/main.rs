@@ -1,8 +1,10 @@
 //! The bindings: what SCOPE says of drawing D, of the marked cases and of
-//! the refusals; random drawings against a computation over all pairs; and the
-//! original module against this crate.
+//! the refusals; random drawings against a computation over all pairs, and against
+//! themselves with their wires in other directions; and the original module against
+//! this crate.
 
 mod against_pairs;
+mod directions;
 mod drawing;
 mod generate;
 mod marked;

@@ -9,7 +9,7 @@ use crate::drawing::Drawing;
 
 /// The larger of the gaps along x and along y.
 pub fn distance(wire: &ParallelSegment, node: &NodeGeometry) -> f64 {
-    let along = (wire.start, wire.end);
+    let along = extent(wire);
     let across = (wire.fixed, wire.fixed);
     let (in_x, in_y) = if wire.horizontal {
         (along, across)
@@ -23,6 +23,11 @@ pub fn distance(wire: &ParallelSegment, node: &NodeGeometry) -> f64 {
     } else {
         gap_y
     }
+}
+
+/// The lesser and the greater end, whichever was given first (SCOPE 2.8).
+fn extent(wire: &ParallelSegment) -> (f64, f64) {
+    (wire.start.min(wire.end), wire.start.max(wire.end))
 }
 
 /// One rounded subtraction, or 0 where two extents touch or overlap.
@@ -77,7 +82,8 @@ pub fn congestion(drawing: &Drawing) -> (ParallelCongestion, Option<f64>) {
     let mut figures = ParallelCongestion::default();
     let mut least = None;
     for (place, wire) in drawing.wires.iter().enumerate() {
-        figures.total_length += wire.end - wire.start;
+        let (from, to) = extent(wire);
+        figures.total_length += to - from;
         let mut shared = Vec::new();
         for (other_place, other) in drawing.wires.iter().enumerate() {
             let stretch = close_overlap(wire, other, drawing.cutoff);
@@ -164,7 +170,9 @@ fn close_overlap(
 
 /// The stretch that two wires of one orientation share, if it has a length.
 fn overlap(one: &ParallelSegment, other: &ParallelSegment) -> Option<(f64, f64)> {
-    let stretch = (one.start.max(other.start), one.end.min(other.end));
+    let (one_extent, other_extent) = (extent(one), extent(other));
+    let from = one_extent.0.max(other_extent.0);
+    let stretch = (from, one_extent.1.min(other_extent.1));
     (one.horizontal == other.horizontal && stretch.0 < stretch.1).then_some(stretch)
 }
 

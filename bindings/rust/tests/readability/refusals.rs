@@ -95,9 +95,13 @@ fn an_unfit_segment_is_5() {
         segments.push(horizontal(1, 0.0, number, 1.0));
         segments.push(horizontal(1, 0.0, 0.0, number));
     }
+    // Ends that are equal as numbers, and ends of which one alone is finite, in both
+    // directions.
     segments.push(horizontal(1, 0.0, 1.0, 1.0));
-    segments.push(horizontal(1, 0.0, 2.0, 1.0));
     segments.push(horizontal(1, 0.0, -0.0, 0.0));
+    segments.push(horizontal(1, 0.0, 0.0, -0.0));
+    segments.push(horizontal(1, 0.0, f64::INFINITY, 3.0));
+    segments.push(horizontal(1, 0.0, 3.0, f64::NEG_INFINITY));
     for segment in segments {
         let mut drawing = drawing_d();
         drawing.wires.push(segment);
@@ -109,6 +113,38 @@ fn an_unfit_segment_is_5() {
             Err(ParallelSeparationError::InvalidInput)
         );
     }
+}
+
+/// A reversed wire is refused for what it would be refused for without being
+/// reversed.
+#[test]
+fn a_start_above_its_end_is_no_refusal() {
+    let least = f64::from_bits(1);
+    let ends = [(2.0, 1.0), (0.0, -1.0), (1.0, -0.0), (1_048_576.0, 0.0)];
+    for (start, end) in ends {
+        let mut drawing = drawing_d().reversed();
+        drawing.wires.push(horizontal(1, 0.0, start, end));
+        assert_eq!(with_nodes(&drawing), [None; 2], "{start}");
+        assert_eq!(separation(&drawing.wires), None, "{start}");
+        assert_eq!(congestion(&drawing.wires, 6.0), None, "{start}");
+    }
+    for (start, end) in [(1.0, 1.0 / 128.0), (0.0, -least), (f64::MAX, -f64::MAX)] {
+        let mut drawing = drawing_d().reversed();
+        drawing.wires.push(horizontal(1, 0.0, start, end));
+        assert_eq!(with_nodes(&drawing), [None; 2], "{start}");
+        assert_eq!(separation(&drawing.wires), None, "{start}");
+        let off_grid = Some(Refusal::OffGrid);
+        assert_eq!(congestion(&drawing.wires, 6.0), off_grid, "{start}");
+    }
+    let mut many = Drawing::of_wires(&[horizontal(1, 0.0, 1.0, 0.0); MOST_ENTRIES], 0.0);
+    assert_eq!(with_nodes(&many), [None; 2]);
+    assert_eq!(separation(&many.wires), None);
+    assert_eq!(congestion(&many.wires, 0.0), None);
+    many.wires.push(many.wires[0]);
+    let too_many = Some(Refusal::TooManyEntries);
+    assert_eq!(with_nodes(&many), [too_many; 2]);
+    assert_eq!(separation(&many.wires), too_many);
+    assert_eq!(congestion(&many.wires, 0.0), too_many);
 }
 
 #[test]
@@ -324,6 +360,21 @@ fn an_orientation_above_1_is_5() {
     columns.orientation[1] = 2;
     assert_eq!(columns.measures(2.0, 1.0 / 128.0, 0), [unfit; 5]);
     assert_eq!(columns.tight_pair(), unfit);
+    // The same of reversed wires.
+    columns.floats.swap(1, 2);
+    assert_eq!(columns.measures(2.0, 1.0 / 128.0, 0), [unfit; 5]);
+    assert_eq!(columns.tight_pair(), unfit);
+}
+
+#[test]
+fn equal_ends_in_columns_are_5() {
+    let unfit = Some(Refusal::InvalidInput);
+    for (start, end) in [(5.0, 5.0), (0.0, -0.0), (-0.0, 0.0)] {
+        let mut columns = Columns::of_d();
+        (columns.floats[1][0], columns.floats[2][0]) = (start, end);
+        assert_eq!(columns.measures(2.0, 1.0 / 128.0, 0), [unfit; 5]);
+        assert_eq!(columns.tight_pair(), unfit);
+    }
 }
 
 #[test]

@@ -5,7 +5,7 @@ use readability::sheet;
 use crate::drawing::{drawing_d, Drawing};
 
 /// The file of a drawing, with one allowance for all measures.
-fn file(drawing: &Drawing, allowance: u64) -> Vec<u8> {
+pub fn file(drawing: &Drawing, allowance: u64) -> Vec<u8> {
     let mut bytes = vec![1];
     put_count(&mut bytes, drawing.wires.len());
     for wire in &drawing.wires {

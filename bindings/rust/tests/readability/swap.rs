@@ -1,8 +1,9 @@
 //! The swap: one piece of code, compiled once with the names of the original
 //! module and once with those of this crate, gives the same, bit by bit.
 //!
-//! The original is asked only where SCOPE 9 has no departure from it:
-//! congestion on the grid, with a segment at least and +0 for every zero.
+//! The original is asked only where SCOPE 9 has no departure from it: it is fed
+//! each wire with its lesser end first, and in congestion drawings on the grid,
+//! with a segment at least and +0 for every zero.
 
 /// A caller of the module. Nothing in it but the `use` depends on where the names
 /// come from. It works as far as both have the same signatures, fields, variants
@@ -206,7 +207,7 @@ caller!(after, readability);
 mod tests {
     use super::{after, before};
     use crate::{
-        drawing::{drawing_d, horizontal, node, Drawing},
+        drawing::{drawing_d, horizontal, node, reversed, Drawing},
         generate::drawings,
     };
     use readability::{
@@ -227,7 +228,7 @@ mod tests {
     fn assert_same_clearance(drawing: &Drawing, limit: usize) {
         assert_eq!(
             after::clearance(drawing, limit),
-            before::clearance(drawing, limit),
+            before::clearance(&drawing.rising(), limit),
             "{drawing:?}"
         );
     }
@@ -235,7 +236,7 @@ mod tests {
     fn assert_same_separation(drawing: &Drawing, limit: usize) {
         assert_eq!(
             after::separation(drawing, limit),
-            before::separation(drawing, limit),
+            before::separation(&drawing.rising(), limit),
             "{drawing:?}"
         );
     }
@@ -284,9 +285,10 @@ mod tests {
                 wire.end += 0.0;
             }
             let about = format!("{numbers:?} {seed}");
+            let rising = drawing.rising();
             assert_eq!(
                 after::congestion(&drawing),
-                before::congestion(&drawing),
+                before::congestion(&rising),
                 "{about}"
             );
             let report = try_measure_parallel_density_profile_bounded(
@@ -298,12 +300,12 @@ mod tests {
             for limit in limits(visits) {
                 assert_eq!(
                     after::density(&drawing, limit),
-                    before::density(&drawing, limit),
+                    before::density(&rising, limit),
                     "{about}"
                 );
                 assert_eq!(
                     after::profile(&drawing, limit),
-                    before::profile(&drawing, limit),
+                    before::profile(&rising, limit),
                     "{about}"
                 );
             }
@@ -337,6 +339,19 @@ mod tests {
                 }
             }
         }
+    }
+
+    /// The original, fed the wires as they are given, refuses what is measured here.
+    #[test]
+    fn a_reversed_wire_is_the_originals_invalid_input() {
+        let mut drawing = drawing_d();
+        drawing.wires[1] = reversed(drawing.wires[1]);
+        assert_eq!(before::clearance(&drawing, usize::MAX), "unfit");
+        assert_eq!(before::separation(&drawing, usize::MAX), "unfit");
+        assert_same_clearance(&drawing, usize::MAX);
+        assert_same_separation(&drawing, usize::MAX);
+        assert_ne!(after::clearance(&drawing, usize::MAX), "unfit");
+        assert_ne!(after::separation(&drawing, usize::MAX), "unfit");
     }
 
     /// The one departure of a drawing that both accept: the sign of a total.
