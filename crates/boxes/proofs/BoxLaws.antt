@@ -16,7 +16,8 @@ use Rattle.floats.proofs.Difference.{sub-mag}
 use Rattle.floats.proofs.Gaps.{Good, zero-good, zero-mag, sub-good, good-one}
 use Rattle.floats.proofs.Extremes.{greater, picked, lesser-rank, greater-rank}
 use Rattle.drawing.specs.Entries.{Segment, Node}
-use Rattle.drawing.proofs.Fit.{FitSegment, FitNode, Line, line-of, across-of, down-of}
+use Rattle.drawing.specs.Held.{FitSegment}
+use Rattle.drawing.proofs.Fit.{FitNode, Line, line-of, across-of, down-of}
 use Rattle.boxes.specs.declared.aabb.Aabb.{Aabb}
 use Rattle.boxes.specs.Boxes.{fromNode, fromSegment, nodeBox, segmentBox, union, axisGap, distance}
 use Rattle.boxes.specs.Inner.Fitting.{Span, Inside, FitBox, Within}

@@ -20,7 +20,8 @@ use Rattle.clearance.specs.Figures.{Figures, distances, violates, figure
 use Rattle.clearance.specs.Tree.{Tree, indexed, treeOf}
 use Rattle.clearance.specs.Walk.{walk, walkAll, visitCount}
 use Rattle.clearance.specs.Answer.{allPairs}
-use Rattle.drawing.proofs.Fit.{FitSegment, FitNode, FitThreshold, threshold-num}
+use Rattle.drawing.specs.Held.{FitSegment}
+use Rattle.drawing.proofs.Fit.{FitNode, FitThreshold, threshold-num}
 use Rattle.clearance.proofs.TreeLaws.{leaves, Sound, sound-fit, tree-leaves, tree-sound}
 use Rattle.clearance.proofs.Distances.{distancesOf, good-distances, distancesAll, good-distances-all, perm-distances-all, distances-all, distances-perm}
 use Rattle.clearance.proofs.Violations.{underOf, under-cross, under-perm}

@@ -14,8 +14,8 @@ use Rattle.drawing.specs.Refusals.{numberOf, firstOf}
 use Rattle.drawing.specs.Conditions.{unfitSegment, unfitNode}
 use Rattle.drawing.specs.Checks.{listConditions, entryConditions}
 use Rattle.drawing.proofs.FirstRefusal.{passed-head}
-use Rattle.drawing.specs.Held.{SegmentHeld, NodeHeld}
-use Rattle.drawing.proofs.Fit.{FitSegment, FitNode, FitThreshold}
+use Rattle.drawing.specs.Held.{SegmentHeld, NodeHeld, FitSegment}
+use Rattle.drawing.proofs.Fit.{FitNode, FitThreshold}
 use Rattle.clearance.specs.declared.report.ClearanceAnswer.the-variants.{Refused}
 use Rattle.clearance.specs.Conditions.{clearanceConditions}
 use Rattle.clearance.specs.Figures.{Figures}

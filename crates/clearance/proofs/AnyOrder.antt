@@ -13,14 +13,14 @@ use Rattle.laws.proofs.Perms.{perm-length}
 use Rattle.floats.specs.TotalOrder.{keyOf}
 use Rattle.drawing.specs.Entries.{Segment, Node, Exemption}
 use Rattle.drawing.proofs.GapLaws.{least-gap-perm}
-use Rattle.drawing.specs.Held.{SegmentHeld, NodeHeld}
+use Rattle.drawing.specs.Held.{SegmentHeld, NodeHeld, FitSegment}
 use Rattle.drawing.proofs.ListOrders.{segments-one-order, nodes-one-order}
 use Rattle.boxes.specs.Boxes.{segmentBox, distance}
 use Rattle.clearance.specs.Figures.{Figures, exempt, figures}
 use Rattle.clearance.specs.Tree.{Tree, empty, leaf, branch, boundsOf, indexed, build, treeOf}
 use Rattle.clearance.specs.Walk.{contributes, withPair, walk, noFigures, walkAll, visitCount}
 use Rattle.clearance.specs.Answer.{allPairs}
-use Rattle.drawing.proofs.Fit.{FitSegment, FitNode}
+use Rattle.drawing.proofs.Fit.{FitNode}
 use Rattle.clearance.proofs.Distances.{exempt-perm, distances-good, distances-perm}
 use Rattle.clearance.proofs.Violations.{violations-perm}
 

@@ -14,7 +14,8 @@ use Rattle.drawing.specs.Entries.{Segment, Node, Exemption}
 use Rattle.boxes.specs.Boxes.{nodeBox, segmentBox, distance}
 use Rattle.clearance.specs.Figures.{exempt, notExempt, pairDistance, distances}
 use Rattle.clearance.specs.Tree.{IndexedNode, indexed}
-use Rattle.drawing.proofs.Fit.{FitSegment, FitNode}
+use Rattle.drawing.specs.Held.{FitSegment}
+use Rattle.drawing.proofs.Fit.{FitNode}
 use Rattle.boxes.proofs.BoxLaws.{fit-segment, distance-good}
 use Rattle.clearance.proofs.TreeLaws.{FitIndexed, indexed-fit}
 

@@ -18,7 +18,8 @@ use Rattle.boxes.specs.Boxes.{segmentBox, union}
 use Rattle.clearance.specs.Figures.{Figures}
 use Rattle.clearance.specs.Tree.{IndexedNode, indexed, Tree, empty, leaf, branch, boundsOf, build, treeOf}
 use Rattle.clearance.specs.Walk.{contributes, walk, noFigures, walkAll}
-use Rattle.drawing.proofs.Fit.{FitSegment, FitNode}
+use Rattle.drawing.specs.Held.{FitSegment}
+use Rattle.drawing.proofs.Fit.{FitNode}
 use Rattle.boxes.proofs.BoxLaws.{fit-segment, distance-alike}
 use Rattle.clearance.proofs.TreeLaws.{FitIndexed, Around, around-alike, around-perm, around-node, around-union, ordered, halves-perm, halves-all, first-some, second-some, first-small, second-small, build-around, enough, in-order-fit}
 use Rattle.clearance.proofs.WalkSteps.{lower}

@@ -30,7 +30,7 @@ use Rattle.boxes.specs.Boxes.{segmentBox, distance}
 use Rattle.clearance.specs.Figures.{Figures, exempt}
 use Rattle.clearance.specs.Tree.{Tree, empty, leaf, branch, boundsOf}
 use Rattle.clearance.specs.Walk.{contributes, withPair, walk}
-use Rattle.drawing.proofs.Fit.{FitSegment}
+use Rattle.drawing.specs.Held.{FitSegment}
 use Rattle.boxes.proofs.BoxLaws.{not-below, fit-segment, distance-good, distance-within}
 use Rattle.clearance.proofs.TreeLaws.{leaves, In, Sound, sound-box, sound-in, sound-fit}
 use Rattle.clearance.proofs.Distances.{all-distances, distancesOf, good-distances}

@@ -12,7 +12,8 @@ use Rattle.drawing.specs.Entries.{Segment, Node, Exemption}
 use Rattle.clearance.specs.declared.report.ClearanceAnswer.the-variants.{Refused}
 use Rattle.clearance.specs.Walk.{walkAll}
 use Rattle.clearance.specs.Answer.{accepted, allPairs}
-use Rattle.drawing.proofs.Fit.{FitSegment, FitNode, FitThreshold}
+use Rattle.drawing.specs.Held.{FitSegment}
+use Rattle.drawing.proofs.Fit.{FitNode, FitThreshold}
 use Rattle.clearance.proofs.AllPairs.{walk-all-pairs}
 
 -- for fit lists, the answer from the walk of all segments within the allowance is that of the all-pairs report

@@ -33,7 +33,7 @@ use Rattle.drawing.specs.Checks.{listConditions}
 use Rattle.drawing.specs.Orders.{segmentsInOrder, nodesInOrder}
 use Rattle.drawing.proofs.EntryLaws.{length-segments, length-nodes, segments-at, nodes-at}
 use Rattle.drawing.proofs.FirstRefusal.{passed-head, few, segments-agree, nodes-agree}
-use Rattle.drawing.specs.Held.{NodeHeld}
+use Rattle.drawing.specs.Held.{NodeHeld, FitSegment}
 use Rattle.clearance.specs.declared.visit.Walking.{Walking}
 use Rattle.clearance.specs.declared.visit.Walked.{Walked}
 use Rattle.clearance.specs.declared.visit.Walked.the-variants.{Went}
@@ -52,7 +52,7 @@ use Rattle.clearance_call.specs.Inner.Marks.{Grouped}
 use Rattle.clearance.specs.Inner.State.{outcomeOf, atStart, Answers}
 use Rattle.clearance_call.specs.Inner.Walking.{Part, HoldsCount, SegmentPlaces, allWalks}
 use Rattle.clearance.specs.Answer.{accepted, clearanceAnswer}
-use Rattle.drawing.proofs.Fit.{FitSegment, FitNode}
+use Rattle.drawing.proofs.Fit.{FitNode}
 use Rattle.drawing.specs.Inner.LeastFloats.{gapOfFloat}
 use Rattle.boxes.proofs.BoxLaws.{fit-segment}
 use Rattle.clearance.proofs.Answers.{Lent, passes, fit-call}

@@ -9,8 +9,7 @@ use native.Mathlib.Nat.{le-of-eq}
 use lib.Dec.{T, leb}
 use lib.ListN.{length}
 use borrow.Author.Tests.{le-ltb}
-use Rattle.laws.specs.Lists.{Mem, fold}
-use Rattle.laws.specs.Inner.Lists.{Pairwise}
+use Rattle.laws.specs.Lists.{Mem, fold, Pairwise}
 use Rattle.laws.proofs.Perms.{perm-sym, perm-mem}
 use Rattle.laws.proofs.Folds.{Monoid, fold-perm}
 use Rattle.congestion.specs.Wires.{Wire}

@@ -8,8 +8,7 @@ use native.Mathlib.Omega.{arith}
 use native.Mathlib.Nat.{le-antisymm, mul-le-mul-right}
 use lib.Dec.{leb}
 use borrow.Author.Tests.{le-leb, lt-leb, leb-true}
-use Rattle.laws.specs.Lists.{Mem}
-use Rattle.laws.specs.Inner.Lists.{Pairwise}
+use Rattle.laws.specs.Lists.{Mem, Pairwise}
 use Rattle.laws.specs.Perm.{Perm}
 use Rattle.laws.specs.Rows.{rowLe}
 use Rattle.laws.specs.Inner.Sort.{Sorted}

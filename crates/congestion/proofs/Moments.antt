@@ -9,8 +9,7 @@ use native.Mathlib.Nat.{le-of-eq, le-of-lt}
 use lib.Dec.{T, leb, ltb, eqb→eq, ltb→lt, lt→ltb, leb→le, le→leb}
 use lib.Ieee.Fits.{eq→eqb}
 use borrow.Author.Tests.{lt-ltb, le-ltb, le-leb, lt-leb}
-use Rattle.laws.specs.Lists.{Mem}
-use Rattle.laws.specs.Inner.Lists.{Pairwise}
+use Rattle.laws.specs.Lists.{Mem, Pairwise}
 use Rattle.laws.proofs.Tests.{same-test, le-or-lt, or-false}
 use Rattle.congestion.specs.Cells.{covers}
 use Rattle.congestion.specs.Walk.{Item, State, WireEvent, at, same, step}

@@ -8,8 +8,7 @@ use native.Mathlib.Omega.{arith}
 use lib.Dec.{T, eqb, eqb→eq, eqb-refl}
 use lib.Ieee.Fits.{and-l, and-r, and-i}
 use borrow.Author.Tests.{ne-eqb}
-use Rattle.laws.specs.Lists.{Mem, fold, bit, sum, count, pairs}
-use Rattle.laws.specs.Inner.Lists.{Pairwise}
+use Rattle.laws.specs.Lists.{Mem, fold, bit, sum, count, pairs, Pairwise}
 use Rattle.laws.proofs.Tests.{clash, is-true}
 use Rattle.laws.proofs.ListLaws.{mem-pairs}
 use Rattle.laws.proofs.Folds.{Monoid, plus, idr, fold-same, fold-both, fold-unit, fold-square, count-grows}

@@ -107,10 +107,10 @@ unfolding columnsOf
 columns-of-records l = λ i. segmentColumns (kept-fields (λ s. s .net) (λ s. refl) l i) (kept-fields (λ s. s .orientation) (λ s. refl) l i) (kept-fields (λ s. s .fixed) (λ s. refl) l i) (starts l i) (ends l i)
 
 -- ---- what a call sees of its segments: the list as it is taken, and whether the columns differ in length
-record SeenAlike (s t : SegmentColumns) : Type 0 where
-  count : length (t .net) ≡ length (s .net)
-  differ : segmentsDiffer t ≡ segmentsDiffer s
-  taken : segments t ≡ segments s
+pub record SeenAlike (s t : SegmentColumns) : Type 0 where
+  pub count : length (t .net) ≡ length (s .net)
+  pub differ : segmentsDiffer t ≡ segmentsDiffer s
+  pub taken : segments t ≡ segments s
 
 map-once : (l : List Segment) → map asTaken (map asTaken l) ≡ map asTaken l
 map-once [] = refl
@@ -124,7 +124,7 @@ taken-taken : (c : SegmentColumns) → segments (columnsAsTaken c) ≡ segments 
 unfolding segments
 taken-taken c = ap (map asTaken) (entries-taken (c .net) (c .orientation) (c .fixed) (c .start) (c .end)) ∙ map-once (asLent c)
 
-seen-alike : (s t : SegmentColumns) → columnsAsTaken t ≡ columnsAsTaken s → SeenAlike s t
+pub seen-alike : (s t : SegmentColumns) → columnsAsTaken t ≡ columnsAsTaken s → SeenAlike s t
 seen-alike s t e = record {
   count = ap (λ (c : SegmentColumns). length (c .net)) e;
   differ = sym (differ-taken t) ∙ ap segmentsDiffer e ∙ differ-taken s;

@@ -9,7 +9,7 @@ use native.Mathlib.Omega.{arith}
 use Rattle.laws.specs.Lists.{Mem, All}
 use Rattle.laws.proofs.Tests.{decide, clash}
 use Rattle.drawing.specs.declared.refusal.Refusal.{Refusal}
-use Rattle.drawing.specs.declared.refusal.Refusal.the-variants.{MalformedFile, ColumnsDiffer, TooManyEntries, ShortScratch, InvalidInput, OffGrid, WorkLimitExceeded}
+use Rattle.drawing.specs.declared.refusal.Refusal.the-variants.{MalformedFile, ColumnsDiffer, TooManyEntries, ShortScratch, InvalidInput, OffGrid, WorkLimitExceeded, ShortOutput}
 use Rattle.drawing.specs.declared.refusal.Check.the-variants.{Passed, Refused}
 use Rattle.drawing.specs.Refusals.{firstOf}
 use Rattle.drawing.proofs.FirstRefusal.{first-yes, first-no, first-none}
@@ -58,6 +58,7 @@ only-five ShortScratch h k = absurd (k (omega arith))
 only-five InvalidInput h k = refl
 only-five OffGrid h k = absurd (omega arith)
 only-five WorkLimitExceeded h k = absurd (omega arith)
+only-five ShortOutput h k = absurd (omega arith)
 
 -- its place in the list
 place-of-five : placeInList InvalidInput ≤ 5

@@ -6,6 +6,7 @@ pub mod TightPair
 pub mod Marked
 pub mod ShutOut
 pub mod Directions
+pub mod Joining
 -- what they rest on: the first refusal, the order of the checks, the floats of a report, the facts of each measure, and the demands of one measure from its facts
 mod FirstMet
 mod CheckingOrder

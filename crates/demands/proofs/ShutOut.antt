@@ -11,7 +11,7 @@ use Rattle.laws.specs.Charged.{Charged}
 use Rattle.laws.proofs.Tests.{cond-true, cond-false, ltb-same}
 use Rattle.drawing.specs.declared.gap.Gap.{Gap}
 use Rattle.drawing.specs.declared.refusal.Refusal.{Refusal}
-use Rattle.drawing.specs.declared.refusal.Refusal.the-variants.{MalformedFile, ColumnsDiffer, TooManyEntries, ShortScratch, InvalidInput, OffGrid, WorkLimitExceeded}
+use Rattle.drawing.specs.declared.refusal.Refusal.the-variants.{MalformedFile, ColumnsDiffer, TooManyEntries, ShortScratch, InvalidInput, OffGrid, WorkLimitExceeded, ShortOutput}
 use Rattle.drawing.specs.declared.refusal.Check.{Check}
 use Rattle.drawing.specs.declared.refusal.Check.the-variants.{Passed, Refused}
 use Rattle.drawing.specs.Entries.{SegmentColumns}
@@ -44,6 +44,7 @@ not-zero ShortScratch e = omega arith
 not-zero InvalidInput e = omega arith
 not-zero OffGrid e = omega arith
 not-zero WorkLimitExceeded e = omega arith
+not-zero ShortOutput e = omega arith
 
 -- the results of a measure: a number, 0 for a report; a report has its figures and its visits
 record Results (m : Measure) : Type 0 where

@@ -5,7 +5,7 @@ use mathlib.Core.List.{List, [], _∷_, _++_}
 use Prim.Native.Nat.{ℕ, _≤_, _<_}
 use Rattle.laws.specs.Lists.{All}
 use Rattle.drawing.specs.declared.refusal.Refusal.{Refusal}
-use Rattle.drawing.specs.declared.refusal.Refusal.the-variants.{MalformedFile, ColumnsDiffer, TooManyEntries, ShortScratch, InvalidInput, OffGrid, WorkLimitExceeded}
+use Rattle.drawing.specs.declared.refusal.Refusal.the-variants.{MalformedFile, ColumnsDiffer, TooManyEntries, ShortScratch, InvalidInput, OffGrid, WorkLimitExceeded, ShortOutput}
 
 -- of conditions, each with its refusal, none holds
 abbrev pub NoneApplies : List (Bool × Refusal) → Type 0
@@ -18,7 +18,7 @@ pub record First (l : List (Bool × Refusal)) (refusal : Refusal) : Type 0 where
   pub it : l ≡ before ++ ((true, refusal) ∷ after)
   pub none-before : NoneApplies before
 
--- SCOPE 7.0, "Turned down, in checking order": the number of each in that list
+-- SCOPE 7.0, "Turned down, in checking order": the place of each in that order, which is the order of the numbers but for 8, which is checked before 7
 unfoldable pub placeInList : Refusal → ℕ
 placeInList MalformedFile = 1
 placeInList ColumnsDiffer = 2
@@ -26,9 +26,10 @@ placeInList TooManyEntries = 3
 placeInList ShortScratch = 4
 placeInList InvalidInput = 5
 placeInList OffGrid = 6
-placeInList WorkLimitExceeded = 7
+placeInList ShortOutput = 7
+placeInList WorkLimitExceeded = 8
 
--- conditions that are checked in this order, from a number on: none follows one with a later number, and the spent allowance follows them all
+-- conditions that are checked in this order, from a place on: none follows one with a later place, and the spent allowance follows them all
 abbrev pub InOrder : ℕ → List (Bool × Refusal) → Type 0
 InOrder place [] = place < placeInList WorkLimitExceeded
 InOrder place (c ∷ l) = (place ≤ placeInList (c .1)) × InOrder (placeInList (c .1)) l

@@ -17,7 +17,7 @@ use Rattle.drawing.specs.declared.refusal.Check.the-variants.{Passed, Re
 use Rattle.drawing.specs.Refusals.{firstOf, scratchAfter}
 use Rattle.drawing.specs.Entries.{SegmentColumns, NodeColumns, ExemptionColumns, segments}
 use Rattle.drawing.specs.Conditions.{differ, tooMany, shortScratch, unfitSegment}
-use Rattle.drawing.specs.Checks.{segmentsDiffer, nodesDiffer, segmentConditions, listConditions, entryConditions}
+use Rattle.drawing.specs.Checks.{segmentsDiffer, nodesDiffer, segmentConditions, segmentListConditions, listConditions, entryConditions}
 use Rattle.drawing.specs.Inner.Lengths.{SegmentsAgree, NodesAgree, comparedEntryConditions}
 
 pub first-yes : (b : Bool) (r : Refusal) (l : List (Bool × Refusal)) → b ≡ true → firstOf ((b, r) ∷ l) ≡ Refused r
@@ -101,6 +101,20 @@ segments-pass s words e =
     let c = passed-head _ _ _ (b .1) in
     let d = passed-head _ _ _ (c .1) in
     record { agree = segments-agree s (a .0); few-segments = few _ (b .0); room = omega (arith, ltb-false words (32 * (length (s .net) + 0) + 64) (c .0)); fit = d .0 }
+
+-- and about those of a call without scratch
+pub record SegmentListPasses (s : SegmentColumns) : Type 0 where
+  pub agree : SegmentsAgree s
+  pub few-segments : length (s .net) ≤ 4096
+  pub fit : some-of unfitSegment (segments s) ≡ false
+
+pub segment-list-passes : (s : SegmentColumns) → firstOf (segmentListConditions s) ≡ Passed → SegmentListPasses s
+unfolding segmentListConditions
+segment-list-passes s e =
+    let a = passed-head _ _ _ e in
+    let b = passed-head _ _ _ (a .1) in
+    let c = passed-head _ _ _ (b .1) in
+    record { agree = segments-agree s (a .0); few-segments = few _ (b .0); fit = c .0 }
 
 -- of three lists
 pub record ListsPass (s : SegmentColumns) (n : NodeColumns) (x : ExemptionColumns) : Type 0 where

@@ -1,24 +1,23 @@
 -- Entries that refusal 5 does not apply to: what is known about their numbers. Assumes nothing.
 use mathlib.Core.Path.{_≡_}
 use mathlib.Core.Bool.{false, not, _||_}
+use mathlib.Core.List.{List}
 use Prim.Native.Nat.{_≤_}
 use lib.Dec.{T, ltb}
 use lib.Ieee.{Float, binary64, add, lt, fits}
 use lib.Ieee.Fits.{add-fits}
 use lib.Ieee.Scale.{finite}
 use borrow.Author.Tests.{ltb-false, not-false}
+use Rattle.laws.specs.Lists.{All, some-of}
 use Rattle.laws.proofs.Tests.{of-true, neither-left, neither-right}
+use Rattle.laws.proofs.ListLaws.{all-mem, mem-all, none-all}
 use Rattle.floats.specs.Values.{plusZero}
 use Rattle.floats.proofs.Rank.{Num, Fin, fin-num}
 use Rattle.drawing.specs.Entries.{Segment, Node}
 use Rattle.drawing.specs.Conditions.{unfitFields, unfitSegment, unfitExtent, unfitBox, unfitNode, unfitThreshold}
-use Rattle.drawing.specs.Held.{SegmentHeld, NodeHeld}
+use Rattle.drawing.specs.Held.{SegmentHeld, NodeHeld, FitSegment}
 
 -- ---- fit entries: their floats are values of binary64, and the conditions of refusal 5 do not hold of them
-pub record FitSegment (s : Segment) : Type 0 where
-  pub held : SegmentHeld s
-  pub passes : unfitSegment s ≡ false
-
 pub record FitNode (n : Node) : Type 0 where
   pub held : NodeHeld n
   pub passes : unfitNode n ≡ false
@@ -26,6 +25,10 @@ pub record FitNode (n : Node) : Type 0 where
 pub record FitThreshold (t : Float) : Type 0 where
   pub held : T (fits binary64 t)
   pub passes : unfitThreshold t ≡ false
+
+-- segments of which none is unfit
+pub fit-segments : (l : List Segment) → All SegmentHeld l → some-of unfitSegment l ≡ false → All FitSegment l
+fit-segments l h e = let a = none-all unfitSegment l e in mem-all FitSegment l (λ x m. record { held = all-mem SegmentHeld l h x m; passes = all-mem _ l a x m })
 
 -- ---- what is known about them
 finite-of : (x : Float) → not (finite x) ≡ false → T (finite x)

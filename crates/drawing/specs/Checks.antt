@@ -27,6 +27,14 @@ segmentConditions s words =
     ∷ (some-of unfitSegment (segments s), InvalidInput)
     ∷ []
 
+-- of segments alone, which a call without scratch takes: refusals 2, 3 and 5 (SCOPE 7.2, 7.3, 7.5)
+unfoldable pub segmentListConditions : SegmentColumns → List (Bool × Refusal)
+segmentListConditions s =
+    (segmentsDiffer s, ColumnsDiffer)
+    ∷ (tooMany (length (s .net)), TooManyEntries)
+    ∷ (some-of unfitSegment (segments s), InvalidInput)
+    ∷ []
+
 -- of segments, nodes and exemptions, which clearance and the tight pair take: refusals 2 and 3 (SCOPE 7.2, 7.3)
 unfoldable pub listConditions : SegmentColumns → NodeColumns → ExemptionColumns → List (Bool × Refusal)
 listConditions s n e =

@@ -1,4 +1,4 @@
--- The conditions of refusals 2 to 6, SCOPE 7.2 to 7.6, each over its arguments alone.
+-- The conditions of refusals 2 to 6 and 8, SCOPE 7.2 to 7.6 and 7.8, each over its arguments alone.
 use mathlib.Core.Bool.{Bool, not, _||_}
 use mathlib.Core.List.{List}
 use Prim.Native.Nat.{ℕ, _+_, _*_}
@@ -57,3 +57,7 @@ offGridSegment s = offGridFields (s .fixed) (s .start) (s .end)
 
 unfoldable pub offGridCutoff : Float → Bool
 offGridCutoff c = not (onGrid c)
+
+-- SCOPE 7.8: "the shortest lent output column holds fewer entries than the answer needs": some length is below what is needed
+unfoldable pub shortOutput : ℕ → List ℕ → Bool
+shortOutput needed lengths = some-of (λ m. ltb m needed) lengths

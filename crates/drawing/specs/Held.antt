@@ -1,8 +1,11 @@
 -- The floats of entries are values of binary64 (SCOPE 1.3): `f64`, the type of the columns and settings, holds no others. The contracts of the calls say so of every drawing that passes their checks, so that no statement about two calls has to assume it.
+use mathlib.Core.Path.{_≡_}
+use mathlib.Core.Bool.{false}
 use lib.Dec.{T}
 use lib.Ieee.{Float, binary64, fits}
 use Rattle.laws.specs.Lists.{All}
 use Rattle.drawing.specs.Entries.{Segment, Node, SegmentColumns, NodeColumns, segments, nodes}
+use Rattle.drawing.specs.Conditions.{unfitSegment}
 
 abbrev pub Binary64 : Float → Type 0
 Binary64 x = T (fits binary64 x)
@@ -24,3 +27,8 @@ SegmentsHeld c = All SegmentHeld (segments c)
 
 abbrev pub NodesHeld : NodeColumns → Type 0
 NodesHeld c = All NodeHeld (nodes c)
+
+-- a segment that every call takes: its floats are values of binary64, and refusal 5 (SCOPE 7.5) does not apply to it
+pub record FitSegment (s : Segment) : Type 0 where
+  pub held : SegmentHeld s
+  pub passes : unfitSegment s ≡ false

@@ -6,5 +6,6 @@ pub mod Checks
 pub mod Orders
 pub mod Gaps
 pub mod Held
+pub mod Outputs
 -- what only contracts of inner functions and proofs cite
 pub mod Inner

@@ -4,11 +4,11 @@ use mathlib.Core.List.{List, [], _∷_}
 use Prim.Native.Nat.{ℕ}
 use lib.ListN.{length, replicate}
 use Rattle.drawing.specs.declared.refusal.Refusal.{Refusal}
-use Rattle.drawing.specs.declared.refusal.Refusal.the-variants.{MalformedFile, ColumnsDiffer, TooManyEntries, ShortScratch, InvalidInput, OffGrid, WorkLimitExceeded}
+use Rattle.drawing.specs.declared.refusal.Refusal.the-variants.{MalformedFile, ColumnsDiffer, TooManyEntries, ShortScratch, InvalidInput, OffGrid, WorkLimitExceeded, ShortOutput}
 use Rattle.drawing.specs.declared.refusal.Check.{Check}
 use Rattle.drawing.specs.declared.refusal.Check.the-variants.{Passed, Refused}
 
--- SCOPE 7.1 to 7.7: the number of each refusal, in the order of checking
+-- SCOPE 7.1 to 7.8: the number of each refusal
 unfoldable pub numberOf : Refusal → ℕ
 numberOf MalformedFile = 1
 numberOf ColumnsDiffer = 2
@@ -17,6 +17,7 @@ numberOf ShortScratch = 4
 numberOf InvalidInput = 5
 numberOf OffGrid = 6
 numberOf WorkLimitExceeded = 7
+numberOf ShortOutput = 8
 
 -- the number of what a check returns: 0 where it passed, as for an accepted call
 unfoldable pub numberOfCheck : Check → ℕ

@@ -10,6 +10,7 @@ pub enum Refusal {
     InvalidInput,
     OffGrid,
     WorkLimitExceeded,
+    ShortOutput,
 }
 
 // What the checks of a call return before any work starts.
@@ -30,5 +31,6 @@ pub fn number(refusal: Refusal) -> u8
         Refusal::InvalidInput => 5,
         Refusal::OffGrid => 6,
         Refusal::WorkLimitExceeded => 7,
+        Refusal::ShortOutput => 8,
     }
 }

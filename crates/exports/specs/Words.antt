@@ -37,6 +37,10 @@ congestionWords r =
     let c = r .congestion in
     toBits binary64 (c .«total_length») ∷ toBits binary64 (c .«congested_length») ∷ toBits binary64 (c .«pair_overlap_length») ∷ c .«peak_close_neighbors» ∷ presentWord (r .«minimum_positive») ∷ bitsWord (r .«minimum_positive») ∷ r .visits ∷ []
 
+-- SCOPE 6.7, 16.6: the words of a joined list: how many pieces there are and how many went away; zeros at a refusal. The first of the three is the status
+unfoldable pub joinWords : ℕ × ℕ × ℕ → List ℕ
+joinWords result = result .1 ∷ result .2 ∷ []
+
 -- SCOPE 6.7, 12.2: the words of a tight pair: whether there is one, and its positions, "by segment and node position"; zeros where it is absent
 unfoldable pub pairWords : Option (ℕ × ℕ) → List ℕ
 pairWords none = 0 ∷ 0 ∷ 0 ∷ []

@@ -2,6 +2,7 @@
 pub mod clearance_export;
 pub mod congestion_export;
 mod gap;
+pub mod join_export;
 pub mod records_export;
 pub mod separation_export;
 pub mod sheet_export;
@@ -13,6 +14,7 @@ pub use congestion_export::readability_congestion;
 pub use congestion_export::readability_congestion_profile;
 pub use congestion_export::readability_density_profile;
 pub use congestion_export::readability_ratio;
+pub use join_export::readability_join;
 pub use records_export::readability_clearance_by_records;
 pub use records_export::readability_congestion_by_records;
 pub use records_export::readability_congestion_profile_by_records;

@@ -1,9 +1,10 @@
 -- What reading a drawing file returns, with the number and values of each case (SCOPE 8.5, 10.3), and what the lent columns hold then.
-use mathlib.Core.List.{List, _++_, map}
+use mathlib.Core.List.{List}
 use mathlib.Core.Option.{Option, none, some}
 use Prim.Native.Nat.{ℕ}
-use lib.ListN.{length, drop}
+use lib.ListN.{length}
 use Rattle.drawing.specs.Refusals.{numberOf}
+use Rattle.drawing.specs.Outputs.{writtenOver}
 use Rattle.file.specs.declared.reading.Header.{Header}
 use Rattle.file.specs.declared.reading.Reading.{Reading}
 use Rattle.file.specs.declared.reading.Reading.the-variants as answers
@@ -32,5 +33,5 @@ fileResult (refused w) = (numberOf w, none)
 
 -- a lent column: f of each entry of its list, and past these what was there. SCOPE 8.1, 10.3: a refused file "touches no lent memory"
 unfoldable pub columnAfter : {A B : Type 0} → (Drawing → List A) → (A → B) → Read Drawing → List B → List B
-columnAfter list f (got d rest) old = map f (list d) ++ drop (length (list d)) old
+columnAfter list f (got d rest) old = writtenOver f (list d) old
 columnAfter list f (refused r) old = old

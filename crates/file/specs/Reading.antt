@@ -9,7 +9,7 @@ use Rattle.drawing.specs.declared.refusal.Refusal.{Refusal}
 use Rattle.drawing.specs.declared.refusal.Refusal.the-variants.{MalformedFile, TooManyEntries}
 use Rattle.drawing.specs.Entries.{Segment, Node, Exemption}
 
--- the outcome of reading a part: what the part says and the bytes after it, or the refusal. SCOPE 7.8: "Within the file the first fault in byte order counts": a part is read from the end of the one before it, and only if that one had no fault.
+-- the outcome of reading a part: what the part says and the bytes after it, or the refusal. SCOPE 10.2: "Within the file the first fault in byte order counts": a part is read from the end of the one before it, and only if that one had no fault.
 pub data Read (A : Type 0) : Type 0 where
   got : A → List ℕ → Read A
   refused : Refusal → Read A

@@ -1,4 +1,4 @@
-// The faults of a file, in byte order (SCOPE 7.8, 10.2): where it has none, its counts and settings.
+// The faults of a file, in byte order (SCOPE 10.2): where it has none, its counts and settings.
 ghost use mathlib.Core.Path.{_≡_};
 ghost use Prim.Native.Nat.{_+_, _≤_};
 ghost use lib.Dec.{ltb};

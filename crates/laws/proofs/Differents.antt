@@ -8,8 +8,7 @@ use native.Mathlib.Omega.{arith}
 use lib.Dec.{leb, eqb, eqb→eq}
 use lib.ListN.{length, getD}
 use borrow.Author.Tests.{leb-true, eq-eqb, ne-eqb, eqb-true, eqb-false, not-true, not-false}
-use Rattle.laws.specs.Lists.{Mem, some-of, put, chosen, keep, bit}
-use Rattle.laws.specs.Inner.Lists.{Pairwise}
+use Rattle.laws.specs.Lists.{Mem, some-of, put, chosen, keep, bit, Pairwise}
 use Rattle.laws.specs.Perm.{Perm, none, first, swap, via}
 use Rattle.laws.specs.Inner.Sort.{Sorted}
 use Rattle.laws.specs.Different.{differs, distinct}

@@ -9,8 +9,8 @@ use native.Mathlib.Omega.{arith}
 use native.Mathlib.Numerals.{add-one}
 use lib.ListN.{length, getD, drop, length-append, drop-of-length-le}
 use lib.Seq.{drop-cons}
-use Rattle.laws.specs.Lists.{Mem, All, some-of, put, chosen, beside, cross, pairs}
-use Rattle.laws.specs.Inner.Lists.{Pairwise, every}
+use Rattle.laws.specs.Lists.{Mem, All, some-of, put, chosen, beside, cross, pairs, Pairwise}
+use Rattle.laws.specs.Inner.Lists.{every}
 use Rattle.laws.proofs.Tests.{clash, and-left, and-right, and-both, or-elim, or-left, or-right, neither-left, neither-right}
 
 -- functions that agree on the entries map alike
@@ -82,6 +82,11 @@ module _ {A : Type 0} where
   unfolding some-of
   none-all p [] h = tt
   none-all p (x ∷ l) h = (neither-left (p x) (some-of p l) h, none-all p l (neither-right (p x) (some-of p l) h))
+
+  pub all-none : (p : A → Bool) (l : List A) → All (λ x. p x ≡ false) l → some-of p l ≡ false
+  unfolding some-of
+  all-none p [] h = refl
+  all-none p (x ∷ l) h = rw (h .0) (all-none p l (h .1))
 
   pub mem-some : (p : A → Bool) (x : A) (l : List A) → Mem x l → p x ≡ true → some-of p l ≡ true
   unfolding some-of

@@ -7,8 +7,7 @@ use Prim.Native.Nat.{ℕ, zero, suc, _+_, _<_}
 use native.Mathlib.Nat.{not-suc-le-zero, le-of-suc-le-suc}
 use native.Mathlib.Omega.{arith}
 use lib.ListN.{length, getD, set}
-use Rattle.laws.specs.Lists.{Mem, All, some-of, chosen, put, fold, bit, count, beside, cross, pairs}
-use Rattle.laws.specs.Inner.Lists.{Pairwise}
+use Rattle.laws.specs.Lists.{Mem, All, some-of, chosen, put, fold, bit, count, beside, cross, pairs, Pairwise}
 use Rattle.laws.specs.Perm.{Perm, none, first, swap, via}
 use Rattle.laws.proofs.Tests.{or-swap}
 use Rattle.laws.proofs.ListLaws.{chosen-append}

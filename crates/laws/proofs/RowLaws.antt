@@ -5,7 +5,8 @@ use mathlib.Core.Bool.{true, false}
 use mathlib.Core.List.{List, [], _∷_}
 use Prim.Native.Nat.{ℕ, _≤_, _<_}
 use native.Mathlib.Omega.{arith}
-use borrow.Author.Tests.{lt-ltb, le-ltb, eq-eqb, ne-eqb}
+use lib.Dec.{leb}
+use borrow.Author.Tests.{lt-ltb, le-ltb, lt-leb, le-leb, eq-eqb, ne-eqb}
 use Rattle.laws.specs.Rows.{rowLe}
 use Rattle.laws.proofs.Orders.{Order}
 use Rattle.laws.proofs.Tests.{clash, le-or-lt, same-or-not}
@@ -22,6 +23,20 @@ row-more x y a b h = rw (le-ltb x y (omega arith), ne-eqb x y (λ e. omega arith
 pub row-next : (x y : ℕ) (a b : List ℕ) → x ≡ y → rowLe (x ∷ a) (y ∷ b) ≡ rowLe a b
 unfolding rowLe
 row-next x y a b e = rw (le-ltb x y (omega arith), eq-eqb x y e)
+
+row-ends : rowLe [] [] ≡ true
+unfolding rowLe
+row-ends = refl
+
+-- rows of one word
+pub row-one : (i j : ℕ) → rowLe (i ∷ []) (j ∷ []) ≡ leb i j
+row-one i j = elim (le-or-lt i j) [
+  | inr h ↦ row-more i j [] [] h ∙ sym (lt-leb i j h)
+  | inl h ↦ elim (le-or-lt j i) [
+    | inr k ↦ row-less i j [] [] k ∙ sym (le-leb i j h)
+    | inl k ↦ row-next i j [] [] (omega arith) ∙ row-ends ∙ sym (le-leb i j h)
+  ]
+]
 
 -- which of the three cases it is, from the answer
 row-true : (x y : ℕ) (a b : List ℕ) → rowLe (x ∷ a) (y ∷ b) ≡ true → (x < y) ⊎ ((x ≡ y) × (rowLe a b ≡ true))

@@ -15,6 +15,11 @@ abbrev pub All : {A : Type 0} → (A → Type 0) → List A → Type 0
 All P [] = Unit {0}
 All P (x ∷ l) = P x × All P l
 
+-- R holds of each entry and each later one
+abbrev pub Pairwise : {A : Type 0} → (A → A → Type 0) → List A → Type 0
+Pairwise R [] = Unit {0}
+Pairwise R (x ∷ l) = ((y : _) → Mem y l → R x y) × Pairwise R l
+
 -- some entry passes the test
 unfoldable pub some-of : {A : Type 0} → (A → Bool) → List A → Bool
 some-of p [] = false

@@ -138,6 +138,28 @@ pub fn check_segments(
     Check::Passed
 }
 
+// The checks 2, 3 and 5 of segments, for a call without scratch.
+pub fn check_segment_list(
+    net: &[u32],
+    orientation: &[u8],
+    fixed: &[f64],
+    start: &[f64],
+    end: &[f64],
+) -> Check
+    ensures { λ r. ⌜ r ≡ firstOf (Checks.segmentListConditions (segmentColumns (now (net .entry)) (now (orientation .entry)) (now (fixed .entry)) (now (start .entry)) (now (end .entry)))) ⌝ }
+{
+    if segments_differ(net, orientation, fixed, start, end) {
+        return Check::Refused(Refusal::ColumnsDiffer);
+    }
+    if too_many(net.len()) {
+        return Check::Refused(Refusal::TooManyEntries);
+    }
+    if segments_unfit(net, orientation, fixed, start, end) {
+        return Check::Refused(Refusal::InvalidInput);
+    }
+    Check::Passed
+}
+
 // The checks 2 and 3 of segments, nodes and exemptions.
 pub fn check_lists(
     net: &[u32],

@@ -4,6 +4,8 @@ use Rattle.clearance_call.proofs.measure.measure_edge_node_clearance_bounded.Me
 use Rattle.clearance_call.proofs.measure.measure_edge_node_clearance_bounded.Reads as clearance-reads
 use Rattle.tight_pair.proofs.tight_pair.Met as tight-pair
 use Rattle.tight_pair.proofs.tight_pair.Reads as tight-pair-reads
+use Rattle.join_call.proofs.columns.join.Met as join
+use Rattle.join_call.proofs.columns.join.Reads as join-reads
 use Rattle.separation_call.proofs.measure.measure_parallel_separation_bounded.Met as separation
 use Rattle.separation_call.proofs.measure.measure_parallel_separation_bounded.Reads as separation-reads
 use Rattle.density_call.proofs.measure.measure_parallel_density_profile_bounded.Met as density
@@ -32,6 +34,7 @@ calls = record {
   of-profile = record { ends = λ w γ k same. profile-reads.known w γ k _ same (profile.met (w .𝓤) (w .H) (w .𝓜) (w .𝓖) (w .𝓡)); asks-nothing = λ κs a. tt; says = λ κs a x e l. record { answers = l .0; leaves = l .1; held = l .2 } };
   of-congestion = record { ends = λ w γ k same. congestion-reads.known w γ k _ same (congestion.met (w .𝓤) (w .H) (w .𝓜) (w .𝓖) (w .𝓡)); asks-nothing = λ κs a. tt; says = λ κs a x e l. record { answers = l .0; leaves = l .1; held = l .2 } };
   of-tight-pair = record { ends = λ w γ k same. tight-pair-reads.known w γ k _ same (tight-pair.met (w .𝓤) (w .H) (w .𝓜) (w .𝓖) (w .𝓡)); asks-nothing = λ κs a. tt; says = λ κs a x e l. l };
+  of-join = record { ends = λ w γ k same. join-reads.known w γ k _ same (join.met (w .𝓤) (w .H) (w .𝓜) (w .𝓖) (w .𝓡)); asks-nothing = λ κs a. tt; says = λ κs a x e l. record { answers = l .0; leaves = l .1; held = l .2 } };
   of-clearance-by-records = record { ends = λ w γ k same. clearance-entry-reads.known w γ k _ same (clearance-entry.met (w .𝓤) (w .H) (w .𝓜) (w .𝓖) (w .𝓡)); asks-nothing = λ κs a. tt; says = λ κs a x e l. record { answers = l .0; leaves = l .1; held = l .2 } };
   of-separation-by-records = record { ends = λ w γ k same. separation-entry-reads.known w γ k _ same (separation-entry.met (w .𝓤) (w .H) (w .𝓜) (w .𝓖) (w .𝓡)); asks-nothing = λ κs a. tt; says = λ κs a x e l. record { answers = l .0; leaves = l .1; held = l .2 } };
   of-density-by-records = record { ends = λ w γ k same. density-entry-reads.known w γ k _ same (density-entry.met (w .𝓤) (w .H) (w .𝓜) (w .𝓖) (w .𝓡)); asks-nothing = λ κs a. tt; says = λ κs a x e l. record { answers = l .0; leaves = l .1; held = l .2 } };

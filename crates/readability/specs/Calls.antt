@@ -1,4 +1,4 @@
--- What the calls' own contracts say, as the checker reads them (SCOPE 8.1, 8.5): of each of the five measures, by columns and by records, and of the tight pair, that it requires nothing of its caller, that it ends, and what it returns; of a measure, that its run is one of `demands`, specs/Measures.
+-- What the calls' own contracts say, as the checker reads them (SCOPE 8.1, 8.5): of each of the five measures, by columns and by records, of the tight pair and of the joiner, that it requires nothing of its caller, that it ends, and what it returns; of a measure, that its run is one of `demands`, specs/Measures, and of the joiner, that it is one of specs/Joining.
 -- Each entry names the function's own code, its `routine`, so the statement is about the function and not about a copy of its contract. `a` are the arguments in the order of the signature, `x` is what is returned, and `e` are the arguments at exit.
 use Prim.Native.Nat.{ℕ}
 use mathlib.Core.List.{List}
@@ -22,6 +22,9 @@ use Rattle.clearance_call.proofs.measure.measure_edge_node_clearance_bounded.Sy
 use Rattle.tight_pair.proofs.tight_pair.Kinds as tightPairKinds
 use Rattle.tight_pair.proofs.tight_pair.Reads as tightPairReads
 use Rattle.tight_pair.proofs.tight_pair.Symbol as tightPairCode
+use Rattle.join_call.proofs.columns.join.Kinds as joinKinds
+use Rattle.join_call.proofs.columns.join.Reads as joinReads
+use Rattle.join_call.proofs.columns.join.Symbol as joinCode
 use Rattle.separation_call.proofs.measure.measure_parallel_separation_bounded.Kinds as separationKinds
 use Rattle.separation_call.proofs.measure.measure_parallel_separation_bounded.Reads as separationReads
 use Rattle.separation_call.proofs.measure.measure_parallel_separation_bounded.Symbol as separationCode
@@ -50,6 +53,7 @@ use Rattle.records.proofs.Claims.measure_parallel_congestion_by_records.Kinds a
 use Rattle.records.proofs.Claims.measure_parallel_congestion_by_records.Reads as congestionEntryReads
 use Rattle.records.proofs.measure_parallel_congestion_by_records.Symbol as congestionEntryCode
 use Rattle.records.specs.Records.{parallelColumns, edgeNodeColumns}
+use Rattle.demands.specs.Joining.{JoinSays}
 use Rattle.demands.specs.Measures.{Says, clearance, separation, density, profile, congestion}
 
 -- in every model and under every name: the routine, called where P holds of its arguments, does nothing undefined and returns, and Q holds then. It is the checker's statement of total correctness, which it derives of a function from the function's theorem.
@@ -88,6 +92,11 @@ pub record Calls : Type 2 where
   pub of-tight-pair : Contract 12 tightPairKinds.ps tightPairKinds.r tightPairCode.routine tightPairReads.Asked tightPairReads.Learnt (λ κs a x e. let b = a .1 .1 .1 .1 .1 in let c = b .1 .1 .1 .1 .1 in
       Answered (segmentColumns (now (a .0)) (now (a .1 .0)) (now (a .1 .1 .0)) (now (a .1 .1 .1 .0)) (now (a .1 .1 .1 .1 .0)))
       (nodeColumns (now (b .0)) (now (b .1 .0)) (now (b .1 .1 .0)) (now (b .1 .1 .1 .0)) (now (b .1 .1 .1 .1 .0))) (exemptionColumns (now (c .0)) (now (c .1 .0))) x)
+  -- net, orientation, fixed, start, end, to_net, to_orientation, to_fixed, to_start, to_end: with the equations that make a call a `JoinRun`
+  pub of-join : Contract 10 joinKinds.ps joinKinds.r joinCode.routine joinReads.Asked joinReads.Learnt (λ κs a x e. let b = a .1 .1 .1 .1 .1 in let f = e .1 .1 .1 .1 .1 in
+      JoinSays (segmentColumns (now (a .0)) (now (a .1 .0)) (now (a .1 .1 .0)) (now (a .1 .1 .1 .0)) (now (a .1 .1 .1 .1 .0)))
+      (segmentColumns (now (b .0)) (now (b .1 .0)) (now (b .1 .1 .0)) (now (b .1 .1 .1 .0)) (now (b .1 .1 .1 .1 .0))) x
+      (segmentColumns (now (f .0)) (now (f .1 .0)) (now (f .1 .1 .0)) (now (f .1 .1 .1 .0)) (now (f .1 .1 .1 .1 .0))))
   -- ---- the thin entries, SCOPE 2.6, 6.1: "it is called by columns or by a thin entry, where there is one". A list of records is read as columns, and the entry answers what the call by columns answers of them.
   -- records, id, x, y, width, height, exempt_net, exempt_node, threshold, allowance, scratch
   pub of-clearance-by-records : Contract 9 clearanceEntryKinds.ps clearanceEntryKinds.r clearanceEntryCode.routine clearanceEntryReads.Asked clearanceEntryReads.Learnt (λ κs a x e. let b = a .1 in let c = b .1 .1 .1 .1 .1 in

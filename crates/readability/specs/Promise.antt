@@ -6,10 +6,11 @@ use Rattle.demands.specs.TightPair.{TightPairs}
 use Rattle.demands.specs.Marked.{Marked}
 use Rattle.demands.specs.ShutOut.{ShutOut}
 use Rattle.demands.specs.Directions.{Directions}
+use Rattle.demands.specs.Joining.{Joining}
 use Rattle.readability.specs.Calls.{Calls}
 
 pub record Promise : Type 2 where
-  -- SCOPE 8.1, demand 1: "every call ends, for all inputs, with no condition laid on its caller": of the functions themselves, the six by columns and the five by records, with the equations that make a call a run of its measure
+  -- SCOPE 8.1, demand 1: "every call ends, for all inputs, with no condition laid on its caller": of the functions themselves, the seven by columns and the five by records, with the equations that make a call a run of its measure
   pub calls : Calls
   -- SCOPE 8.1, 8.2, 8.3: the demands, of every run of the five measures
   pub demand-1 : Demand1
@@ -23,3 +24,5 @@ pub record Promise : Type 2 where
   pub shut-out : ShutOut
   -- SCOPE 2.8, request 1: "A segment with start above end is now taken as if its two ends had been given in rising order, by every measure and the tight pair"
   pub directions : Directions
+  -- SCOPE 16, request 2: "the fewest pieces of each net, orientation and fixed coordinate that cover the same points of the real line"
+  pub joining : Joining

@@ -1,4 +1,4 @@
-// The measures of a drawing under the Rust's names (SCOPE 6.1), each from the crate that has it. By columns a call has the Rust's name alone; the thin entries, whose names end in `_by_records`, take the Rust's list of records. What is promised of them is in specs/Promise.
+// The measures of a drawing under the Rust's names (SCOPE 6.1), each from the crate that has it. By columns a call has the Rust's name alone; the thin entries, whose names end in `_by_records`, take the Rust's list of records. `join` and the tight pair are added to the Rust's. What is promised of them is in specs/Promise.
 pub use clearance::ClearanceAnswer;
 pub use clearance::EdgeNodeClearance;
 pub use clearance_call::measure_edge_node_clearance_bounded;
@@ -11,6 +11,8 @@ pub use density_call::measure_parallel_density_profile_bounded;
 pub use drawing::Gap;
 pub use drawing::Refusal;
 pub use drawing::number;
+pub use join_call::join;
+pub use joining::JoinAnswer;
 pub use records::EdgeNodeSegment;
 pub use records::ParallelSegment;
 pub use records::measure_edge_node_clearance_bounded_by_records;

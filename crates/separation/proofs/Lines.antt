@@ -13,8 +13,7 @@ use lib.Ieee.Digits.{size-lt, size-le}
 use lib.Pow.{pow-pos, pow-mono}
 use lib.Count.{leadingZeros, leading-length}
 use lib.Ieee.{size}
-use Rattle.laws.specs.Lists.{Mem, some-of}
-use Rattle.laws.specs.Inner.Lists.{Pairwise}
+use Rattle.laws.specs.Lists.{Mem, some-of, Pairwise}
 use Rattle.laws.specs.Rows.{rowLe}
 use Rattle.laws.specs.Inner.Sort.{Sorted}
 use Rattle.laws.proofs.Tests.{clash, and-left, and-right, and-both, le-or-lt, or-elim, or-left, or-right}

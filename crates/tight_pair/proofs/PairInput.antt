@@ -12,17 +12,17 @@ use Rattle.laws.proofs.ListLaws.{all-mem, mem-all, none-all}
 use Rattle.laws.proofs.Places.{at-all}
 use Rattle.drawing.specs.declared.refusal.Refusal.{Refusal}
 use Rattle.drawing.specs.declared.refusal.Check.the-variants.{Passed}
-use Rattle.drawing.specs.Entries.{Segment, Node, SegmentColumns, NodeColumns, ExemptionColumns, segments, nodes}
+use Rattle.drawing.specs.Entries.{Node, SegmentColumns, NodeColumns, ExemptionColumns, segments, nodes}
 use Rattle.drawing.specs.Inner.Entries.{nodeAt}
 use Rattle.drawing.specs.Inner.Lengths.{SegmentsAgree, NodesAgree, ExemptionsAgree}
 use Rattle.drawing.specs.Refusals.{firstOf}
-use Rattle.drawing.specs.Conditions.{unfitSegment, unfitNode}
+use Rattle.drawing.specs.Conditions.{unfitNode}
 use Rattle.drawing.specs.Checks.{listConditions, entryConditions}
 use Rattle.drawing.proofs.EntryLaws.{length-nodes, nodes-at}
 use Rattle.drawing.proofs.ListOrders.{segments-held}
 use Rattle.drawing.proofs.FirstRefusal.{ListsPass, lists-pass, passed-head, first-no}
-use Rattle.drawing.specs.Held.{SegmentHeld, NodeHeld}
-use Rattle.drawing.proofs.Fit.{FitSegment, FitNode}
+use Rattle.drawing.specs.Held.{NodeHeld, FitSegment}
+use Rattle.drawing.proofs.Fit.{FitNode, fit-segments}
 use Rattle.tight_pair.specs.Conditions.{tightPairConditions}
 use Rattle.exemptions.proofs.ExemptLaws.{exemptions-agree}
 
@@ -54,9 +54,6 @@ module _ (s : SegmentColumns) (n : NodeColumns) (l : FloatsLent s n) where
       subst NodeHeld (sym (nodes-at n a (nodeAt n 0) i (omega (arith, length-nodes n a)))) (record { x = l .x i; y = l .y i; width = l .width i; height = l .height i }))
 
 -- entries of which none is unfit
-fit-segments : (l : List Segment) → All SegmentHeld l → some-of unfitSegment l ≡ false → All FitSegment l
-fit-segments l h e = let a = none-all unfitSegment l e in mem-all FitSegment l (λ x m. record { held = all-mem SegmentHeld l h x m; passes = all-mem _ l a x m })
-
 fit-nodes : (l : List Node) → All NodeHeld l → some-of unfitNode l ≡ false → All FitNode l
 fit-nodes l h e = let a = none-all unfitNode l e in mem-all FitNode l (λ x m. record { held = all-mem NodeHeld l h x m; passes = all-mem _ l a x m })
 

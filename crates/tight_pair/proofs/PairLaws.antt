@@ -40,7 +40,8 @@ use Rattle.exemptions.specs.Inner.Exempting.{Rising, Holds, Gathered, Own, List
 use Rattle.tight_pair.specs.Conditions.{tightPairConditions}
 use Rattle.tight_pair.specs.Inner.Looking.{nearer, noPair, bestWith, inTurn, lookNodes, lookSegments}
 use Rattle.tight_pair.specs.TightPair.{Tight, pairIfAny, tightPairAnswer, Answered}
-use Rattle.drawing.proofs.Fit.{FitSegment, FitNode}
+use Rattle.drawing.specs.Held.{FitSegment}
+use Rattle.drawing.proofs.Fit.{FitNode}
 use Rattle.boxes.proofs.BoxLaws.{fit-node, fit-segment, distance-good}
 use Rattle.boxes.proofs.AnyBoxes.{any-distance-good}
 use Rattle.clearance.proofs.TreeLaws.{indexed-fit}

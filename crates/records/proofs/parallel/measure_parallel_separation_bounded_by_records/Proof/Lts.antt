@@ -79,7 +79,7 @@ abbrev y7 : Syntax.Ty
 y7 = Syntax.tyStruct (108 ∷ 105 ∷ 110 ∷ 101 ∷ 115 ∷ 58 ∷ 58 ∷ 108 ∷ 105 ∷ 110 ∷ 101 ∷ 58 ∷ 58 ∷ 76 ∷ 105 ∷ 110 ∷ 101 ∷ []) (Syntax.tcons (Syntax.tyInt Syntax.w32) (Syntax.tcons (Syntax.tyInt Syntax.w8) (Syntax.tcons (Syntax.tyFloat Ieee.binary64) (Syntax.tcons (Syntax.tyFloat Ieee.binary64) (Syntax.tcons (Syntax.tyFloat Ieee.binary64) Syntax.tnil)))))
 
 abbrev y8 : Syntax.Ty
-y8 = Syntax.tyEnum (100 ∷ 114 ∷ 97 ∷ 119 ∷ 105 ∷ 110 ∷ 103 ∷ 58 ∷ 58 ∷ 114 ∷ 101 ∷ 102 ∷ 117 ∷ 115 ∷ 97 ∷ 108 ∷ 58 ∷ 58 ∷ 82 ∷ 101 ∷ 102 ∷ 117 ∷ 115 ∷ 97 ∷ 108 ∷ []) (Syntax.ttcons Syntax.tnil (Syntax.ttcons Syntax.tnil (Syntax.ttcons Syntax.tnil (Syntax.ttcons Syntax.tnil (Syntax.ttcons Syntax.tnil (Syntax.ttcons Syntax.tnil (Syntax.ttcons Syntax.tnil Syntax.ttnil)))))))
+y8 = Syntax.tyEnum (100 ∷ 114 ∷ 97 ∷ 119 ∷ 105 ∷ 110 ∷ 103 ∷ 58 ∷ 58 ∷ 114 ∷ 101 ∷ 102 ∷ 117 ∷ 115 ∷ 97 ∷ 108 ∷ 58 ∷ 58 ∷ 82 ∷ 101 ∷ 102 ∷ 117 ∷ 115 ∷ 97 ∷ 108 ∷ []) (Syntax.ttcons Syntax.tnil (Syntax.ttcons Syntax.tnil (Syntax.ttcons Syntax.tnil (Syntax.ttcons Syntax.tnil (Syntax.ttcons Syntax.tnil (Syntax.ttcons Syntax.tnil (Syntax.ttcons Syntax.tnil (Syntax.ttcons Syntax.tnil Syntax.ttnil))))))))
 
 abbrev y9 : Syntax.Ty
 y9 = Syntax.tyEnum (115 ∷ 101 ∷ 112 ∷ 97 ∷ 114 ∷ 97 ∷ 116 ∷ 105 ∷ 111 ∷ 110 ∷ 58 ∷ 58 ∷ 114 ∷ 101 ∷ 112 ∷ 111 ∷ 114 ∷ 116 ∷ 58 ∷ 58 ∷ 83 ∷ 101 ∷ 112 ∷ 97 ∷ 114 ∷ 97 ∷ 116 ∷ 105 ∷ 111 ∷ 110 ∷ 65 ∷ 110 ∷ 115 ∷ 119 ∷ 101 ∷ 114 ∷ []) (Syntax.ttcons (Syntax.tcons y6 Syntax.tnil) (Syntax.ttcons (Syntax.tcons y8 Syntax.tnil) Syntax.ttnil))

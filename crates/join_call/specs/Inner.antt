@@ -1,0 +1,3 @@
+-- What only contracts of inner functions and proofs cite: no promise rests on it.
+pub mod Table
+pub mod Rest

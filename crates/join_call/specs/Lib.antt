@@ -1,0 +1,2 @@
+-- No promise rests on a definition of this crate.
+pub mod Inner
