@@ -17,26 +17,29 @@
  *               A horizontal segment lies at y = fixed from x = start to
  *               x = end, a vertical one at x = fixed from y = start to y = end.
  *               Either end may be the greater: a segment with start above end is
- *               measured as if the two had been exchanged. Equal ends are unfit.
+ *               taken as if the two had been exchanged. Equal ends are unfit.
  *   nodes       id, x, y, width, height. Ids need not differ.
  *   exemptions  net and node id: segments of that net and nodes of that id are
  *               not measured against each other.
  *
- * Columns are only read. The order of a list decides nothing in a report.
+ * These columns are only read. The order of a list decides nothing in a report or
+ * in the pieces of readability_join. That call writes to output columns, one for
+ * each field of a segment, which need not be equally long.
  *
  * POINTERS. A pointer is to as many entries as its length says, or as the array
  * has. It is aligned for its type and not null, for a length of 0 too, where
  * nothing is read or written through it. What a call writes (scratch, words
- * of the report, text) overlaps nothing else that it is given; columns may
- * overlap each other. The bool of a record holds 0 or 1, as C keeps it; take care
- * where records are read from a file as bytes. The thread rounds floats as IEEE
- * 754 does by default, to nearest and with subnormal numbers: code built with
- * -ffast-math may have turned these off. No other condition is laid on the
- * caller: a call ends for all lengths and all numbers, and answers unfit ones by
- * a status.
+ * of the report, output columns, text) overlaps nothing else that it is given;
+ * columns that are only read may overlap each other. The bool of a record holds 0
+ * or 1, as C keeps it; take care where records are read from a file as bytes. The
+ * thread rounds floats as IEEE 754 does by default, to nearest and with subnormal
+ * numbers: code built with -ffast-math may have turned these off. No other
+ * condition is laid on the caller: a call ends for all lengths and all numbers,
+ * and answers unfit ones by a status.
  *
  * STATUS. A call returns 0 where it is accepted, or else the number of the
- * first refusal that applies. The numbers are listed in checking order:
+ * first refusal that applies. They are listed in checking order. A number is a
+ * name and not a place in that order: 8 is checked before 7.
  *
  *   0  accepted
  *   2  the columns of one list differ in length
@@ -48,6 +51,8 @@
  *      finite, or a threshold below 0 (-0 passes)
  *   6  congestion only: a coordinate or the cutoff is off the grid, that is, no
  *      whole multiple of 1/64 or above 1,048,576 in absolute value
+ *   8  join only: the shortest output column holds fewer entries than there are
+ *      pieces to write
  *   7  the drawing's visit count is above the allowance
  *
  * (1 belongs to the drawing file, see readability_sheet.) A call checks only what
@@ -68,6 +73,7 @@
  *                                         gap (2), visits
  *   tight_pair                            1 or 0, segment position, node
  *                                         position
+ *   join                                  pieces written, segments gone
  *
  * readability_ratio returns a float, readability_sheet a length and
  * readability_version_0_3 a number; none of them has a status or words.
@@ -79,12 +85,13 @@
  *
  * SCRATCH. Whatever it holds before decides nothing. Afterwards all of it, words
  * past the need included, is zero where the status is 0 or 7, and untouched
- * where it is 2 to 6.
+ * where it is another. The measures take one; the other calls take none.
  *
  * THREADS AND STACK. Nothing is kept from one call to the next, so that threads
- * may call at the same time, each with a scratch of its own. A call takes at most
- * 64 KiB of stack, one by records 512, the sheet 256 (the macros below). No proof
- * says so: tools/stack measures each call, and fails where one takes more.
+ * may call at the same time, each with memory of its own for what is written. A
+ * call takes at most 64 KiB of stack, join 192, one by records 512, the sheet 256
+ * (the macros below). No proof says so: tools/stack measures each call, and fails
+ * where one takes more.
  */
 #ifndef READABILITY_H
 #define READABILITY_H
@@ -101,7 +108,7 @@ extern "C" {
 /* The version of this header. */
 #define READABILITY_VERSION_MAJOR 0
 #define READABILITY_VERSION_MINOR 3
-#define READABILITY_VERSION_PATCH 0
+#define READABILITY_VERSION_PATCH 1
 
 /* The same as one number. */
 #define READABILITY_VERSION                                                    \
@@ -135,10 +142,11 @@ static uint32_t (*const readability_version_needed)(void) READABILITY_KEPT =
 
 /* The most bytes of stack that a call takes. */
 #define READABILITY_STACK_BYTES (64 * 1024)
+#define READABILITY_STACK_BYTES_OF_JOIN (192 * 1024)
 #define READABILITY_STACK_BYTES_BY_RECORDS (512 * 1024)
 #define READABILITY_STACK_BYTES_OF_SHEET (256 * 1024)
 
-/* What a call returns. */
+/* What a call returns, in checking order. */
 enum readability_status {
     READABILITY_ACCEPTED = 0,
     READABILITY_COLUMNS_DIFFER = 2,
@@ -146,6 +154,7 @@ enum readability_status {
     READABILITY_SHORT_SCRATCH = 4,
     READABILITY_INVALID_INPUT = 5,
     READABILITY_OFF_GRID = 6,
+    READABILITY_SHORT_OUTPUT = 8,
     READABILITY_WORK_LIMIT_EXCEEDED = 7
 };
 
@@ -186,6 +195,13 @@ enum readability_tight_pair_word {
     READABILITY_TIGHT_PAIR_SEGMENT,
     READABILITY_TIGHT_PAIR_NODE,
     READABILITY_TIGHT_PAIR_WORDS
+};
+
+/* The words of join. */
+enum readability_join_word {
+    READABILITY_JOIN_PIECES,
+    READABILITY_JOIN_GONE,
+    READABILITY_JOIN_WORDS
 };
 
 /*
@@ -370,6 +386,36 @@ uint32_t readability_tight_pair(
     const uint32_t *exempt_net, size_t exempt_net_length,
     const uint32_t *exempt_node, size_t exempt_node_length,
     uint64_t out[READABILITY_TIGHT_PAIR_WORDS]);
+
+/*
+ * Makes one piece of segments of one net that touch or overlap on one line: writes
+ * to the output columns the fewest pieces of each net, orientation and fixed
+ * coordinate that cover the same points of the real line as the segments. Where one
+ * ends at a float and the next starts at the next greater float, they do not touch.
+ * Each piece has its start below its end. The pieces are in the order net,
+ * horizontal before vertical, fixed, start, end, floats by totalOrder. -0 and +0
+ * are one coordinate, written as +0. Joining the pieces again gives them back, and
+ * two lists that cover the same points have equal pieces, bit by bit. Nothing is
+ * rounded.
+ *
+ * The words are the number of pieces, and how many went away: the segments less
+ * the pieces. Output entries past the last piece keep their contents, and after a
+ * refusal all of them do. Only 2, 3, 5 and 8 are checked. 2 and 3 speak of the
+ * segments alone: output columns may differ in length and hold more than 4,096
+ * entries. As many entries as there are segments are always enough.
+ */
+uint32_t readability_join(
+    const uint32_t *net, size_t net_length,
+    const uint8_t *orientation, size_t orientation_length,
+    const double *fixed, size_t fixed_length,
+    const double *start, size_t start_length,
+    const double *end, size_t end_length,
+    uint32_t *to_net, size_t to_net_length,
+    uint8_t *to_orientation, size_t to_orientation_length,
+    double *to_fixed, size_t to_fixed_length,
+    double *to_start, size_t to_start_length,
+    double *to_end, size_t to_end_length,
+    uint64_t out[READABILITY_JOIN_WORDS]);
 
 /* The bytes of the buffer for a sheet's text. */
 #define READABILITY_SHEET_BYTES 256

@@ -108,7 +108,8 @@ pub fn measure_edge_node_clearance_bounded(
         .map_err(|refusal| match refusal {
             Refusal::WorkLimitExceeded => EdgeNodeClearanceError::WorkLimitExceeded,
             Refusal::TooManyEntries => EdgeNodeClearanceError::TooManyEntries,
-            // Columns and scratch are made here, and the grid is congestion's: 5 is left.
+            // Columns and scratch are made here, the grid is congestion's and the output
+            // the joiner's: 5 is left.
             _ => EdgeNodeClearanceError::InvalidInput,
         })
 }

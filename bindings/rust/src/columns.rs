@@ -1,8 +1,9 @@
-//! The port's own calls: lists by columns, the scratch lent by the caller.
-//! Nothing is allocated.
+//! The port's own calls: lists by columns, the scratch and the columns for pieces
+//! lent by the caller. Nothing is allocated.
 //!
-//! A call may be given anything. Columns of different lengths, a scratch that is
-//! too short and unfit values are refused, in the order of [`Refusal`].
+//! A call may be given anything. Columns of different lengths, a scratch or an
+//! output that is too short and unfit values are refused, in the order of
+//! [`Refusal`].
 //!
 //! What the scratch holds before a call decides nothing. Afterwards all of it is
 //! zero where there is a report or [`Refusal::WorkLimitExceeded`], and it is
@@ -12,6 +13,7 @@ use crate::{
     clearance::{ClearanceReport, EdgeNodeClearance, TightPair},
     congestion::{CongestionReport, ParallelCongestion},
     exported,
+    join::Joined,
     refusal::Refusal,
     separation::{ParallelSeparation, SeparationReport},
 };
@@ -39,6 +41,19 @@ pub struct SegmentColumns<'a> {
     pub fixed: &'a [f64],
     pub start: &'a [f64],
     pub end: &'a [f64],
+}
+
+/// Columns that [`join`] writes pieces to, of the meaning that they have in
+/// [`SegmentColumns`]. They need not be equally long: the shortest decides how many
+/// pieces there is room for.
+#[derive(Debug, Default)]
+#[allow(missing_docs)]
+pub struct PieceColumns<'a> {
+    pub net: &'a mut [u32],
+    pub orientation: &'a mut [u8],
+    pub fixed: &'a mut [f64],
+    pub start: &'a mut [f64],
+    pub end: &'a mut [f64],
 }
 
 /// Nodes by columns.
@@ -145,6 +160,35 @@ pub fn tight_pair(
         segment: count(segment),
         node: count(node),
     }))
+}
+
+/// Joins segments as [`join`](crate::join()) does, and writes the pieces to the
+/// front of lent columns. Entries past the last piece keep their contents, and after
+/// a refusal all of them do. As many entries as there are segments are always
+/// enough.
+///
+/// Only 2, 3, 5 and 8 are checked; 2 and 3 speak of the segments alone.
+///
+/// ```
+/// use readability::columns::{join, PieceColumns, SegmentColumns};
+///
+/// let (net, orientation, fixed) = (&[1, 1], &[1, 1], &[0.0, 0.0]);
+/// let (start, end) = (&[0.0, 9.0], &[5.0, 5.0]);
+/// let segments = SegmentColumns { net, orientation, fixed, start, end };
+///
+/// let (net, orientation, fixed) = (&mut [0; 2], &mut [0; 2], &mut [0.0; 2]);
+/// let (start, end) = (&mut [0.0; 2], &mut [0.0; 2]);
+/// let joined = join(segments, PieceColumns { net, orientation, fixed, start, end });
+/// assert_eq!(joined.map(|joined| (joined.pieces, joined.gone)), Ok((1, 1)));
+/// assert_eq!((start[0], end[0]), (0.0, 9.0));
+/// ```
+pub fn join(segments: SegmentColumns<'_>, pieces: PieceColumns<'_>) -> Result<Joined, Refusal> {
+    let (status, [pieces, gone]) = exported::join(segments, pieces);
+    Refusal::check(status)?;
+    Ok(Joined {
+        pieces: count(pieces),
+        gone: count(gone),
+    })
 }
 
 fn congestion_report((status, words): (u32, [u64; 7])) -> Result<CongestionReport, Refusal> {

@@ -2,18 +2,19 @@
 //! here.
 //!
 //! Every call is sound. The pointers and lengths are those of slices that live
-//! through it. Only the scratch, the words of the report and the text of the
-//! sheet are written, and each is borrowed for writing, so that nothing overlaps
-//! it. The library lays no condition on the values or the lengths.
+//! through it. Only the scratch, the words of the report, the columns of the
+//! pieces and the text of the sheet are written, and each is borrowed for writing,
+//! so that nothing overlaps it. The library lays no condition on the values or the
+//! lengths.
 
 #![allow(unsafe_code)]
 
 use crate::{
-    columns::{NodeColumns, RelationColumns, SegmentColumns},
+    columns::{NodeColumns, PieceColumns, RelationColumns, SegmentColumns},
     declarations::{
         readability_clearance, readability_congestion, readability_congestion_profile,
-        readability_density_profile, readability_ratio, readability_separation, readability_sheet,
-        readability_tight_pair, readability_version_0_3, SHEET_BYTES,
+        readability_density_profile, readability_join, readability_ratio, readability_separation,
+        readability_sheet, readability_tight_pair, readability_version_0_3, SHEET_BYTES,
     },
 };
 
@@ -143,6 +144,27 @@ pub fn tight_pair(
         ],
         [],
         3
+    )
+}
+
+pub fn join(segments: SegmentColumns<'_>, pieces: PieceColumns<'_>) -> (u32, [u64; 2]) {
+    let (s, p) = (segments, pieces);
+    call!(
+        readability_join,
+        [s.net, s.orientation, s.fixed, s.start, s.end],
+        [
+            p.net.as_mut_ptr(),
+            p.net.len(),
+            p.orientation.as_mut_ptr(),
+            p.orientation.len(),
+            p.fixed.as_mut_ptr(),
+            p.fixed.len(),
+            p.start.as_mut_ptr(),
+            p.start.len(),
+            p.end.as_mut_ptr(),
+            p.end.len()
+        ],
+        2
     )
 }
 

@@ -132,10 +132,11 @@
 //!
 //! Each function of the module has a second one, `try_` before its name, whose
 //! report carries the visits used and which returns a [`Refusal`].
-//! [`tight_pair`] finds a pair at the least clearance, and [`sheet()`] gives the
-//! text of a drawing file's sheet. The module [`columns`] has the port's own
-//! calls, which take lists by columns and allocate nothing. [`library_version`]
-//! returns the version of the library that is linked.
+//! [`tight_pair`] finds a pair at the least clearance, [`join()`] makes one piece of
+//! wires of one net that touch or overlap on one line, and [`sheet()`] gives the text
+//! of a drawing file's sheet. The module [`columns`] has the port's own calls, which
+//! take lists by columns and allocate nothing. [`library_version`] returns the version
+//! of the library that is linked.
 
 #![deny(unsafe_code)]
 #![warn(missing_docs)]
@@ -148,6 +149,7 @@ pub mod columns;
 mod congestion;
 mod declarations;
 mod exported;
+mod join;
 mod refusal;
 mod separation;
 mod sheet;
@@ -170,6 +172,7 @@ pub use congestion::{
     try_measure_parallel_congestion_profile_bounded, try_measure_parallel_density_profile_bounded,
     CongestionReport, ParallelCongestion,
 };
+pub use join::{join, Joined};
 pub use refusal::Refusal;
 pub use separation::{
     measure_parallel_separation_bounded, try_measure_parallel_separation_bounded, ParallelSegment,

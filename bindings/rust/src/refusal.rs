@@ -3,7 +3,8 @@
 use std::{error::Error, fmt};
 
 /// The refusals of a call, in checking order: a call answers the first that
-/// applies. Refusal 1 belongs to drawing files.
+/// applies. A number is a name and not a place in that order: 8 is checked before 7.
+/// Refusal 1 belongs to drawing files.
 #[derive(Clone, Copy, Debug, Eq, Hash, PartialEq)]
 #[non_exhaustive]
 pub enum Refusal {
@@ -22,6 +23,10 @@ pub enum Refusal {
     /// 6: in congestion a coordinate or the cutoff is no whole multiple of 1/64,
     /// or above 1,048,576 in absolute value.
     OffGrid,
+    /// 8: the shortest column that pieces are to be written to holds fewer entries
+    /// than there are pieces. Only [`columns::join`](crate::columns::join) can meet
+    /// it.
+    ShortOutput,
     /// 7: the drawing's visit count is above the allowance.
     WorkLimitExceeded,
 }
@@ -35,12 +40,13 @@ impl Refusal {
             Self::ShortScratch => 4,
             Self::InvalidInput => 5,
             Self::OffGrid => 6,
+            Self::ShortOutput => 8,
             Self::WorkLimitExceeded => 7,
         }
     }
 
     /// What a call's status says: nothing where it is 0, or else the refusal.
-    /// The port's contracts leave no status but 0 and 2 to 7.
+    /// The port's contracts leave no status but 0 and 2 to 8.
     pub(crate) fn check(status: u32) -> Result<(), Self> {
         Err(match status {
             0 => return Ok(()),
@@ -49,6 +55,7 @@ impl Refusal {
             4 => Self::ShortScratch,
             5 => Self::InvalidInput,
             6 => Self::OffGrid,
+            8 => Self::ShortOutput,
             7 => Self::WorkLimitExceeded,
             _ => unreachable!("the port has no status {status}"),
         })
@@ -63,6 +70,7 @@ impl fmt::Display for Refusal {
             Self::ShortScratch => "the scratch has too few words",
             Self::InvalidInput => "an entry or a setting is unfit",
             Self::OffGrid => "a coordinate or the cutoff is off the grid",
+            Self::ShortOutput => "an output column has too few entries for the pieces",
             Self::WorkLimitExceeded => "the visit count is above the allowance",
         })
     }

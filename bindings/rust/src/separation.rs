@@ -72,7 +72,8 @@ pub fn measure_parallel_separation_bounded(
         .map_err(|refusal| match refusal {
             Refusal::WorkLimitExceeded => ParallelSeparationError::WorkLimitExceeded,
             Refusal::TooManyEntries => ParallelSeparationError::TooManyEntries,
-            // Columns and scratch are made here, and the grid is congestion's: 5 is left.
+            // Columns and scratch are made here, the grid is congestion's and the output
+            // the joiner's: 5 is left.
             _ => ParallelSeparationError::InvalidInput,
         })
 }

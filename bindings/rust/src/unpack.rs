@@ -1,8 +1,11 @@
-//! Lists of records unpacked into columns, and the scratch that goes with them.
+//! Lists of records unpacked into columns, and the scratch that goes with them;
+//! columns with room for pieces, and the pieces in them as records.
 
 use crate::{
     clearance::{EdgeNodeSegment, NetNodeRelation, NodeGeometry},
-    columns::{scratch_words, NodeColumns, RelationColumns, SegmentColumns, MOST_ENTRIES},
+    columns::{
+        scratch_words, NodeColumns, PieceColumns, RelationColumns, SegmentColumns, MOST_ENTRIES,
+    },
     separation::ParallelSegment,
 };
 
@@ -53,6 +56,41 @@ impl Segments {
             start: &self.start,
             end: &self.end,
         }
+    }
+
+    /// Room for the pieces of a list. One longer than a call takes is refused before
+    /// the room is looked at.
+    pub fn room_for_pieces(segments: usize) -> Self {
+        let room = segments.min(MOST_ENTRIES);
+        Self {
+            net: vec![0; room],
+            orientation: vec![0; room],
+            fixed: vec![0.0; room],
+            start: vec![0.0; room],
+            end: vec![0.0; room],
+        }
+    }
+
+    pub fn lent(&mut self) -> PieceColumns<'_> {
+        PieceColumns {
+            net: &mut self.net,
+            orientation: &mut self.orientation,
+            fixed: &mut self.fixed,
+            start: &mut self.start,
+            end: &mut self.end,
+        }
+    }
+
+    /// The first segments, as records.
+    pub fn first(&self, count: usize) -> Vec<ParallelSegment> {
+        let wire = |place| ParallelSegment {
+            net: self.net[place],
+            horizontal: self.orientation[place] == 1,
+            fixed: self.fixed[place],
+            start: self.start[place],
+            end: self.end[place],
+        };
+        (0..count).map(wire).collect()
     }
 }
 

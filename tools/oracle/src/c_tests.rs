@@ -81,6 +81,10 @@ fn printed(example: &str) -> String {
 fn the_examples_print_what_they_say() {
     assert_eq!(printed("drawing_d.c"), SHEET_OF_D);
     assert_eq!(printed("records.c"), "least separation 4\n");
+    assert_eq!(
+        printed("join.c"),
+        "net 1: y = 0, x = 0 to 9\nnet 2: y = 4, x = 5 to 15\n1 gone\n"
+    );
 }
 
 /// The type as the header writes it. In C, arrays of different lengths are one
@@ -94,10 +98,11 @@ fn type_in_c(rust: &str) -> &'static str {
         "*const u32" => "const uint32_t *",
         "*const f64" => "const double *",
         "*const Record" => "const struct readability_segment *",
-        "*mut [u8; SHEET_BYTES]" => "uint8_t *",
-        "*mut u64" | "*mut [u64; 3]" | "*mut [u64; 4]" | "*mut [u64; 5]" | "*mut [u64; 7]" => {
-            "uint64_t *"
-        }
+        "*mut u8" | "*mut [u8; SHEET_BYTES]" => "uint8_t *",
+        "*mut u32" => "uint32_t *",
+        "*mut f64" => "double *",
+        "*mut u64" | "*mut [u64; 2]" | "*mut [u64; 3]" | "*mut [u64; 4]" | "*mut [u64; 5]"
+        | "*mut [u64; 7]" => "uint64_t *",
         _ => panic!("no type in C for {rust}"),
     }
 }

@@ -4,8 +4,8 @@
 use std::fmt::Debug;
 
 use readability::{
-    columns::{self, scratch_words, NodeColumns, RelationColumns, SegmentColumns},
-    measure_edge_node_clearance_bounded, measure_parallel_congestion,
+    columns::{self, scratch_words, NodeColumns, PieceColumns, RelationColumns, SegmentColumns},
+    join, measure_edge_node_clearance_bounded, measure_parallel_congestion,
     measure_parallel_congestion_profile_bounded, measure_parallel_density_profile_bounded,
     measure_parallel_separation_bounded, sheet, tight_pair,
     try_measure_edge_node_clearance_bounded, try_measure_parallel_congestion,
@@ -61,6 +61,7 @@ fn by_records(drawing: &Drawing, allowance: usize) -> Vec<String> {
         )),
         words(&measure_parallel_congestion(wires, cutoff)),
         words(&try_measure_parallel_congestion(wires, cutoff)),
+        words(&join(wires)),
     ];
     assert_eq!(words(&(routes, wires)), before);
     answers
@@ -74,7 +75,8 @@ fn column<E, T>(list: &[E], field: impl Fn(&E) -> T) -> Vec<T> {
     list.iter().map(field).collect()
 }
 
-/// The answers by columns, each with what it leaves in the scratch.
+/// The answers by columns, each with what it leaves in the scratch or, of joining, in
+/// the output.
 fn by_columns(drawing: &Drawing, allowance: usize) -> Vec<String> {
     let (threshold, cutoff) = (drawing.threshold, drawing.cutoff);
     let of_wires = |field: fn(&ParallelSegment) -> f64| column(&drawing.wires, field);
@@ -119,8 +121,27 @@ fn by_columns(drawing: &Drawing, allowance: usize) -> Vec<String> {
     let congestion = columns::congestion(segments, cutoff, &mut scratch);
     answers.push(words(&(congestion, &scratch)));
     answers.push(words(&columns::tight_pair(segments, nodes, relations)));
+    answers.push(joined(segments));
     assert_eq!(words(&segments), before);
     answers
+}
+
+/// What joining by columns gives, with what it leaves in columns as long as the
+/// segments'.
+fn joined(segments: SegmentColumns<'_>) -> String {
+    let mut net = vec![0; segments.net.len()];
+    let mut orientation = vec![0; segments.net.len()];
+    let mut floats = [(); 3].map(|()| vec![0.0; segments.net.len()]);
+    let [fixed, start, end] = &mut floats;
+    let pieces = PieceColumns {
+        net: &mut net,
+        orientation: &mut orientation,
+        fixed,
+        start,
+        end,
+    };
+    let joined = columns::join(segments, pieces);
+    words(&(joined, net, orientation, floats))
 }
 
 #[test]

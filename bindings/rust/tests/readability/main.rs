@@ -1,12 +1,13 @@
-//! The bindings: what SCOPE says of drawing D, of the marked cases and of
-//! the refusals; random drawings against a computation over all pairs, and against
-//! themselves with their wires in other directions; and the original module against
-//! this crate.
+//! The bindings: what SCOPE says of drawing D, of the marked cases, of the refusals
+//! and of joining; random drawings against a computation over all pairs, against
+//! themselves with their wires in other directions, and against their joined pieces;
+//! and the original module against this crate.
 
 mod against_pairs;
 mod directions;
 mod drawing;
 mod generate;
+mod join;
 mod marked;
 mod pairs;
 mod refusals;

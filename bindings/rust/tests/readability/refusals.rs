@@ -2,7 +2,7 @@
 
 use readability::{
     columns::{self, scratch_words, NodeColumns, RelationColumns, SegmentColumns, MOST_ENTRIES},
-    measure_edge_node_clearance_bounded, measure_parallel_congestion,
+    join, measure_edge_node_clearance_bounded, measure_parallel_congestion,
     measure_parallel_congestion_profile_bounded, measure_parallel_density_profile_bounded,
     measure_parallel_separation_bounded, tight_pair, try_measure_edge_node_clearance_bounded,
     try_measure_parallel_congestion, try_measure_parallel_congestion_profile_bounded,
@@ -108,6 +108,7 @@ fn an_unfit_segment_is_5() {
         assert_eq!(with_nodes(&drawing), [unfit; 2], "{segment:?}");
         assert_eq!(separation(&drawing.wires), unfit, "{segment:?}");
         assert_eq!(congestion(&drawing.wires, 6.0), unfit, "{segment:?}");
+        assert_eq!(join(&drawing.wires).err(), unfit, "{segment:?}");
         assert_eq!(
             measure_parallel_separation_bounded(&drawing.wires, 0),
             Err(ParallelSeparationError::InvalidInput)
@@ -205,6 +206,7 @@ fn off_the_grid_is_6_in_congestion_alone() {
         assert_eq!(with_nodes(&drawing), [None; 2], "{number}");
         assert_eq!(separation(&drawing.wires), None, "{number}");
         assert_eq!(congestion(&drawing.wires, 6.0), off_grid, "{number}");
+        assert_eq!(join(&drawing.wires).err(), None, "{number}");
         assert_eq!(congestion(&[], number), off_grid, "{number}");
     }
 }
@@ -404,7 +406,8 @@ fn refusals_have_scopes_numbers() {
         Refusal::ShortScratch,
         Refusal::InvalidInput,
         Refusal::OffGrid,
+        Refusal::ShortOutput,
         Refusal::WorkLimitExceeded,
     ];
-    assert_eq!(refusals.map(Refusal::number), [2, 3, 4, 5, 6, 7]);
+    assert_eq!(refusals.map(Refusal::number), [2, 3, 4, 5, 6, 8, 7]);
 }
