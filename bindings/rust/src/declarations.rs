@@ -143,6 +143,30 @@ extern "C" {
         out: *mut [u64; 3],
     ) -> u32;
 
+    pub fn readability_join(
+        net: *const u32,
+        net_length: usize,
+        orientation: *const u8,
+        orientation_length: usize,
+        fixed: *const f64,
+        fixed_length: usize,
+        start: *const f64,
+        start_length: usize,
+        end: *const f64,
+        end_length: usize,
+        to_net: *mut u32,
+        to_net_length: usize,
+        to_orientation: *mut u8,
+        to_orientation_length: usize,
+        to_fixed: *mut f64,
+        to_fixed_length: usize,
+        to_start: *mut f64,
+        to_start_length: usize,
+        to_end: *mut f64,
+        to_end_length: usize,
+        out: *mut [u64; 2],
+    ) -> u32;
+
     pub fn readability_sheet(
         bytes: *const u8,
         bytes_length: usize,
