@@ -8,7 +8,7 @@ use crate::{against_port, port, port_sheet::Sheets};
 use crate::{
     drawing::{drawing_d, Drawing, SHEET_OF_D},
     examine::{smallest_difference, Examined},
-    generate,
+    generate, join,
     join_lists::Joins,
     listing::listing,
     marked,
@@ -59,6 +59,7 @@ fn part(first: u64, step: u64, count: u64, seed: u64) -> Tally {
             }
             #[cfg(port)]
             differences.extend(against_port::differences_at_sizes());
+            differences.extend(join::differences_at_sizes(join::PORT));
             tally.add(index, "drawing D", examined, differences);
         } else {
             let (name, examined) = generated(&mut random);

@@ -55,6 +55,32 @@ pub fn differences(segments: &[Segment], random: Random, join: Option<Join>) -> 
     tried.found
 }
 
+/// Joins lists about as long as a list may be, and longer ones, of which some
+/// segments meet.
+pub fn differences_at_sizes(join: Option<Join>) -> Vec<String> {
+    let mut found = Vec::new();
+    for count in [4_095, 4_096, 4_097, 5_000] {
+        let mut random = Random::new(count);
+        let segments: Vec<Segment> = (0..count).map(|_| short_segment(&mut random)).collect();
+        for difference in differences(&segments, random, join) {
+            found.push(format!("{count} segments: {difference}"));
+        }
+    }
+    found
+}
+
+/// On one of 30 lines, of three nets.
+fn short_segment(random: &mut Random) -> Segment {
+    let start = random.below(2_000) as f64;
+    Segment {
+        net: random.below(3) as u32,
+        orientation: random.below(2) as u8,
+        fixed: random.below(5) as f64,
+        start,
+        end: start + random.between(1, 7) as f64,
+    }
+}
+
 /// Gives a segment something that refusal 5 names.
 pub fn spoil(segment: &mut Segment, random: &mut Random) {
     let not_finite = random.pick(&[f64::NAN, f64::INFINITY, f64::NEG_INFINITY]);
