@@ -12,12 +12,13 @@ use std::{fmt, hint::black_box, time::Instant};
 
 use crate::{
     drawing::Drawing,
-    kinds::{Kind, CLEARANCE, CONGESTION, SEPARATION, TIGHT_PAIR},
-    pairs, plain_tight_pair,
-    port::{self, run_tight_pair, scratch_words, Call, Columns, Returned},
+    kinds::{Kind, CLEARANCE, CONGESTION, JOIN, SEPARATION, SHORT_JOIN, TIGHT_PAIR},
+    pairs, plain_joiner, plain_tight_pair,
+    port::{self, run_join, run_tight_pair, scratch_words, Call, Columns, Returned},
     reference::{Fed, Measured, Run},
     refusals::Refusal,
     report::{Measure, Report},
+    segment_columns::SegmentColumns,
     tight_pair,
 };
 
@@ -25,8 +26,8 @@ const PREFACE: &str = "\
 Rust: opt-level 3, one codegen unit. Port: -O3, one module. Both for x86-64 without extensions.
 The port's scratch is zero before each run; that it clears it is timed.";
 
-/// Prints for each measure, and for the tight pair where there is no allowance
-/// to be spent, a line for each kind: segments, visits, the best time of each
+/// Prints for each measure, and for the tight pair and the join where there is no
+/// allowance to be spent, a line for each kind: segments, visits, the best time of each
 /// side, the port's best over the reference's, the median of that ratio over
 /// the runs, which a busy machine disturbs less, and the best time that clearing
 /// the scratch takes alone: the port's calls clear theirs, and the reference has
@@ -57,6 +58,13 @@ pub fn bench(runs: u64, allowance: Option<u64>) -> Result<(), String> {
             tight_pair_times(drawing, runs)
         })?;
         greatest.push(("tight pair", greatest_ratio(rows, allowance)));
+        println!(
+            "The Rust has no joiner: its times are those of a plain one that sorts and walks."
+        );
+        for (name, kinds) in [("join", &JOIN[..]), ("short join", &SHORT_JOIN[..])] {
+            let rows = print_rows(name, kinds, |drawing| join_times(drawing, runs))?;
+            greatest.push((name, greatest_ratio(rows, allowance)));
+        }
     }
     print_greatest(&greatest, allowance);
     Ok(())
@@ -77,7 +85,7 @@ enum Work {
     Visits(u64),
     /// The call was refused with 7.
     Spent,
-    /// The tight pair counts no visits.
+    /// The tight pair and the join count no visits.
     Uncounted,
 }
 
@@ -243,6 +251,38 @@ fn tight_pair_times(drawing: &Drawing, runs: u64) -> Result<Times, Returned> {
             tight_pair::is_answer(returned, drawing, least)
         },
     )?;
+    Ok(Times {
+        work: Work::Uncounted,
+        turns,
+        clearing: None,
+    })
+}
+
+/// The times of the join, and of the plain joiner in the reference's place. Both
+/// are lent columns as long as the list, and have to leave the same in them.
+fn join_times(drawing: &Drawing, runs: u64) -> Result<Times, Returned> {
+    let columns = SegmentColumns::of(&drawing.segments);
+    let room = [drawing.segments.len(); 5];
+    let mut by_rust = SegmentColumns::of_words(room, || 0);
+    let mut by_port = by_rust.clone();
+    let (returned, turns) = in_turn(
+        runs,
+        || plain_joiner::join(black_box(&columns), black_box(&mut by_rust)),
+        || {
+            let (status, words) = run_join(black_box(&columns), black_box(&mut by_port), room);
+            Returned {
+                status,
+                words: words.to_vec(),
+            }
+        },
+        |counts, returned| {
+            let words = counts.map(|count| count as u64).to_vec();
+            *returned == Returned { status: 0, words }
+        },
+    )?;
+    if by_rust != by_port {
+        return Err(returned);
+    }
     Ok(Times {
         work: Work::Uncounted,
         turns,

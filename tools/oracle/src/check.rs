@@ -1,5 +1,5 @@
 //! The comparison of many drawings: D with the marked cases first, then
-//! generated ones.
+//! generated ones; and of many lists made for joining.
 
 use std::thread;
 
@@ -8,7 +8,8 @@ use crate::{against_port, port, port_sheet::Sheets};
 use crate::{
     drawing::{drawing_d, Drawing, SHEET_OF_D},
     examine::{smallest_difference, Examined},
-    generate,
+    generate, join,
+    join_lists::Joins,
     listing::listing,
     marked,
     random::Random,
@@ -16,9 +17,10 @@ use crate::{
     reversed, sheet,
 };
 
-/// Compares `count` drawings, D first, prints what was met, and returns how
-/// many differ. The drawings are shared out among as many threads as there are
-/// processors; each depends on its number and the seed alone.
+/// Compares `count` drawings, D first, and the lists made for joining, prints what
+/// was met, and returns how many differ. Drawings and lists are shared out among as
+/// many threads as there are processors; each depends on its number and the seed
+/// alone.
 pub fn check(count: u64, seed: u64) -> u64 {
     let threads = thread::available_parallelism().map_or(1, |threads| threads.get() as u64);
     let tallies: Vec<Tally> = thread::scope(|scope| {
@@ -35,12 +37,15 @@ pub fn check(count: u64, seed: u64) -> u64 {
         whole.join(tally);
     }
     whole.print();
-    whole.differ
+    whole.all_that_differ()
 }
 
-/// Every `step`th drawing from number `first` on.
+/// Every `step`th drawing, and list made for joining, from number `first` on.
 fn part(first: u64, step: u64, count: u64, seed: u64) -> Tally {
-    let mut tally = Tally::default();
+    let mut tally = Tally {
+        joins: Joins::part(first, step, seed),
+        ..Tally::default()
+    };
     for index in (first..count).step_by(step as usize) {
         let mut random = Random::for_drawing(seed, index);
         if index == 0 {
@@ -54,6 +59,7 @@ fn part(first: u64, step: u64, count: u64, seed: u64) -> Tally {
             }
             #[cfg(port)]
             differences.extend(against_port::differences_at_sizes());
+            differences.extend(join::differences_at_sizes(join::PORT));
             tally.add(index, "drawing D", examined, differences);
         } else {
             let (name, examined) = generated(&mut random);
@@ -148,6 +154,7 @@ struct Tally {
     reports: [u64; 3],
     refused: [u64; 3],
     sheets: Sheets,
+    joins: Joins,
     first_to_differ: Vec<(u64, &'static str)>,
     smallest: Option<(Drawing, Vec<String>)>,
 }
@@ -197,12 +204,17 @@ impl Tally {
             self.refused[place] += other.refused[place];
         }
         self.sheets.join(&other.sheets);
+        self.joins.join(other.joins);
         for (index, kind) in other.first_to_differ {
             self.note_differing(index, kind);
         }
         if let Some((drawing, differences)) = other.smallest {
             self.note_smallest(drawing, differences);
         }
+    }
+
+    fn all_that_differ(&self) -> u64 {
+        self.differ + self.joins.differ
     }
 
     fn count_kind(&mut self, kind: &'static str, more: u64) {
@@ -246,11 +258,15 @@ impl Tally {
             );
         }
         #[cfg(port)]
-        println!("the port: version {}, the five calls by columns and by records, the ratio and the tight pair on every drawing", port::version());
+        println!("the port: version {}, the five calls by columns and by records, the ratio, the tight pair and the join on every drawing", port::version());
         #[cfg(port)]
         println!("the sheet: {}", self.sheets.summary());
         #[cfg(not(port))]
         println!("the port: not linked");
+        println!("made for joining: {}", self.joins.summary());
+        if let Some(text) = self.joins.smallest_difference() {
+            println!("the smallest list that differs:\n{text}");
+        }
         if let Some((drawing, differences)) = &self.smallest {
             let first: Vec<String> = self
                 .first_to_differ
@@ -264,6 +280,6 @@ impl Tally {
                 None => println!("{}\n{}", listing(drawing), differences.join("\n")),
             }
         }
-        println!("{} agree, {} differ", self.agree, self.differ);
+        println!("{} agree, {} differ", self.agree, self.all_that_differ());
     }
 }

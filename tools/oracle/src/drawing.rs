@@ -77,7 +77,7 @@ impl Segment {
 
     /// The segment as it is taken (SCOPE 2.8): reversed exactly where its end is
     /// below its start.
-    fn rising(self) -> Self {
+    pub fn rising(self) -> Self {
         if self.end < self.start {
             self.reversed()
         } else {

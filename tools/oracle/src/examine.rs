@@ -1,6 +1,6 @@
 //! One drawing examined: everything in which the reference differs from all
 //! pairs, or from what else SCOPE says of it, and in which the port
-//! differs from the reference.
+//! differs from the reference, or in joining from our own joiner.
 
 use std::fmt::Debug;
 
@@ -10,6 +10,7 @@ use crate::{
     drawing::Drawing,
     file,
     generate::Aim,
+    join,
     listing::listing,
     pairs::{self, Congestion},
     reference::{self, Fault, Fed, Run},
@@ -71,6 +72,7 @@ impl Examined {
             compare_port(measure, answer, self, &reordered, &mut found);
         }
         compare_tight_pair(&self.drawing, &reordered, &mut found);
+        compare_join(&self.drawing, &mut found);
         found.prefix = "file";
         compare_file(&self.drawing, &mut found);
         found.texts
@@ -219,6 +221,15 @@ fn compare_tight_pair(drawing: &Drawing, reordered: &Drawing, found: &mut Differ
 
 #[cfg(not(port))]
 fn compare_tight_pair(_drawing: &Drawing, _reordered: &Drawing, _found: &mut Differences) {}
+
+/// Our joiner against the points of the lines, and the port's join against it.
+fn compare_join(drawing: &Drawing, found: &mut Differences) {
+    found.texts.extend(join::differences(
+        &drawing.segments,
+        drawing.random(),
+        join::PORT,
+    ));
+}
 
 fn expected_run(report: &Report, limit: u64) -> Run {
     match settle(report.clone(), limit) {

@@ -1,7 +1,8 @@
 //! The drawings that are timed: their kinds, and what is timed on which.
 
 use crate::{
-    drawing::{Allowances, Drawing, Exemption, Node, Segment, HORIZONTAL, VERTICAL},
+    drawing::{horizontal, Allowances, Drawing, Exemption, Node, Segment, HORIZONTAL, VERTICAL},
+    joiner,
     random::Random,
     refusals::CALL_LIMITS,
     values::GRID_STEP,
@@ -25,24 +26,35 @@ pub struct Kind {
     reach: f64,
     nets: usize,
     exempt: Exempt,
-    /// Whether the lists come in the order of SCOPE 9.4; otherwise
-    /// the segments are shuffled.
-    in_order: bool,
+    order: Order,
     /// Whether a third of the wires are given from the greater end to the lesser
     /// one. The wires are otherwise the same.
     reversed: bool,
+}
+
+/// The order that the segments come in.
+enum Order {
+    Shuffled,
+    /// The nodes too: the order of SCOPE 9.4.
+    OfLists,
+    /// The order of joined pieces, SCOPE 16.4.
+    OfPieces,
 }
 
 /// The lines that the wires lie on.
 enum Lines {
     /// Any, in both orientations.
     Any,
+    /// This many, 1 apart, in both orientations.
+    Few(usize),
     /// One for all of them.
     One,
     /// One for each of them, in one orientation, 1 apart.
     Own,
     /// One for all of them, which begin and end together, each in its own net.
     Alike,
+    /// One for all of them, which begin and end together, in one net.
+    Equal,
 }
 
 /// What is exempt.
@@ -65,7 +77,7 @@ const SPARSE: Kind = Kind {
     reach: 8.0,
     nets: 256,
     exempt: Exempt::Any(0),
-    in_order: false,
+    order: Order::Shuffled,
     reversed: false,
 };
 
@@ -116,7 +128,7 @@ const ONE_LINE: Kind = Kind {
 const ONE_LINE_IN_ORDER: Kind = Kind {
     name: "one line, one net, in order",
     nets: 1,
-    in_order: true,
+    order: Order::OfLists,
     ..ONE_LINE
 };
 
@@ -140,6 +152,24 @@ const APART: Kind = Kind {
     name: "nothing touches",
     nodes_from: 2_048,
     ..DENSE
+};
+
+/// Two wires on each line of a net, on average, which seldom meet: 3,983 pieces are
+/// left of 4,096.
+const FEW_JOIN: Kind = Kind {
+    name: "few join",
+    nodes: 0,
+    lines: Lines::Few(4),
+    ..SPARSE
+};
+
+/// 64 wires on each line of a net, on average: 242 pieces are left of 4,096.
+const MOST_JOIN: Kind = Kind {
+    name: "most join",
+    nets: 32,
+    lines: Lines::Few(1),
+    side: 2_048,
+    ..FEW_JOIN
 };
 
 pub const CLEARANCE: [Kind; 11] = [
@@ -250,6 +280,56 @@ pub const TIGHT_PAIR: [Kind; 4] = [
     },
 ];
 
+/// Those of 4,096 segments.
+pub const JOIN: [Kind; 8] = [
+    FEW_JOIN,
+    Kind {
+        name: "few join, a third reversed",
+        reversed: true,
+        ..FEW_JOIN
+    },
+    Kind {
+        name: "few join, in order",
+        order: Order::OfPieces,
+        ..FEW_JOIN
+    },
+    MOST_JOIN,
+    Kind {
+        name: "most join, a third reversed",
+        reversed: true,
+        ..MOST_JOIN
+    },
+    Kind {
+        name: "most join, in order",
+        order: Order::OfPieces,
+        ..MOST_JOIN
+    },
+    Kind {
+        name: "one line of one net",
+        nets: 1,
+        lines: Lines::One,
+        side: 1_000_000,
+        ..FEW_JOIN
+    },
+    Kind {
+        name: "all equal",
+        lines: Lines::Equal,
+        ..FEW_JOIN
+    },
+];
+
+pub const SHORT_JOIN: [Kind; 2] = [
+    Kind {
+        segments: 120,
+        ..FEW_JOIN
+    },
+    Kind {
+        segments: 120,
+        nets: 1,
+        ..MOST_JOIN
+    },
+];
+
 impl Kind {
     /// The drawing, which is the same at every call.
     pub fn drawing(&self) -> Drawing {
@@ -270,8 +350,13 @@ impl Kind {
                 congestion: u64::MAX,
             },
         };
-        if self.in_order {
-            return drawing.in_list_order();
+        match self.order {
+            Order::OfLists => return drawing.in_list_order(),
+            Order::OfPieces => {
+                drawing.segments.sort_by(joiner::order);
+                return drawing;
+            }
+            Order::Shuffled => {}
         }
         // Own lines are assigned in order, and so are exemptions of all nodes.
         random.shuffle(&mut drawing.segments);
@@ -312,7 +397,11 @@ fn segment(kind: &Kind, place: usize, random: &mut Random) -> Segment {
             random.pick(&[HORIZONTAL, VERTICAL]),
             steps(random, 0, kind.side),
         ),
-        Lines::One | Lines::Alike => (HORIZONTAL, 0.0),
+        Lines::Few(count) => (
+            random.pick(&[HORIZONTAL, VERTICAL]),
+            random.below(count) as f64,
+        ),
+        Lines::One | Lines::Alike | Lines::Equal => (HORIZONTAL, 0.0),
         Lines::Own => (HORIZONTAL, place as f64),
     };
     let segment = Segment {
@@ -323,13 +412,9 @@ fn segment(kind: &Kind, place: usize, random: &mut Random) -> Segment {
         end: start + steps(random, kind.shortest, kind.longest),
     };
     match kind.lines {
-        Lines::Alike => Segment {
-            net: place as u32,
-            start: 0.0,
-            end: kind.longest as f64,
-            ..segment
-        },
-        Lines::Any | Lines::One | Lines::Own => segment,
+        Lines::Alike => horizontal(place as u32, 0.0, 0.0, kind.longest as f64),
+        Lines::Equal => horizontal(0, 0.0, 0.0, kind.longest as f64),
+        Lines::Any | Lines::Few(_) | Lines::One | Lines::Own => segment,
     }
 }
 

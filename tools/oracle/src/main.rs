@@ -1,6 +1,7 @@
 //! The oracle: runs the reference beside an independent all-pairs computation
 //! and gives the sheets that a port must print. Where the port's library is
-//! linked, the port's own answers are held against them.
+//! linked, the port's own answers are held against them, and its joined lists
+//! against those of a joiner written here.
 
 #[cfg(port)]
 mod against_port;
@@ -17,12 +18,20 @@ mod drawings;
 mod examine;
 mod file;
 mod generate;
+mod join;
+mod join_lists;
+#[cfg(test)]
+mod join_tests;
+mod joined_points;
+mod joiner;
 #[cfg(port)]
 mod kinds;
 mod listing;
 mod maker;
 mod marked;
 mod pairs;
+#[cfg(port)]
+mod plain_joiner;
 #[cfg(port)]
 mod plain_tight_pair;
 #[cfg(port)]
@@ -35,6 +44,7 @@ mod refusals;
 mod report;
 mod reversed;
 mod sample;
+mod segment_columns;
 mod shapes;
 mod sheet;
 mod shrink;
@@ -78,7 +88,8 @@ usage: oracle COMMAND
   sheet              the Rust's sheet of the drawing file on standard input
   pairs              the all-pairs sheet of that file; the visits of clearance
                      and separation are the Rust's, since they belong to its walk
-  check N SEED       compare N drawings, D first; ends with 'N agree, M differ'
+  check N SEED       compare N drawings, D first, and 100,000 lists that are made
+                     for joining; ends with 'N agree, M differ'
   shrink             the smallest part of the drawing on standard input that
                      still differs, if it does
   drawing-d          the file of drawing D

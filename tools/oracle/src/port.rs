@@ -8,12 +8,13 @@
 use crate::{
     declarations::{
         readability_clearance, readability_congestion, readability_congestion_profile,
-        readability_density_profile, readability_ratio, readability_separation, readability_sheet,
-        readability_tight_pair, readability_version_0_3, SHEET_BYTES,
+        readability_density_profile, readability_join, readability_ratio, readability_separation,
+        readability_sheet, readability_tight_pair, readability_version_0_3, SHEET_BYTES,
     },
     drawing::Drawing,
     refusals::{scratch_need, Lent},
     report::{Answer, Figure, Measure, Report},
+    segment_columns::SegmentColumns,
 };
 
 // The entries by records, which the Rust package does without.
@@ -336,12 +337,13 @@ fn report_words(report: &Report) -> Vec<u64> {
 const UNWRITTEN: u64 = 0x5555_5555_5555_5555;
 
 /// Calls the port with the lists named, each as a pointer and a length, then
-/// the rest, and last the words that the call is to write.
+/// the rest, and last the words that the call is to write. Gives the status and
+/// the words.
 ///
 /// A call is sound because the pointers and lengths are those of slices that
-/// live through it, and because only the scratch and the words, which no other
-/// slice overlaps, are written.
-macro_rules! returned_of {
+/// live through it, and because only the scratch, the columns for the pieces and
+/// the words, which no other slice overlaps, are written.
+macro_rules! called {
     ($call:ident, [$($list:expr),*], [$($rest:expr),*], $words:literal) => {{
         let mut words = [UNWRITTEN; $words];
         let status = unsafe {
@@ -351,6 +353,14 @@ macro_rules! returned_of {
                 &mut words,
             )
         };
+        (status, words)
+    }};
+}
+
+/// The same as what the port returns.
+macro_rules! returned_of {
+    ($($argument:tt)*) => {{
+        let (status, words) = called!($($argument)*);
         Returned {
             status,
             words: words.to_vec(),
@@ -485,6 +495,39 @@ pub fn run_tight_pair(columns: &Columns) -> Returned {
         [id, x, y, width, height, exempt_net, exempt_node],
         [],
         3
+    )
+}
+
+/// The join: reads the columns and writes the pieces to the front of others, of
+/// which it is lent this many entries. Returns its status and its words, the number
+/// of pieces and how many went away.
+pub fn run_join(
+    columns: &SegmentColumns,
+    to: &mut SegmentColumns,
+    room: [usize; 5],
+) -> (u32, [u64; 2]) {
+    called!(
+        readability_join,
+        [
+            columns.net,
+            columns.orientation,
+            columns.fixed,
+            columns.start,
+            columns.end
+        ],
+        [
+            to.net[..room[0]].as_mut_ptr(),
+            room[0],
+            to.orientation[..room[1]].as_mut_ptr(),
+            room[1],
+            to.fixed[..room[2]].as_mut_ptr(),
+            room[2],
+            to.start[..room[3]].as_mut_ptr(),
+            room[3],
+            to.end[..room[4]].as_mut_ptr(),
+            room[4]
+        ],
+        2
     )
 }
 

@@ -19,6 +19,7 @@ pub enum Refusal {
     Unfit,
     OffGrid,
     Spent,
+    ShortOutput,
 }
 
 impl Refusal {
@@ -31,6 +32,7 @@ impl Refusal {
             Self::Unfit => 5,
             Self::OffGrid => 6,
             Self::Spent => 7,
+            Self::ShortOutput => 8,
         }
     }
 }
@@ -128,6 +130,20 @@ pub fn before_tight_pair(drawing: &Drawing, lent: &Lent) -> Option<Refusal> {
     }
 }
 
+/// The first refusal of a join, of those that come before the room for its pieces:
+/// checks 2, 3 and 5. It takes segments alone.
+pub fn before_join(segments: &[Segment], columns: [usize; 5]) -> Option<Refusal> {
+    if differ(&columns) {
+        Some(Refusal::Columns)
+    } else if columns[0] > CALL_LIMITS.segments {
+        Some(Refusal::TooMany)
+    } else if !segments.iter().all(segment_fits) {
+        Some(Refusal::Unfit)
+    } else {
+        None
+    }
+}
+
 /// Refusal 7: the answer under an allowance, from the report without one.
 pub fn settle(report: Report, allowance: u64) -> Answer {
     if report.visits > allowance {
@@ -137,8 +153,11 @@ pub fn settle(report: Report, allowance: u64) -> Answer {
     }
 }
 
+fn differ(lengths: &[usize]) -> bool {
+    lengths.iter().any(|length| *length != lengths[0])
+}
+
 fn columns_differ(taken: &Lent) -> bool {
-    let differ = |lengths: &[usize]| lengths.iter().any(|length| *length != lengths[0]);
     differ(&taken.segment_columns)
         || differ(&taken.node_columns)
         || differ(&taken.exemption_columns)
