@@ -31,10 +31,10 @@ use Rattle.joining.specs.Points.{NumberLine, SamePoints}
 use Rattle.joining.specs.Joined.{joined}
 use Rattle.joining.specs.Conditions.{outputLengths, joinConditions}
 use Rattle.joining.specs.Answer.{joinedOf, joinAnswer, written, outputAfter, resultOf}
-use Rattle.joining.proofs.Joins as lists
+use Rattle.joining.proofs.JoinedLists as lists
 use Rattle.demands.specs.Applies.{First, NoneApplies, placeInList, InOrder}
 use Rattle.demands.specs.Directions.{columnsAsTaken}
-use Rattle.demands.specs.Joining.{JoinRun, Fit, Unfit, Accepted, RefusedWith, SameJoin, Joining}
+use Rattle.demands.specs.Joining.{JoinRun, JoinFit, JoinUnfit, JoinAccepted, JoinRefused, SameJoin, Joining}
 use Rattle.demands.proofs.FirstMet.{first-refused, none-passed, some-or-none}
 use Rattle.demands.proofs.Directions.{SeenAlike, seen-alike}
 
@@ -48,7 +48,7 @@ module _ (c out : SegmentColumns) (k : Check) (e : firstOf (joinConditions c out
   unfolding outputAfter
   output-is = ap (λ (z : Check). checked (λ r. out) z (written (joined (segments c)) out)) e
 
-unfit : (r : JoinRun) (refusal : Refusal) → First (joinConditions (r .lent) (r .before)) refusal → RefusedWith r refusal
+unfit : (r : JoinRun) (refusal : Refusal) → First (joinConditions (r .lent) (r .before)) refusal → JoinRefused r refusal
 unfolding resultOf
 unfit r why f =
     let e = first-refused (joinConditions (r .lent) (r .before)) why f in
@@ -59,7 +59,7 @@ first-part : (l m : List (Bool × Refusal)) → NoneApplies (l ++ m) → NoneApp
 first-part [] m p = tt
 first-part (x ∷ l) m p = (p .0, first-part l m (p .1))
 
-module _ (r : JoinRun) (h : Fit r) where
+module _ (r : JoinRun) (h : JoinFit r) where
   passes : firstOf (joinConditions (r .lent) (r .before)) ≡ Passed
   passes = none-passed (joinConditions (r .lent) (r .before)) h
 
@@ -76,12 +76,12 @@ module _ (r : JoinRun) (h : Fit r) where
   left : r .after ≡ written (joined (segments (r .lent))) (r .before)
   left = r .says .leaves ∙ output-is (r .lent) (r .before) Passed passes
 
-  accepted : Accepted r
+  accepted : JoinAccepted r
   unfolding resultOf
   accepted = record { fit = fit-all; returns = ap resultOf answered; writes = left }
 
 -- ---- two accepted calls whose output columns held the same
-module _ (a b : JoinRun) (f : Fit a) (g : Fit b) (same : a .before ≡ b .before) where
+module _ (a b : JoinRun) (f : JoinFit a) (g : JoinFit b) (same : a .before ≡ b .before) where
   pieces-decide : joined (segments (a .lent)) ≡ joined (segments (b .lent)) → a .after ≡ b .after
   pieces-decide e = left a f ∙ (λ i. written (e i) (same i)) ∙ sym (left b g)
 
@@ -114,13 +114,13 @@ directions a b same e =
     record { returned = a .says .answers ∙ ap (joinAnswer (a .lent)) same ∙ same-answer (b .lent) (a .lent) k (b .before) ∙ sym (b .says .answers); after = a .says .leaves ∙ ap (outputAfter (a .lent)) same ∙ same-output (b .lent) (a .lent) k (b .before) ∙ sym (b .says .leaves) }
 
 -- ---- joining the pieces again
-module _ (a b : JoinRun) (f : Fit a) (is : b .lent ≡ columnsOf (joined (segments (a .lent)))) (room : shortOutput (length (joined (segments (a .lent)))) (outputLengths (b .before)) ≡ false) where
+module _ (a b : JoinRun) (f : JoinFit a) (is : b .lent ≡ columnsOf (joined (segments (a .lent)))) (room : shortOutput (length (joined (segments (a .lent)))) (outputLengths (b .before)) ≡ false) where
   abbrev pieces : List Segment
   pieces = joined (segments (a .lent))
 
   pieces-taken : segments (columnsOf pieces) ≡ pieces
   unfolding segments
-  pieces-taken = ap (map asTaken) (columns-entries pieces) ∙ kept pieces (lists.again-taken (segments (a .lent)) (fit-all a f))
+  pieces-taken = ap (map asTaken) (columns-entries pieces) ∙ kept pieces (lists.joined-taken (segments (a .lent)) (fit-all a f))
     where
       kept : (l : List Segment) → All (λ s. asTaken s ≡ s) l → map asTaken l ≡ l
       kept [] h = refl
@@ -142,7 +142,7 @@ module _ (a b : JoinRun) (f : Fit a) (is : b .lent ≡ columnsOf (joined (segmen
       each [] h = tt
       each (s ∷ l) h = (h .0 .passes, each l (h .1))
 
-  again-fit : Fit b
+  again-fit : JoinFit b
   unfolding joinConditions segmentListConditions tooMany
   again-fit = (
     ap segmentsDiffer is ∙ columns-same pieces,
@@ -164,12 +164,12 @@ in-order : (c out : SegmentColumns) → InOrder 0 (joinConditions c out)
 unfolding joinConditions segmentListConditions placeInList
 in-order c out = (omega arith, (omega arith, (omega arith, (omega arith, omega arith))))
 
-unfit-or-fit : (r : JoinRun) → Unfit r ⊎ Fit r
+unfit-or-fit : (r : JoinRun) → JoinUnfit r ⊎ JoinFit r
 unfit-or-fit r = elim (some-or-none (joinConditions (r .lent) (r .before))) [ inl s ↦ inl (record { refusal = s .refusal; first = s .first }) | inr h ↦ inr h ]
 
 pub joining : Joining
 joining = record {
-  joins = lists.joins;
+  lists = lists.joined-lists;
   unfit-or-fit = unfit-or-fit;
   unfit = unfit;
   accepted = accepted;

@@ -34,14 +34,14 @@ use Rattle.drawing.proofs.Fit.{fit-segments}
 use Rattle.drawing.proofs.FirstRefusal.{first-yes, first-no, first-none, first-stop, first-go-on, segment-list-passes, not-passed}
 use Rattle.joining.specs.declared.answer.JoinAnswer.{JoinAnswer}
 use Rattle.joining.specs.declared.answer.JoinAnswer.the-variants.{Joined, Refused}
-use Rattle.joining.specs.Joined.{canonical, extended, inOrder, joined}
+use Rattle.joining.specs.Joined.{canonicalZeros, extended, inOrder, joined}
 use Rattle.joining.specs.Conditions.{outputLengths, joinConditions}
 use Rattle.joining.specs.Answer.{joinedOf, joinAnswer, written, outputAfter}
 use Rattle.joining.proofs.Canonical.{Canonical}
-use Rattle.joining.proofs.Joins.{joined-canonical, joined-all, no-more}
+use Rattle.joining.proofs.JoinedLists.{joined-canonical, joined-all, no-more}
 use Rattle.joining.specs.declared.piece.Piece.{Piece}
-use Rattle.joining.specs.Inner.Pieces.{pieceOf, joinWords}
-use Rattle.join_call.specs.Inner.Table.{entriesFrom, netOf, orientationOf, writtenPieces, Room, Lists, InOrder}
+use Rattle.joining.specs.Inner.Pieces.{pieceOf, joinedPieces}
+use Rattle.join_call.specs.Inner.Table.{entriesFrom, netOf, orientationOf, writtenPieces, Room, Lists, TableInOrder}
 use Rattle.join_call.specs.Inner.Rest.{restAnswer, restOutput}
 use Rattle.joining.proofs.PieceLaws.{words-join}
 
@@ -76,13 +76,13 @@ written-back l old p q =
     let at : (s : Segment) → Mem s l → Canonical s = λ s m. all-mem Canonical l p s m in
     let a = back netOf (λ (s : Segment). s .net) l (old .net) (λ s m. net-back s (all-mem Small l q s m)) in
     let b = back orientationOf (λ (s : Segment). s .orientation) l (old .orientation) (λ s m. orientation-back s (at s m .orientation)) in
-    let c = back (λ (x : Piece). floatAt (x .line)) (λ (s : Segment). s .fixed) l (old .fixed) (λ s m. float-back (s .fixed) (at s m .fixed .fin .0)) in
+    let c = back (λ (x : Piece). floatAt (x .fixed)) (λ (s : Segment). s .fixed) l (old .fixed) (λ s m. float-back (s .fixed) (at s m .fixed .fin .0)) in
     let d = back (λ (x : Piece). floatAt (x .start)) (λ (s : Segment). s .start) l (old .start) (λ s m. float-back (s .start) (at s m .start .fin .0)) in
     let e = back (λ (x : Piece). floatAt (x .end)) (λ (s : Segment). s .end) l (old .end) (λ s m. float-back (s .end) (at s m .end .fin .0)) in
     (λ i. record { net = a i; orientation = b i; fixed = c i; start = d i; end = e i })
 
-canonical-small : (l : List Segment) → All Small l → All Small (map canonical l)
-unfolding canonical
+canonical-small : (l : List Segment) → All Small l → All Small (map canonicalZeros l)
+unfolding canonicalZeros
 canonical-small [] h = tt
 canonical-small (s ∷ l) h = (h .0, canonical-small l (h .1))
 
@@ -94,14 +94,14 @@ pub joined-small : (l : List Segment) → All Small l → All Small (joined l)
 joined-small l h = joined-all Small extended-small l (canonical-small l h)
 
 -- ---- the pieces that the table joins to
-pub joined-words : (c : SegmentColumns) (a : List ℕ) → InOrder c a → joinWords (entriesFrom (length (c .net)) a 0 (length (c .net))) ≡ map pieceOf (joined (segments c))
+pub joined-words : (c : SegmentColumns) (a : List ℕ) → TableInOrder c a → joinedPieces (entriesFrom (length (c .net)) a 0 (length (c .net))) ≡ map pieceOf (joined (segments c))
 unfolding joined
-joined-words c a o = ap joinWords (o .entries) ∙ words-join (sortBy inOrder (map canonical (segments c)))
+joined-words c a o = ap joinedPieces (o .entries) ∙ words-join (sortBy inOrder (map canonicalZeros (segments c)))
 
-pub joined-count : (c : SegmentColumns) (a : List ℕ) → InOrder c a → length (joinWords (entriesFrom (length (c .net)) a 0 (length (c .net)))) ≡ length (joined (segments c))
+pub joined-count : (c : SegmentColumns) (a : List ℕ) → TableInOrder c a → length (joinedPieces (entriesFrom (length (c .net)) a 0 (length (c .net)))) ≡ length (joined (segments c))
 joined-count c a o = ap length (joined-words c a o) ∙ length-map (joined (segments c)) pieceOf
 
-pub fewer : (c : SegmentColumns) (a : List ℕ) (count : ℕ) → SegmentsAgree c → InOrder c a → count ≡ length (joinWords (entriesFrom (length (c .net)) a 0 (length (c .net)))) → count ≤ length (c .net)
+pub fewer : (c : SegmentColumns) (a : List ℕ) (count : ℕ) → SegmentsAgree c → TableInOrder c a → count ≡ length (joinedPieces (entriesFrom (length (c .net)) a 0 (length (c .net)))) → count ≤ length (c .net)
 fewer c a count g o e = omega (arith, joined-count c a o, no-more (segments c), length-segments c g)
 
 pub short-is : (b v : Bool) (count m : ℕ) (l : List ℕ) → b ≡ shortOutput count l → b ≡ v → count ≡ m → shortOutput m l ≡ v
@@ -127,8 +127,8 @@ module _ (c out : SegmentColumns) where
   unfolding restAnswer restOutput
   all-written s = (sym (cond-false _ (Refused ShortOutput) (joinedOf (segments c)) s), sym (cond-false _ out (written (joined (segments c)) out) s))
 
-  pub finished : (new : SegmentColumns) (a : List ℕ) (count m : ℕ) → Lists c m → ((i : ℕ) → segmentAt c i .net < 4294967296) → InOrder c a
-      → count ≡ length (joinWords (entriesFrom (length (c .net)) a 0 (length (c .net)))) → shortOutput count (outputLengths out) ≡ false → new ≡ writtenPieces (joinWords (entriesFrom (length (c .net)) a 0 (length (c .net)))) out
+  pub finished : (new : SegmentColumns) (a : List ℕ) (count m : ℕ) → Lists c m → ((i : ℕ) → segmentAt c i .net < 4294967296) → TableInOrder c a
+      → count ≡ length (joinedPieces (entriesFrom (length (c .net)) a 0 (length (c .net)))) → shortOutput count (outputLengths out) ≡ false → new ≡ writtenPieces (joinedPieces (entriesFrom (length (c .net)) a 0 (length (c .net)))) out
       → Ended (Joined count (length (c .net) - count)) new
   finished new a count m l nets o n s w =
       let j = n ∙ joined-count c a o in

@@ -7,7 +7,7 @@ use native.Mathlib.Omega.{arith}
 use lib.ListN.{length}
 use Rattle.laws.specs.Lists.{put, bit}
 use Rattle.joining.specs.declared.piece.Piece.{Piece}
-use Rattle.joining.specs.Inner.Pieces.{touchesPiece, nextPiece, begun, runFrom, joinWords}
+use Rattle.joining.specs.Inner.Pieces.{touchesPiece, nextPiece, begun, joinPiecesFrom, joinedPieces}
 use Rattle.join_call.specs.Inner.Table.{placed, entriesFrom}
 
 -- ---- the pieces from a place on
@@ -20,29 +20,29 @@ unfolding entriesFrom
 entries-none a n k h = let e : n - k ≡ 0 = omega arith in ap (entriesFrom n a k) e
 
 abbrev pub left : List ℕ → ℕ → ℕ → Piece → List Piece
-left a n k c = runFrom c (entriesFrom n a k (n - k))
+left a n k c = joinPiecesFrom c (entriesFrom n a k (n - k))
 
 pub left-next : (a : List ℕ) (n k : ℕ) (c : Piece) → k < n → left a n k c ≡ put (not (touchesPiece c (placed n a k))) c (left a n (k + 1) (nextPiece c (placed n a k)))
-unfolding runFrom
-left-next a n k c h = ap (runFrom c) (entries-next a n k h)
+unfolding joinPiecesFrom
+left-next a n k c h = ap (joinPiecesFrom c) (entries-next a n k h)
 
 pub left-last : (a : List ℕ) (n k : ℕ) (c : Piece) → n ≤ k → left a n k c ≡ c ∷ []
-unfolding runFrom
-left-last a n k c h = ap (runFrom c) (entries-none a n k h)
+unfolding joinPiecesFrom
+left-last a n k c h = ap (joinPiecesFrom c) (entries-none a n k h)
 
-pub whole-none : (a : List ℕ) (n : ℕ) → n ≡ 0 → joinWords (entriesFrom n a 0 n) ≡ []
-unfolding joinWords entriesFrom
+pub whole-none : (a : List ℕ) (n : ℕ) → n ≡ 0 → joinedPieces (entriesFrom n a 0 n) ≡ []
+unfolding joinedPieces entriesFrom
 whole-none a n e = rw e
 
-pub whole-first : (a : List ℕ) (n : ℕ) → (n ≡ 0 → ⊥) → joinWords (entriesFrom n a 0 n) ≡ left a n 1 (placed n a 0)
-unfolding joinWords entriesFrom
-whole-first a n h = let e : n ≡ suc (n - 1) = omega arith in ap (λ (m : ℕ). joinWords (entriesFrom n a 0 m)) e
+pub whole-first : (a : List ℕ) (n : ℕ) → (n ≡ 0 → ⊥) → joinedPieces (entriesFrom n a 0 n) ≡ left a n 1 (placed n a 0)
+unfolding joinedPieces entriesFrom
+whole-first a n h = let e : n ≡ suc (n - 1) = omega arith in ap (λ (m : ℕ). joinedPieces (entriesFrom n a 0 m)) e
 
 -- ---- counting
 pub record Counting (a : List ℕ) (n : ℕ) (c : Piece) (count k : ℕ) : Type 0 where
   pub small : k ≤ n
   pub fewer : count < k
-  pub total : length (joinWords (entriesFrom n a 0 n)) ≡ count + length (left a n k c)
+  pub total : length (joinedPieces (entriesFrom n a 0 n)) ≡ count + length (left a n k c)
 
 pub count-start : (a : List ℕ) (n : ℕ) (c : Piece) → (n ≡ 0 → ⊥) → c ≡ placed n a 0 → Counting a n c 0 1
 count-start a n c h e = record { small = omega arith; fewer = omega arith; total = ap length (whole-first a n h ∙ ap (left a n 1) (sym e)) ∙ omega arith }
@@ -64,5 +64,5 @@ count-next a n c d x count m k i h e f g =
     few true = omega arith
     few false = omega arith
 
-pub count-end : (a : List ℕ) (n : ℕ) (c : Piece) (count k : ℕ) → Counting a n c count k → n ≤ k → count + 1 ≡ length (joinWords (entriesFrom n a 0 n))
+pub count-end : (a : List ℕ) (n : ℕ) (c : Piece) (count k : ℕ) → Counting a n c count k → n ≤ k → count + 1 ≡ length (joinedPieces (entriesFrom n a 0 n))
 count-end a n c count k i h = let e = ap length (left-last a n k c h) in omega (arith, i .total)

@@ -26,46 +26,46 @@ use Rattle.drawing.specs.Entries.{Segment, SegmentColumns, segments}
 use Rattle.drawing.specs.Inner.Entries.{segmentAt}
 use Rattle.drawing.proofs.EntryLaws.{length-segments, segments-at}
 use Rattle.joining.specs.declared.piece.Piece.{Piece}
-use Rattle.joining.specs.Joined.{canonical, pieceRow, inOrder}
+use Rattle.joining.specs.Joined.{canonicalZeros, pieceRow, inOrder}
 use Rattle.joining.specs.Inner.Pieces.{pieceOf}
-use Rattle.join_call.specs.Inner.Table.{pieceWords, pieceFrom, placed, entriesFrom, Lists, Gathered, InOrder}
+use Rattle.join_call.specs.Inner.Table.{pieceWords, pieceFrom, placed, entriesFrom, Lists, Gathered, TableInOrder}
 use Rattle.joining.proofs.LineRows.{Under, lead}
 use Rattle.joining.proofs.Canonical.{Canonical}
 use Rattle.joining.proofs.Merging.{rows-order}
-use Rattle.joining.proofs.Joins.{piece-of-row, canonical-all}
+use Rattle.joining.proofs.JoinedLists.{piece-of-row, canonical-all}
 
 -- ---- one row
 pub words-wide : (p : Piece) → length (pieceWords p) ≡ 4
 unfolding pieceWords
 words-wide p = refl
 
-pub four-stores : (s : List ℕ) (at : ℕ) (p : Piece) → at + 4 ≤ length s → set (set (set (set s at (p .head)) (at + 1) (p .line)) (at + 2) (p .start)) (at + 3) (p .end) ≡ paste s at (pieceWords p) 4
+pub four-stores : (s : List ℕ) (at : ℕ) (p : Piece) → at + 4 ≤ length s → set (set (set (set s at (p .«net_and_orientation»)) (at + 1) (p .fixed)) (at + 2) (p .start)) (at + 3) (p .end) ≡ paste s at (pieceWords p) 4
 unfolding pieceWords
 four-stores s at p h =
     let one : at + 1 ≡ suc at = omega arith in
     let two : at + 2 ≡ suc (suc at) = omega arith in
     let three : at + 3 ≡ suc (suc (suc at)) = omega arith in
-    (λ i. set (set (set (set s at (p .head)) (one i) (p .line)) (two i) (p .start)) (three i) (p .end)) ∙ sets-eq (p .head ∷ p .line ∷ p .start ∷ p .end ∷ []) s at h
+    (λ i. set (set (set (set s at (p .«net_and_orientation»)) (one i) (p .fixed)) (two i) (p .start)) (three i) (p .end)) ∙ sets-eq (p .«net_and_orientation» ∷ p .fixed ∷ p .start ∷ p .end ∷ []) s at h
 
 -- ---- one row after the other
 pub gathered-none : (c : SegmentColumns) (s : List ℕ) → Gathered c 0 s s
 gathered-none c s = record { same = refl; rows = λ j h. absurd (omega arith) }
 
-pub gathered-next : (c : SegmentColumns) (i : ℕ) (s r q : List ℕ) (p : Piece) → Gathered c i s r → length (c .net) + 4 * i + 4 ≤ length s → p ≡ pieceOf (canonical (segmentAt c i)) → q ≡ paste r (length (c .net) + 4 * i) (pieceWords p) 4 → Gathered c (i + 1) s q
+pub gathered-next : (c : SegmentColumns) (i : ℕ) (s r q : List ℕ) (p : Piece) → Gathered c i s r → length (c .net) + 4 * i + 4 ≤ length s → p ≡ pieceOf (canonicalZeros (segmentAt c i)) → q ≡ paste r (length (c .net) + 4 * i) (pieceWords p) 4 → Gathered c (i + 1) s q
 gathered-next c i s r q p g h e w =
     let room : length (c .net) + 4 * i + 4 ≤ length r = omega (arith, g .same) in
     record { same = ap length w ∙ length-paste r (length (c .net) + 4 * i) (pieceWords p) 4 room (omega (arith, words-wide p)) ∙ g .same; rows = rows room }
   where
-    rows : length (c .net) + 4 * i + 4 ≤ length r → (j : ℕ) → j < i + 1 → take 4 (drop (length (c .net) + 4 * j) q) ≡ pieceWords (pieceOf (canonical (segmentAt c j)))
+    rows : length (c .net) + 4 * i + 4 ≤ length r → (j : ℕ) → j < i + 1 → take 4 (drop (length (c .net) + 4 * j) q) ≡ pieceWords (pieceOf (canonicalZeros (segmentAt c j)))
     rows room j k = elim (le-or-lt i j) [
-      | inl l ↦ let same : j ≡ i = omega arith in ap (λ (z : ℕ). take 4 (drop (length (c .net) + 4 * z) q)) same ∙ row-there r q (pieceWords p) (length (c .net) + 4 * i) 4 room (words-wide p) w ∙ ap pieceWords e ∙ ap (λ (z : ℕ). pieceWords (pieceOf (canonical (segmentAt c z)))) (sym same)
+      | inl l ↦ let same : j ≡ i = omega arith in ap (λ (z : ℕ). take 4 (drop (length (c .net) + 4 * z) q)) same ∙ row-there r q (pieceWords p) (length (c .net) + 4 * i) 4 room (words-wide p) w ∙ ap pieceWords e ∙ ap (λ (z : ℕ). pieceWords (pieceOf (canonicalZeros (segmentAt c z)))) (sym same)
       | inr l ↦ part-same (length (c .net) + 4 * j) 4 (length (c .net) + 4 * i) q r (row-front r q (pieceWords p) (length (c .net) + 4 * i) 4 room (words-wide p) w) (omega arith) ∙ g .rows j l
     ]
 
 -- ---- the words of a piece in a slice
 pub piece-from : (a : List ℕ) (at : ℕ) (p : Piece) → take 4 (drop at a) ≡ pieceWords p → pieceFrom a at ≡ p
 unfolding pieceWords
-piece-from a at p e = (λ i. record { head = (first ∙ word 0 (omega arith)) i; line = word 1 (omega arith) i; start = word 2 (omega arith) i; end = word 3 (omega arith) i })
+piece-from a at p e = (λ i. record { «net_and_orientation» = (first ∙ word 0 (omega arith)) i; fixed = word 1 (omega arith) i; start = word 2 (omega arith) i; end = word 3 (omega arith) i })
   where
     first : getD a at 0 ≡ getD a (at + 0) 0
     first = let z : at ≡ at + 0 = omega arith in ap (λ (j : ℕ). getD a j 0) z
@@ -122,7 +122,7 @@ module _ (c : SegmentColumns) (s r q o : List ℕ) (l : Lists c (length s)) (g :
   n = length (c .net)
 
   abbrev entry : ℕ → Segment
-  entry i = canonical (segmentAt c i)
+  entry i = canonicalZeros (segmentAt c i)
 
   long : 5 * n ≤ length r
   long = omega (arith, g .same, l .room)
@@ -137,15 +137,15 @@ module _ (c : SegmentColumns) (s r q o : List ℕ) (l : Lists c (length s)) (g :
   unfolding before
   agree i j p q h = words-order (entry i) (entry j) i j (rw (row-at i (upTo-below n i p), row-at j (upTo-below n j q)) at h)
 
-  entries : map entry (upTo n) ≡ map canonical (segments c)
-  entries = upTo-placed (map canonical (segments c)) entry n (length-map (segments c) canonical ∙ length-segments c (l .agree)) (λ i h. List·getD-map canonical (segments c) i (segmentAt c 0) ∙ ap canonical (segments-at c (l .agree) (segmentAt c 0) i h))
+  entries : map entry (upTo n) ≡ map canonicalZeros (segments c)
+  entries = upTo-placed (map canonicalZeros (segments c)) entry n (length-map (segments c) canonicalZeros ∙ length-segments c (l .agree)) (λ i h. List·getD-map canonicalZeros (segments c) i (segmentAt c 0) ∙ ap canonicalZeros (segments-at c (l .agree) (segmentAt c 0) i h))
 
-  in-place : map entry (take n o) ≡ sortBy inOrder (map canonical (segments c))
+  in-place : map entry (take n o) ≡ sortBy inOrder (map canonicalZeros (segments c))
   in-place =
       ap (map entry) (order .column)
-      ∙ agreeing-entries (drop n r) 4 (upTo n) entry pieceRow agree Canonical piece-of-row (subst (All Canonical) (sym entries) (canonical-all (segments c) (l .fit))) (map canonical (segments c)) (perm-eq entries)
+      ∙ agreeing-entries (drop n r) 4 (upTo n) entry pieceRow agree Canonical piece-of-row (subst (All Canonical) (sym entries) (canonical-all (segments c) (l .fit))) (map canonicalZeros (segments c)) (perm-eq entries)
 
-  pub ordered : InOrder c o
+  pub ordered : TableInOrder c o
   ordered =
       let many : 5 * n ≤ length o = omega (arith, order .same, long) in
       let small : (k : ℕ) → k < n → getD o k 0 < n = λ k h. first-at (λ i. i < n) 0 n o (omega (arith, many)) (order .small) k h in

@@ -4,8 +4,8 @@ ghost use Prim.Native.Nat.{_+_, _≤_, _<_};
 ghost use lib.ListN.{length};
 ghost use lib.Seq.{paste};
 ghost use Rattle.drawing.specs.Entries.{segmentColumns};
-ghost use Rattle.joining.specs.Inner.Pieces.{begun, joinWords};
-ghost use Rattle.join_call.specs.Inner.Table.{pieceWords, placed, entriesFrom, Lists, Gathered, Tabled, InOrder};
+ghost use Rattle.joining.specs.Inner.Pieces.{begun, joinedPieces};
+ghost use Rattle.join_call.specs.Inner.Table.{pieceWords, placed, entriesFrom, Lists, Gathered, Tabled, TableInOrder};
 use joining::Piece;
 use joining::next;
 use joining::piece_of;
@@ -17,8 +17,8 @@ fn put_row(a: &mut [u64], at: usize, p: Piece)
     requires { ⌜ at + 4 ≤ length (now a) ⌝ }
     ensures { λ _. ⌜ now (a .exit) ≡ paste (now (a .entry)) at (pieceWords p) 4 ⌝ }
 {
-    a[at] = p.head;
-    a[at + 1] = p.line;
+    a[at] = p.net_and_orientation;
+    a[at + 1] = p.fixed;
     a[at + 2] = p.start;
     a[at + 3] = p.end;
 }
@@ -46,7 +46,7 @@ pub(crate) fn order_pieces(
     end: &[f64],
 )
     requires { ⌜ Lists (segmentColumns (now net) (now orientation) (now fixed) (now start) (now end)) (length (now a)) ⌝ }
-    ensures { λ _. ⌜ InOrder (segmentColumns (now (net .entry)) (now (orientation .entry)) (now (fixed .entry)) (now (start .entry)) (now (end .entry))) (now (a .exit)) ⌝ }
+    ensures { λ _. ⌜ TableInOrder (segmentColumns (now (net .entry)) (now (orientation .entry)) (now (fixed .entry)) (now (start .entry)) (now (end .entry))) (now (a .exit)) ⌝ }
 {
     gather(a, net, orientation, fixed, start, end);
     let n = net.len();
@@ -66,8 +66,8 @@ pub(crate) fn piece_at(a: &[u64], n: usize, k: usize) -> Piece
     let start = a[at + 2];
     let end = a[at + 3];
     Piece {
-        head: head,
-        line: line,
+        net_and_orientation: head,
+        fixed: line,
         start: start,
         end: end,
     }
@@ -87,7 +87,7 @@ fn one_more(count: usize, c: Piece, x: Piece) -> usize
 // How many pieces the n pieces of the table join to.
 pub(crate) fn count_pieces(a: &[u64], n: usize) -> usize
     requires { ⌜ Tabled n (now a) ⌝ }
-    ensures { λ r. ⌜ r ≡ length (joinWords (entriesFrom n (now (a .entry)) 0 n)) ⌝ }
+    ensures { λ r. ⌜ r ≡ length (joinedPieces (entriesFrom n (now (a .entry)) 0 n)) ⌝ }
 {
     if n == 0 {
         return 0;

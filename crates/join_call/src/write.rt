@@ -4,7 +4,7 @@ ghost use mathlib.Core.Path.{_≡_};
 ghost use Prim.Native.Nat.{_+_};
 ghost use lib.ListN.{length};
 ghost use Rattle.drawing.specs.Entries.{segmentColumns};
-ghost use Rattle.joining.specs.Inner.Pieces.{touchesPiece, begun, joinWords};
+ghost use Rattle.joining.specs.Inner.Pieces.{touchesPiece, begun, joinedPieces};
 ghost use Rattle.join_call.specs.Inner.Table.{Tabled, Room, entriesFrom, putPiece, writtenPieces};
 use crate::table::piece_at;
 use floats::float_of_key;
@@ -24,11 +24,11 @@ fn write_piece(
     requires { ⌜ Room (at + 1) (segmentColumns (now net) (now orientation) (now fixed) (now start) (now end)) ⌝ }
     ensures { λ _. ⌜ segmentColumns (now (net .exit)) (now (orientation .exit)) (now (fixed .exit)) (now (start .exit)) (now (end .exit)) ≡ putPiece (segmentColumns (now (net .entry)) (now (orientation .entry)) (now (fixed .entry)) (now (start .entry)) (now (end .entry))) at p ⌝ }
 {
-    let line = float_of_key(p.line);
+    let line = float_of_key(p.fixed);
     let first = float_of_key(p.start);
     let last = float_of_key(p.end);
-    net[at] = (p.head / 2 % 4294967296) as u32;
-    orientation[at] = (1 - p.head % 2) as u8;
+    net[at] = (p.net_and_orientation / 2 % 4294967296) as u32;
+    orientation[at] = (1 - p.net_and_orientation % 2) as u8;
     fixed[at] = line;
     start[at] = first;
     end[at] = last;
@@ -66,8 +66,8 @@ pub(crate) fn write_pieces(
     start: &mut [f64],
     end: &mut [f64],
 )
-    requires { ⌜ Tabled n (now a) × Room (length (joinWords (entriesFrom n (now a) 0 n))) (segmentColumns (now net) (now orientation) (now fixed) (now start) (now end)) ⌝ }
-    ensures { λ _. ⌜ segmentColumns (now (net .exit)) (now (orientation .exit)) (now (fixed .exit)) (now (start .exit)) (now (end .exit)) ≡ writtenPieces (joinWords (entriesFrom n (now (a .entry)) 0 n)) (segmentColumns (now (net .entry)) (now (orientation .entry)) (now (fixed .entry)) (now (start .entry)) (now (end .entry))) ⌝ }
+    requires { ⌜ Tabled n (now a) × Room (length (joinedPieces (entriesFrom n (now a) 0 n))) (segmentColumns (now net) (now orientation) (now fixed) (now start) (now end)) ⌝ }
+    ensures { λ _. ⌜ segmentColumns (now (net .exit)) (now (orientation .exit)) (now (fixed .exit)) (now (start .exit)) (now (end .exit)) ≡ writtenPieces (joinedPieces (entriesFrom n (now (a .entry)) 0 n)) (segmentColumns (now (net .entry)) (now (orientation .entry)) (now (fixed .entry)) (now (start .entry)) (now (end .entry))) ⌝ }
 {
     if n == 0 {
         return;

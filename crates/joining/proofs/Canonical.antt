@@ -21,7 +21,7 @@ use Rattle.drawing.specs.Held.{FitSegment}
 use Rattle.drawing.proofs.Directions.{taken-kept}
 use Rattle.drawing.proofs.Fit.{line-of}
 use Rattle.joining.specs.Points.{Finite, NetLine, netLineOf}
-use Rattle.joining.specs.Joined.{canonical, lineRow}
+use Rattle.joining.specs.Joined.{canonicalZeros, lineRow}
 
 -- ---- numbers without -0, by their keys
 pub record Number (x : Float) : Type 0 where
@@ -51,7 +51,7 @@ zero-up x p = is-true (le x (canonicalZero x)) (→le binary64 x (canonicalZero 
 pub zero-down : (x : Float) → Finite x → le (canonicalZero x) x ≡ true
 zero-down x p = is-true (le (canonicalZero x) x) (→le binary64 (canonicalZero x) x (fin-num binary64 (canonicalZero x) (canonical-fin binary64 x p)) (fin-num binary64 x p) (let e = canonical-rank binary64 x (p .0) in omega arith))
 
--- ---- canonical segments
+-- ---- canonicalZeros segments
 pub record Canonical (s : Segment) : Type 0 where
   pub orientation : s .orientation ≤ 1
   pub fixed : Number (s .fixed)
@@ -73,8 +73,8 @@ module _ (s : Segment) (f : FitSegment s) where
   pub finite-end : Finite (s .end)
   finite-end = (f .held .end, line-of s (f .passes) .end)
 
-  pub canonical-strict : Strict (canonical s)
-  unfolding canonical
+  pub canonical-strict : Strict (canonicalZeros s)
+  unfolding canonicalZeros
   canonical-strict =
       let x = canonicalZero (s .start) in
       let y = canonicalZero (s .end) in
@@ -86,11 +86,11 @@ module _ (s : Segment) (f : FitSegment s) where
       ranks : (a b c d : ℕ) → a < b → c ≡ a → d ≡ b → c < d
       ranks a b c d h p q = omega arith
 
-  pub canonical-is : Canonical (canonical s)
-  unfolding canonical
+  pub canonical-is : Canonical (canonicalZeros s)
+  unfolding canonicalZeros
   canonical-is = record { orientation = line-of s (f .passes) .orientation; fixed = canonical-number (s .fixed) finite-fixed; start = canonical-number (s .start) finite-start; end = canonical-number (s .end) finite-end; rises = let h = canonical-strict in omega arith }
 
--- ---- a canonical segment whose start is below its end is accepted, and taken as it is
+-- ---- a canonicalZeros segment whose start is below its end is accepted, and taken as it is
 fit-fields : (a b c d e : Bool) → a ≡ false → b ≡ true → c ≡ true → d ≡ true → e ≡ true → (a || not b || not c || not d || not e) ≡ false
 fit-fields a b c d e p q r t u = rw (p, q, r, t, u)
 
@@ -108,7 +108,7 @@ module _ (s : Segment) (p : Canonical s) (h : Strict s) where
   pub canonical-taken : asTaken s ≡ s
   canonical-taken = taken-kept s (lt-asym (s .start) (s .end) strict-rises)
 
--- ---- a canonical segment is known by its line and its ends, and the line by its row
+-- ---- a canonicalZeros segment is known by its line and its ends, and the line by its row
 orientation-one : (o r : ℕ) → o ≤ 1 → r ≤ 1 → 1 - o ≡ 1 - r → o ≡ r
 orientation-one o r a b e = omega arith
 

@@ -18,11 +18,11 @@ use Rattle.drawing.specs.Held.{FitSegment}
 use Rattle.drawing.specs.Refusals.{firstOf}
 use Rattle.joining.specs.declared.answer.JoinAnswer.the-variants.{Joined, Refused}
 use Rattle.joining.specs.Points.{SamePoints}
-use Rattle.joining.specs.Joined.{canonical, pieceRow, touches, extended, joinFrom, pieces, joined}
+use Rattle.joining.specs.Joined.{canonicalZeros, pieceRow, touches, extended, joinFrom, pieces, joined}
 use Rattle.joining.specs.Conditions.{joinConditions}
 use Rattle.joining.specs.Answer.{joinAnswer, written, outputAfter}
 use Rattle.joining.proofs.Halves.{halves}
-use Rattle.joining.proofs.Joins.{one-list}
+use Rattle.joining.proofs.JoinedLists.{one-list}
 
 abbrev one : Float
 one = ofBits binary64 0x3ff0_0000_0000_0000
@@ -33,37 +33,37 @@ entry n o f s e = record { net = n; orientation = o; fixed = ofBits binary64 f; 
 -- ---- lists
 -- 0 to 5 and 5 to 9: one piece
 pub touching-ends : joined (entry 1 1 0 0 0x4014_0000_0000_0000 ∷ entry 1 1 0 0x4014_0000_0000_0000 0x4022_0000_0000_0000 ∷ []) ≡ entry 1 1 0 0 0x4022_0000_0000_0000 ∷ []
-unfolding joined pieces joinFrom touches extended canonical pieceRow sortBy insertBy rowLe keyOf key toBits size canonicalZero ofBits
+unfolding joined pieces joinFrom touches extended canonicalZeros pieceRow sortBy insertBy rowLe keyOf key toBits size canonicalZero ofBits
 touching-ends = refl
 
 -- 0 to 1 and the next number after 1 to 2: two, though no number of binary64 lies between
 pub neighbours : joined (entry 1 1 0 0x3ff0_0000_0000_0001 0x4000_0000_0000_0000 ∷ entry 1 1 0 0 0x3ff0_0000_0000_0000 ∷ []) ≡ entry 1 1 0 0 0x3ff0_0000_0000_0000 ∷ entry 1 1 0 0x3ff0_0000_0000_0001 0x4000_0000_0000_0000 ∷ []
-unfolding joined pieces joinFrom touches extended canonical pieceRow sortBy insertBy rowLe keyOf key toBits size canonicalZero ofBits
+unfolding joined pieces joinFrom touches extended canonicalZeros pieceRow sortBy insertBy rowLe keyOf key toBits size canonicalZero ofBits
 neighbours = refl
 
 -- with u the smallest positive number, 0 to u and 2 u to 3 u: two, though no multiple of u lies between
 pub smallest : joined (entry 1 1 0 0 1 ∷ entry 1 1 0 2 3 ∷ []) ≡ entry 1 1 0 0 1 ∷ entry 1 1 0 2 3 ∷ []
-unfolding joined pieces joinFrom touches extended canonical pieceRow sortBy insertBy rowLe keyOf key toBits size canonicalZero ofBits
+unfolding joined pieces joinFrom touches extended canonicalZeros pieceRow sortBy insertBy rowLe keyOf key toBits size canonicalZero ofBits
 smallest = refl
 
 -- -1 to -0 and +0 to 1, on the lines -0 and +0: one, from -1 to 1 on +0
 pub zeros : joined (entry 1 1 0x8000_0000_0000_0000 0xbff0_0000_0000_0000 0x8000_0000_0000_0000 ∷ entry 1 1 0 0 0x3ff0_0000_0000_0000 ∷ []) ≡ entry 1 1 0 0xbff0_0000_0000_0000 0x3ff0_0000_0000_0000 ∷ []
-unfolding joined pieces joinFrom touches extended canonical pieceRow sortBy insertBy rowLe keyOf key toBits size canonicalZero ofBits
+unfolding joined pieces joinFrom touches extended canonicalZeros pieceRow sortBy insertBy rowLe keyOf key toBits size canonicalZero ofBits
 zeros = refl
 
 -- 0 to 10, 2 to 3 and 9 to 12: one, from 0 to 12, since the greatest end counts
 pub covered : joined (entry 1 1 0 0 0x4024_0000_0000_0000 ∷ entry 1 1 0 0x4000_0000_0000_0000 0x4008_0000_0000_0000 ∷ entry 1 1 0 0x4022_0000_0000_0000 0x4028_0000_0000_0000 ∷ []) ≡ entry 1 1 0 0 0x4028_0000_0000_0000 ∷ []
-unfolding joined pieces joinFrom touches extended canonical pieceRow sortBy insertBy rowLe keyOf key toBits size canonicalZero ofBits
+unfolding joined pieces joinFrom touches extended canonicalZeros pieceRow sortBy insertBy rowLe keyOf key toBits size canonicalZero ofBits
 covered = refl
 
 -- one extent, horizontal and vertical: two, the horizontal one first; net 0 before the greatest net
 pub order : joined (entry 4294967295 1 0 0 0x3ff0_0000_0000_0000 ∷ entry 0 0 0 0 0x3ff0_0000_0000_0000 ∷ entry 0 1 0 0 0x3ff0_0000_0000_0000 ∷ []) ≡ entry 0 1 0 0 0x3ff0_0000_0000_0000 ∷ entry 0 0 0 0 0x3ff0_0000_0000_0000 ∷ entry 4294967295 1 0 0 0x3ff0_0000_0000_0000 ∷ []
-unfolding joined pieces joinFrom touches extended canonical pieceRow sortBy insertBy rowLe keyOf key toBits size canonicalZero ofBits
+unfolding joined pieces joinFrom touches extended canonicalZeros pieceRow sortBy insertBy rowLe keyOf key toBits size canonicalZero ofBits
 order = refl
 
 -- the greatest finite numbers
 pub greatest : joined (entry 1 0 0 0xffef_ffff_ffff_ffff 0 ∷ entry 1 0 0 0 0x7fef_ffff_ffff_ffff ∷ []) ≡ entry 1 0 0 0xffef_ffff_ffff_ffff 0x7fef_ffff_ffff_ffff ∷ []
-unfolding joined pieces joinFrom touches extended canonical pieceRow sortBy insertBy rowLe keyOf key toBits size canonicalZero ofBits
+unfolding joined pieces joinFrom touches extended canonicalZeros pieceRow sortBy insertBy rowLe keyOf key toBits size canonicalZero ofBits
 greatest = refl
 
 -- ---- any number of equal segments: one piece. 4,096 of them leave 1, and 4,095 went away
@@ -76,11 +76,11 @@ module _ (s : Segment) (f : FitSegment s) where
   each-is (suc n) x (inl e) = e
   each-is (suc n) x (inr m) = each-is n x m
 
-  alone : joined (s ∷ []) ≡ canonical s ∷ []
+  alone : joined (s ∷ []) ≡ canonicalZeros s ∷ []
   unfolding joined pieces joinFrom sortBy insertBy
   alone = refl
 
-  pub equal-ones : (n : ℕ) → joined (replicate (suc n) s) ≡ canonical s ∷ []
+  pub equal-ones : (n : ℕ) → joined (replicate (suc n) s) ≡ canonicalZeros s ∷ []
   equal-ones n = one-list halves (replicate (suc n) s) (s ∷ []) (all-equal (suc n)) (f, tt) same ∙ alone
     where
       same : SamePoints halves (replicate (suc n) s) (s ∷ [])
@@ -102,11 +102,11 @@ nothing = segmentColumns [] [] [] [] []
 
 -- 9 down to 5, and 0 to 5: one, from 0 to 9, and 1 went away
 pub reversed : joinAnswer (columnsOf (entry 1 1 0 0x4022_0000_0000_0000 0x4014_0000_0000_0000 ∷ entry 1 1 0 0 0x4014_0000_0000_0000 ∷ [])) (lent 1 1 1 1 1) ≡ Joined 1 1
-unfolding joinAnswer joinConditions segmentListConditions segmentsDiffer differ tooMany shortOutput unfitSegment unfitFields some-of firstOf segments segmentsOf columnsOf joined pieces joinFrom touches extended canonical pieceRow sortBy insertBy rowLe keyOf key toBits size canonicalZero lesserOf greaterOf lt ofBits
+unfolding joinAnswer joinConditions segmentListConditions segmentsDiffer differ tooMany shortOutput unfitSegment unfitFields some-of firstOf segments segmentsOf columnsOf joined pieces joinFrom touches extended canonicalZeros pieceRow sortBy insertBy rowLe keyOf key toBits size canonicalZero lesserOf greaterOf lt ofBits
 reversed = refl
 
 pub reversed-written : outputAfter (columnsOf (entry 1 1 0 0x4022_0000_0000_0000 0x4014_0000_0000_0000 ∷ entry 1 1 0 0 0x4014_0000_0000_0000 ∷ [])) (lent 1 1 1 1 1) ≡ columnsOf (entry 1 1 0 0 0x4022_0000_0000_0000 ∷ [])
-unfolding outputAfter written joinConditions segmentListConditions segmentsDiffer differ tooMany shortOutput unfitSegment unfitFields some-of firstOf segments segmentsOf columnsOf joined pieces joinFrom touches extended canonical pieceRow sortBy insertBy rowLe keyOf key toBits size canonicalZero lesserOf greaterOf lt ofBits
+unfolding outputAfter written joinConditions segmentListConditions segmentsDiffer differ tooMany shortOutput unfitSegment unfitFields some-of firstOf segments segmentsOf columnsOf joined pieces joinFrom touches extended canonicalZeros pieceRow sortBy insertBy rowLe keyOf key toBits size canonicalZero lesserOf greaterOf lt ofBits
 reversed-written = refl
 
 -- two pieces of two nets, and columns of 3, 2, 9, 9 and 9 entries: accepted, and what stood past them stays
@@ -114,11 +114,11 @@ abbrev two-nets : SegmentColumns
 two-nets = columnsOf (entry 2 1 0 0 0x3ff0_0000_0000_0000 ∷ entry 1 0 0 0 0x3ff0_0000_0000_0000 ∷ [])
 
 pub different-lengths : joinAnswer two-nets (lent 3 2 9 9 9) ≡ Joined 2 0
-unfolding joinAnswer joinConditions segmentListConditions segmentsDiffer differ tooMany shortOutput unfitSegment unfitFields some-of firstOf segments segmentsOf columnsOf joined pieces joinFrom touches extended canonical pieceRow sortBy insertBy rowLe keyOf key toBits size canonicalZero lesserOf greaterOf lt ofBits
+unfolding joinAnswer joinConditions segmentListConditions segmentsDiffer differ tooMany shortOutput unfitSegment unfitFields some-of firstOf segments segmentsOf columnsOf joined pieces joinFrom touches extended canonicalZeros pieceRow sortBy insertBy rowLe keyOf key toBits size canonicalZero lesserOf greaterOf lt ofBits
 different-lengths = refl
 
 pub kept-past : outputAfter two-nets (lent 3 2 9 9 9) ≡ segmentColumns (1 ∷ 2 ∷ 7 ∷ []) (0 ∷ 1 ∷ []) (ofBits binary64 0 ∷ ofBits binary64 0 ∷ replicate 7 one) (ofBits binary64 0 ∷ ofBits binary64 0 ∷ replicate 7 one) (one ∷ one ∷ replicate 7 one)
-unfolding outputAfter written joinConditions segmentListConditions segmentsDiffer differ tooMany shortOutput unfitSegment unfitFields some-of firstOf segments segmentsOf columnsOf joined pieces joinFrom touches extended canonical pieceRow sortBy insertBy rowLe keyOf key toBits size canonicalZero lesserOf greaterOf lt ofBits
+unfolding outputAfter written joinConditions segmentListConditions segmentsDiffer differ tooMany shortOutput unfitSegment unfitFields some-of firstOf segments segmentsOf columnsOf joined pieces joinFrom touches extended canonicalZeros pieceRow sortBy insertBy rowLe keyOf key toBits size canonicalZero lesserOf greaterOf lt ofBits
 kept-past = refl
 
 -- three pieces, and the same columns: 8, and nothing is written
@@ -126,23 +126,23 @@ abbrev three-nets : SegmentColumns
 three-nets = columnsOf (entry 2 1 0 0 0x3ff0_0000_0000_0000 ∷ entry 1 0 0 0 0x3ff0_0000_0000_0000 ∷ entry 3 0 0 0 0x3ff0_0000_0000_0000 ∷ [])
 
 pub short : joinAnswer three-nets (lent 3 2 9 9 9) ≡ Refused ShortOutput
-unfolding joinAnswer joinConditions segmentListConditions segmentsDiffer differ tooMany shortOutput unfitSegment unfitFields some-of firstOf segments segmentsOf columnsOf joined pieces joinFrom touches extended canonical pieceRow sortBy insertBy rowLe keyOf key toBits size canonicalZero lesserOf greaterOf lt ofBits
+unfolding joinAnswer joinConditions segmentListConditions segmentsDiffer differ tooMany shortOutput unfitSegment unfitFields some-of firstOf segments segmentsOf columnsOf joined pieces joinFrom touches extended canonicalZeros pieceRow sortBy insertBy rowLe keyOf key toBits size canonicalZero lesserOf greaterOf lt ofBits
 short = refl
 
 pub nothing-written : outputAfter three-nets (lent 3 2 9 9 9) ≡ lent 3 2 9 9 9
-unfolding outputAfter written joinConditions segmentListConditions segmentsDiffer differ tooMany shortOutput unfitSegment unfitFields some-of firstOf segments segmentsOf columnsOf joined pieces joinFrom touches extended canonical pieceRow sortBy insertBy rowLe keyOf key toBits size canonicalZero lesserOf greaterOf lt ofBits
+unfolding outputAfter written joinConditions segmentListConditions segmentsDiffer differ tooMany shortOutput unfitSegment unfitFields some-of firstOf segments segmentsOf columnsOf joined pieces joinFrom touches extended canonicalZeros pieceRow sortBy insertBy rowLe keyOf key toBits size canonicalZero lesserOf greaterOf lt ofBits
 nothing-written = refl
 
 -- a NaN and no room: 5; columns that differ and no room: 2
 pub unfit-first : joinAnswer (columnsOf (entry 1 1 0x7ff8_0000_0000_0000 0 0x3ff0_0000_0000_0000 ∷ [])) nothing ≡ Refused InvalidInput
-unfolding joinAnswer joinConditions segmentListConditions segmentsDiffer differ tooMany shortOutput unfitSegment unfitFields some-of firstOf segments segmentsOf columnsOf joined pieces joinFrom touches extended canonical pieceRow sortBy insertBy rowLe keyOf key toBits size canonicalZero lesserOf greaterOf lt ofBits
+unfolding joinAnswer joinConditions segmentListConditions segmentsDiffer differ tooMany shortOutput unfitSegment unfitFields some-of firstOf segments segmentsOf columnsOf joined pieces joinFrom touches extended canonicalZeros pieceRow sortBy insertBy rowLe keyOf key toBits size canonicalZero lesserOf greaterOf lt ofBits
 unfit-first = refl
 
 pub differ-first : joinAnswer (segmentColumns (1 ∷ []) (1 ∷ []) (one ∷ []) (one ∷ []) []) nothing ≡ Refused ColumnsDiffer
-unfolding joinAnswer joinConditions segmentListConditions segmentsDiffer differ tooMany shortOutput unfitSegment unfitFields some-of firstOf segments segmentsOf columnsOf joined pieces joinFrom touches extended canonical pieceRow sortBy insertBy rowLe keyOf key toBits size canonicalZero lesserOf greaterOf lt ofBits
+unfolding joinAnswer joinConditions segmentListConditions segmentsDiffer differ tooMany shortOutput unfitSegment unfitFields some-of firstOf segments segmentsOf columnsOf joined pieces joinFrom touches extended canonicalZeros pieceRow sortBy insertBy rowLe keyOf key toBits size canonicalZero lesserOf greaterOf lt ofBits
 differ-first = refl
 
 -- no segments, and empty columns: accepted, with no piece and none gone
 pub none : joinAnswer nothing nothing ≡ Joined 0 0
-unfolding joinAnswer joinConditions segmentListConditions segmentsDiffer differ tooMany shortOutput unfitSegment unfitFields some-of firstOf segments segmentsOf columnsOf joined pieces joinFrom touches extended canonical pieceRow sortBy insertBy rowLe keyOf key toBits size canonicalZero lesserOf greaterOf lt ofBits
+unfolding joinAnswer joinConditions segmentListConditions segmentsDiffer differ tooMany shortOutput unfitSegment unfitFields some-of firstOf segments segmentsOf columnsOf joined pieces joinFrom touches extended canonicalZeros pieceRow sortBy insertBy rowLe keyOf key toBits size canonicalZero lesserOf greaterOf lt ofBits
 none = refl

@@ -1,4 +1,4 @@
--- Pieces that are apart are the fewest that cover their points: on one track no span of points can reach the starts of two of them. Assumes nothing.
+-- Pieces that are apart are the fewest that cover their points: on one line no span of points can reach the starts of two of them. Assumes nothing.
 use mathlib.Core.Path.{_≡_, refl, sym, ap, _∙_, subst}
 use mathlib.Core.Logic.{_⊎_, inl, inr}
 use mathlib.Core.Bool.{true, _&&_}
@@ -47,7 +47,7 @@ without P (y ∷ m) (inr h) = go (without P m h)
         all Q (inl q) = inl q
         all Q (inr s) = inr (w .all Q s)
 
--- ---- the test of a track
+-- ---- the test of a line
 pub on-line : (t : NetLine) (s : Segment) → Binary64 (t .fixed) → Canonical s → isOn t s ≡ true → netLineOf s ≡ t
 unfolding isOn
 on-line t s b p h =
@@ -68,7 +68,7 @@ module _ (L : NumberLine) (t : NetLine) (b : Binary64 (t .fixed)) where
   abbrev pub In : L .Point → Span → Type 0
   In p y = L .upTo (y .0) p × L .upTo p (y .1)
 
-  -- what the spans reach over, from the start of some piece of the track on, the pieces cover
+  -- what the spans reach over, from the start of some piece of the line on, the pieces cover
   abbrev pub Kept : List Segment → List Span → Type 0
   Kept l m = (q : Segment) → Mem q l → netLineOf q ≡ t → (p : L .Point) → L .upTo (L .at (q .start)) p → Some (In p) m → Some (Over L t p) l
 
@@ -86,7 +86,7 @@ module _ (L : NumberLine) (t : NetLine) (b : Binary64 (t .fixed)) where
           let v = back L (q .start) (a .end) (z .start) (ps .0 .end) (L .trans (L .at (q .start)) p (L .at (a .end)) f (o .to)) in
           absurd (omega arith)
 
-  -- no span that reaches the start of a reaches the start of a later piece of the track
+  -- no span that reaches the start of a reaches the start of a later piece of the line
   apart-spans : (a : Segment) (l : List Segment) (m : List Span) → All Canonical (a ∷ l) → Normal (a ∷ l) → Kept (a ∷ l) m → netLineOf a ≡ t → (y : Span) → ((Q : Span → Type 0) → Q y → Some Q m) → In (L .at (a .start)) y
       → (q : Segment) → Mem q l → netLineOf q ≡ t → In (L .at (q .start)) y → ⊥
   apart-spans a l m ps n k e y i w q j d v =

@@ -1,4 +1,4 @@
--- The laws of the definitions, a file for each notion; `Joins` has what was asked for.
+-- The laws of the definitions, a file for each notion; `JoinedLists` has what was asked for.
 pub mod LineRows
 pub mod Canonical
 pub mod Spans
@@ -6,7 +6,7 @@ pub mod Merging
 pub mod OneList
 pub mod Halves
 pub mod Fewest
-pub mod Joins
+pub mod JoinedLists
 pub mod PieceLaws
 mod SomeOf
 mod Examples

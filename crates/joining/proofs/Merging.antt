@@ -1,4 +1,4 @@
--- What becomes of canonical entries in order of track and start: their pieces are canonical, apart from each other, and cover the same points. Assumes nothing.
+-- What becomes of canonicalZeros entries in order of line and start: their pieces are canonicalZeros, apart from each other, and cover the same points. Assumes nothing.
 use mathlib.Core.Path.{_≡_, refl, sym, ap, _∙_, subst}
 use mathlib.Core.Logic.{_⊎_, inl, inr, ⊎-elim}
 use mathlib.Core.Bool.{Bool, true, false, _&&_}
@@ -52,7 +52,7 @@ abbrev pub Normal : List Segment → Type 0
 Normal [] = Unit {0}
 Normal (a ∷ l) = ((b : Segment) → Mem b l → Apart a b) × Normal l
 
--- ---- entries that touch are on one track
+-- ---- entries that touch are on one line
 pub record Touching (c x : Segment) : Type 0 where
   pub row : lineRow c ≡ lineRow x
   pub meets : keyOf (x .start) ≤ keyOf (c .end)
@@ -143,7 +143,7 @@ extended-from c x y = refl
 pub extended-sorted : (c x : Segment) (l : List Segment) → Sorted starts (c ∷ x ∷ l) → Sorted starts (extended c x ∷ l)
 extended-sorted c x l s = (λ y m. extended-starts c x y ∙ s .0 y (inr m), s .1 .1)
 
--- ---- the pieces are canonical, none begins before c, and each is apart from the later ones
+-- ---- the pieces are canonicalZeros, none begins before c, and each is apart from the later ones
 pub join-all : (P : Segment → Type 0) → ((c x : Segment) → P c → P x → P (extended c x)) → (c : Segment) (l : List Segment) → All P (c ∷ l) → All P (joinFrom c l)
 join-all P g c [] a = rw join-last a
 join-all P g c (x ∷ l) a = elim (decide (touches c x)) [

@@ -1,4 +1,4 @@
--- Two lists of canonical pieces, each apart from the later ones, that cover the same points are one list. Assumes nothing.
+-- Two lists of canonicalZeros pieces, each apart from the later ones, that cover the same points are one list. Assumes nothing.
 use mathlib.Core.Path.{_≡_, refl, sym, ap, _∙_, subst}
 use mathlib.Core.Logic.{inl, inr}
 use mathlib.Core.Bool.{true, false}
@@ -30,11 +30,11 @@ pub first-starts : (a : Segment) (l : List Segment) → Canonical a → Normal (
 first-starts a l p n y (inl e) = rw e (own starts starts-order a)
 first-starts a l p n y (inr m) = apart-starts a y p (n .0 y m)
 
--- on one track the keys are apart
+-- on one line the keys are apart
 pub apart-keys : (a b : Segment) → lineRow b ≡ lineRow a → Apart a b → keyOf (a .end) < keyOf (b .start)
 apart-keys a b e n = one-above (lineRow b) (lineRow a) (keyOf (b .start)) (keyOf (a .end)) e n
 
--- ---- a number above the end of a, not above z, and not above the start of any piece of a's track
+-- ---- a number above the end of a, not above z, and not above the start of any piece of a's line
 pub record Cut (a : Segment) (z : Float) (l : List Segment) : Type 0 where
   pub at : Float
   pub number : Number at

@@ -13,8 +13,8 @@ use Rattle.floats.specs.Values.{canonicalZero}
 use Rattle.drawing.specs.declared.ends.Ends.{Ends}
 use Rattle.drawing.specs.Entries.{Segment, endsInOrder, asTaken}
 use Rattle.joining.specs.declared.piece.Piece.{Piece}
-use Rattle.joining.specs.Joined.{canonical, touches, extended, joinFrom, pieces}
-use Rattle.joining.specs.Inner.Pieces.{pieceOf, touchesPiece, extendedPiece, nextPiece, begun, runFrom, joinWords}
+use Rattle.joining.specs.Joined.{canonicalZeros, touches, extended, joinFrom, pieces}
+use Rattle.joining.specs.Inner.Pieces.{pieceOf, touchesPiece, extendedPiece, nextPiece, begun, joinPiecesFrom, joinedPieces}
 
 -- ---- the greater of two words
 pub later-second : (a b : ℕ) → a < b → b ≡ cond (ltb a b) b a
@@ -25,31 +25,31 @@ later-first a b h = sym (cond-false (ltb a b) b a (le-ltb a b h))
 
 -- ---- the piece of a segment, from its ends in rising order
 pub piece-made : (s : Segment) (head line start end : ℕ) (ends : Ends) → ends ≡ endsInOrder (s .start) (s .end) → head ≡ 2 * s .net + (1 - s .orientation) → line ≡ keyOf (canonicalZero (s .fixed)) → start ≡ keyOf (canonicalZero (ends .start)) → end ≡ keyOf (canonicalZero (ends .end))
-    → _≡_ {A = Piece} (record { head = head; line = line; start = start; end = end }) (pieceOf (canonical (asTaken s)))
-unfolding pieceOf canonical
-piece-made s head line start end ends o a b c d = (λ i. record { head = a i; line = b i; start = (c ∙ ap (λ (z : Ends). keyOf (canonicalZero (z .start))) o) i; end = (d ∙ ap (λ (z : Ends). keyOf (canonicalZero (z .end))) o) i })
+    → _≡_ {A = Piece} (record { «net_and_orientation» = head; fixed = line; start = start; end = end }) (pieceOf (canonicalZeros (asTaken s)))
+unfolding pieceOf canonicalZeros
+piece-made s head line start end ends o a b c d = (λ i. record { «net_and_orientation» = a i; fixed = b i; start = (c ∙ ap (λ (z : Ends). keyOf (canonicalZero (z .start))) o) i; end = (d ∙ ap (λ (z : Ends). keyOf (canonicalZero (z .end))) o) i })
 
 -- ---- what touches
 module _ (c x : Piece) where
-  pub other-head : (c .head ≡ x .head → ⊥) → false ≡ touchesPiece c x
+  pub other-head : (c .«net_and_orientation» ≡ x .«net_and_orientation» → ⊥) → false ≡ touchesPiece c x
   unfolding touchesPiece
-  other-head n = sym (rw (ne-eqb (c .head) (x .head) n))
+  other-head n = sym (rw (ne-eqb (c .«net_and_orientation») (x .«net_and_orientation») n))
 
-  pub other-line : c .head ≡ x .head → (c .line ≡ x .line → ⊥) → false ≡ touchesPiece c x
+  pub other-line : c .«net_and_orientation» ≡ x .«net_and_orientation» → (c .fixed ≡ x .fixed → ⊥) → false ≡ touchesPiece c x
   unfolding touchesPiece
-  other-line e n = sym (rw (eq-eqb (c .head) (x .head) e, ne-eqb (c .line) (x .line) n))
+  other-line e n = sym (rw (eq-eqb (c .«net_and_orientation») (x .«net_and_orientation») e, ne-eqb (c .fixed) (x .fixed) n))
 
-  pub one-line : c .head ≡ x .head → c .line ≡ x .line → leb (x .start) (c .end) ≡ touchesPiece c x
+  pub one-line : c .«net_and_orientation» ≡ x .«net_and_orientation» → c .fixed ≡ x .fixed → leb (x .start) (c .end) ≡ touchesPiece c x
   unfolding touchesPiece
-  one-line e f = sym (rw (eq-eqb (c .head) (x .head) e, eq-eqb (c .line) (x .line) f))
+  one-line e f = sym (rw (eq-eqb (c .«net_and_orientation») (x .«net_and_orientation») e, eq-eqb (c .fixed) (x .fixed) f))
 
   pub next-apart : touchesPiece c x ≡ false → x ≡ nextPiece c x
   unfolding nextPiece
   next-apart f = sym (cond-false (touchesPiece c x) (extendedPiece c x) x f)
 
-  pub next-grown : (end : ℕ) → touchesPiece c x ≡ true → end ≡ cond (ltb (c .end) (x .end)) (x .end) (c .end) → _≡_ {A = Piece} (record { head = c .head; line = c .line; start = c .start; end = end }) (nextPiece c x)
+  pub next-grown : (end : ℕ) → touchesPiece c x ≡ true → end ≡ cond (ltb (c .end) (x .end)) (x .end) (c .end) → _≡_ {A = Piece} (record { «net_and_orientation» = c .«net_and_orientation»; fixed = c .fixed; start = c .start; end = end }) (nextPiece c x)
   unfolding nextPiece extendedPiece
-  next-grown end t e = (λ i. record { head = c .head; line = c .line; start = c .start; end = e i }) ∙ sym (cond-true (touchesPiece c x) (extendedPiece c x) x t)
+  next-grown end t e = (λ i. record { «net_and_orientation» = c .«net_and_orientation»; fixed = c .fixed; start = c .start; end = e i }) ∙ sym (cond-true (touchesPiece c x) (extendedPiece c x) x t)
 
   pub none-begun : (n : ℕ) → touchesPiece c x ≡ true → n ≡ n + begun c x
   none-begun n t = rw t (omega arith)
@@ -89,7 +89,7 @@ touches-is c x = same (eqb (keyOf (c .fixed)) (keyOf (x .fixed)) && leb (keyOf (
 
 pub extended-is : (c x : Segment) → extendedPiece (pieceOf c) (pieceOf x) ≡ pieceOf (extended c x)
 unfolding extendedPiece pieceOf extended
-extended-is c x = (λ i. record { head = 2 * c .net + (1 - c .orientation); line = keyOf (c .fixed); start = keyOf (c .start); end = pick (ltb (keyOf (c .end)) (keyOf (x .end))) i })
+extended-is c x = (λ i. record { «net_and_orientation» = 2 * c .net + (1 - c .orientation); fixed = keyOf (c .fixed); start = keyOf (c .start); end = pick (ltb (keyOf (c .end)) (keyOf (x .end))) i })
   where
     pick : (b : Bool) → cond b (keyOf (x .end)) (keyOf (c .end)) ≡ keyOf (cond b (x .end) (c .end))
     pick true = refl
@@ -104,11 +104,11 @@ next-is c x = (λ i. cond (touches-is c x i) (extended-is c x i) (pieceOf x)) �
     pick false = refl
 
 -- ---- so their runs are the pieces of the runs
-run-is : (c : Segment) (l : List Segment) → runFrom (pieceOf c) (map pieceOf l) ≡ map pieceOf (joinFrom c l)
-unfolding runFrom joinFrom
+run-is : (c : Segment) (l : List Segment) → joinPiecesFrom (pieceOf c) (map pieceOf l) ≡ map pieceOf (joinFrom c l)
+unfolding joinPiecesFrom joinFrom
 run-is c [] = refl
 run-is c (x ∷ l) =
-    (λ i. put (not (touches-is c x i)) (pieceOf c) (runFrom (next-is c x i) (map pieceOf l)))
+    (λ i. put (not (touches-is c x i)) (pieceOf c) (joinPiecesFrom (next-is c x i) (map pieceOf l)))
     ∙ ap (put (not (touches c x)) (pieceOf c)) (run-is (cond (touches c x) (extended c x) x) l)
     ∙ outside (not (touches c x)) (joinFrom (cond (touches c x) (extended c x) x) l)
   where
@@ -116,7 +116,7 @@ run-is c (x ∷ l) =
     outside true r = refl
     outside false r = refl
 
-pub words-join : (l : List Segment) → joinWords (map pieceOf l) ≡ map pieceOf (pieces l)
-unfolding joinWords pieces
+pub words-join : (l : List Segment) → joinedPieces (map pieceOf l) ≡ map pieceOf (pieces l)
+unfolding joinedPieces pieces
 words-join [] = refl
 words-join (x ∷ l) = run-is x l

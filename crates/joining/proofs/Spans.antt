@@ -1,4 +1,4 @@
--- Points and keys: on one track a canonical entry reaches over a point where the keys say so, and a list covers the points that its canonical form covers. Assumes nothing.
+-- Points and keys: on one line a canonicalZeros entry reaches over a point where the keys say so, and a list covers the points that its canonicalZeros form covers. Assumes nothing.
 use mathlib.Core.Path.{_≡_, refl, sym, _∙_, subst}
 use mathlib.Core.Logic.{_⊎_, inl, inr}
 use mathlib.Core.List.{List, [], _∷_, map}
@@ -13,7 +13,7 @@ use Rattle.floats.proofs.Zeros.{canonical-again}
 use Rattle.drawing.specs.Entries.{Segment}
 use Rattle.drawing.specs.Held.{FitSegment}
 use Rattle.joining.specs.Points.{NumberLine, NetLine, netLineOf, Covers}
-use Rattle.joining.specs.Joined.{canonical}
+use Rattle.joining.specs.Joined.{canonicalZeros}
 use Rattle.joining.proofs.Canonical.{Number, Canonical, key-below, key-upto, canonical-number, zero-up, zero-down, finite-start, finite-end}
 
 -- P holds of some entry
@@ -50,7 +50,7 @@ module _ (L : NumberLine) where
         absurd (b .1 (L .trans (b .0) (L .at x) (L .at y) (other (L .at x) (b .0) (b .2)) h))
   ]
 
-  -- ---- a canonical entry over a point of a track
+  -- ---- a canonicalZeros entry over a point of a line
   pub record Over (t : NetLine) (p : L .Point) (s : Segment) : Type 0 where
     pub on : netLineOf s ≡ t
     pub from : L .upTo (L .at (s .start)) p
@@ -69,12 +69,12 @@ module _ (L : NumberLine) where
     some-covers l h = let w = some-mem (Over t p) l h in record { by = w .0; there = w .1; on = w .2 .on; from = w .2 .from; to = w .2 .to }
 
     -- and so it is once zeros are made +0
-    same-line : (s : Segment) → netLineOf (canonical s) ≡ netLineOf s
-    unfolding canonical
+    same-line : (s : Segment) → netLineOf (canonicalZeros s) ≡ netLineOf s
+    unfolding canonicalZeros
     same-line s = λ i. record { net = s .net; orientation = s .orientation; fixed = canonical-again (s .fixed) i }
 
-    into-canonical : (s : Segment) → FitSegment s → Over t p s → Over t p (canonical s)
-    unfolding canonical
+    into-canonical : (s : Segment) → FitSegment s → Over t p s → Over t p (canonicalZeros s)
+    unfolding canonicalZeros
     into-canonical s f o =
         let x = s .start in
         let y = s .end in
@@ -86,8 +86,8 @@ module _ (L : NumberLine) where
           to = L .trans p (L .at y) (L .at (canonicalZero y)) (o .to) (L .keeps y (canonicalZero y) v (canonical-number y v .fin) (zero-up y v));
         }
 
-    out-of-canonical : (s : Segment) → FitSegment s → Over t p (canonical s) → Over t p s
-    unfolding canonical
+    out-of-canonical : (s : Segment) → FitSegment s → Over t p (canonicalZeros s) → Over t p s
+    unfolding canonicalZeros
     out-of-canonical s f o =
         let x = s .start in
         let y = s .end in
@@ -99,10 +99,10 @@ module _ (L : NumberLine) where
           to = L .trans p (L .at (canonicalZero y)) (L .at y) (o .to) (L .keeps (canonicalZero y) y (canonical-number y v .fin) v (zero-down y v));
         }
 
-    pub to-canonical : (l : List Segment) → All FitSegment l → Some (Over t p) l → Some (Over t p) (map canonical l)
+    pub to-canonical : (l : List Segment) → All FitSegment l → Some (Over t p) l → Some (Over t p) (map canonicalZeros l)
     to-canonical (s ∷ l) a (inl o) = inl (into-canonical s (a .0) o)
     to-canonical (s ∷ l) a (inr h) = inr (to-canonical l (a .1) h)
 
-    pub from-canonical : (l : List Segment) → All FitSegment l → Some (Over t p) (map canonical l) → Some (Over t p) l
+    pub from-canonical : (l : List Segment) → All FitSegment l → Some (Over t p) (map canonicalZeros l) → Some (Over t p) l
     from-canonical (s ∷ l) a (inl o) = inl (out-of-canonical s (a .0) o)
     from-canonical (s ∷ l) a (inr h) = inr (from-canonical l (a .1) h)

@@ -1,4 +1,4 @@
--- The joined list (SCOPE 16), computed: zeros are made +0, the segments put in order, and each is taken into the piece before it where the two touch. That this is what was asked for, the fewest pieces that cover the same points, is stated in `Joins`.
+-- The joined list (SCOPE 16), computed: zeros are made +0, the segments put in order, and each is taken into the piece before it where the two touch. That this is what was asked for, the fewest pieces that cover the same points, is stated in `JoinedLists`.
 use mathlib.Core.Bool.{Bool, not, _&&_, cond}
 use mathlib.Core.List.{List, [], _∷_, _++_, map}
 use Prim.Native.Nat.{ℕ, _-_}
@@ -11,8 +11,8 @@ use Rattle.floats.specs.Values.{canonicalZero}
 use Rattle.drawing.specs.Entries.{Segment}
 
 -- SCOPE 16.4: "with zeros made +0"
-unfoldable pub canonical : Segment → Segment
-canonical s = record { net = s .net; orientation = s .orientation; fixed = canonicalZero (s .fixed); start = canonicalZero (s .start); end = canonicalZero (s .end) }
+unfoldable pub canonicalZeros : Segment → Segment
+canonicalZeros s = record { net = s .net; orientation = s .orientation; fixed = canonicalZero (s .fixed); start = canonicalZero (s .start); end = canonicalZero (s .end) }
 
 -- SCOPE 16.4: "ordered by net, horizontal first, then fixed, start and end by totalOrder"; the orientation byte of a horizontal segment is 1
 abbrev pub lineRow : Segment → List ℕ
@@ -43,4 +43,4 @@ pieces (x ∷ l) = joinFrom x l
 
 -- of segments as they are taken
 unfoldable pub joined : List Segment → List Segment
-joined l = pieces (sortBy inOrder (map canonical l))
+joined l = pieces (sortBy inOrder (map canonicalZeros l))

@@ -1,7 +1,7 @@
--- The definitions, one file for each notion. What a reader must believe of the joined list are `Points` and `Joins`; `Joined` is one way to compute it.
+-- The definitions, one file for each notion. What a reader must believe of the joined list are `Points` and `JoinedLists`; `Joined` is one way to compute it.
 pub mod Points
 pub mod Joined
-pub mod Joins
+pub mod JoinedLists
 pub mod Conditions
 pub mod Answer
 -- what only contracts of inner functions and proofs cite

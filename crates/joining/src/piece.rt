@@ -4,21 +4,21 @@ ghost use mathlib.Core.Path.{_≡_};
 ghost use Prim.Native.Nat.{_+_, _-_, _*_};
 ghost use lib.Dec.{ltb};
 ghost use Rattle.drawing.specs.Entries.{asTaken};
-ghost use Rattle.joining.specs.Joined.{canonical};
+ghost use Rattle.joining.specs.Joined.{canonicalZeros};
 ghost use Rattle.joining.specs.Inner.Pieces.{pieceOf, touchesPiece, nextPiece};
 use drawing::ends_in_order;
 use floats::canonical_zero;
 use floats::key_of;
 
 pub struct Piece {
-    pub head: u64,
-    pub line: u64,
+    pub net_and_orientation: u64,
+    pub fixed: u64,
     pub start: u64,
     pub end: u64,
 }
 
 // Twice the net, and one more where the piece is vertical: horizontal ones come first.
-fn head_of(net: u32, orientation: u8) -> u64
+fn net_and_orientation_of(net: u32, orientation: u8) -> u64
     ensures { λ r. ⌜ r ≡ 2 * net + (1 - orientation) ⌝ }
 {
     let even = 2 * (net as u64);
@@ -30,16 +30,16 @@ fn head_of(net: u32, orientation: u8) -> u64
 
 // The piece of a segment as lent: its ends in rising order, zeros made +0.
 pub fn piece_of(net: u32, orientation: u8, fixed: f64, start: f64, end: f64) -> Piece
-    ensures { λ r. ⌜ r ≡ pieceOf (canonical (asTaken (record { net = net; orientation = orientation; fixed = fixed; start = start; end = end }))) ⌝ }
+    ensures { λ r. ⌜ r ≡ pieceOf (canonicalZeros (asTaken (record { net = net; orientation = orientation; fixed = fixed; start = start; end = end }))) ⌝ }
 {
-    let head = head_of(net, orientation);
+    let net_and_orientation = net_and_orientation_of(net, orientation);
     let line = key_of(canonical_zero(fixed));
     let ends = ends_in_order(start, end);
     let first = key_of(canonical_zero(ends.start));
     let last = key_of(canonical_zero(ends.end));
     Piece {
-        head: head,
-        line: line,
+        net_and_orientation: net_and_orientation,
+        fixed: line,
         start: first,
         end: last,
     }
@@ -49,16 +49,16 @@ pub fn piece_of(net: u32, orientation: u8, fixed: f64, start: f64, end: f64) -> 
 pub fn touches(c: Piece, x: Piece) -> bool
     ensures { λ r. ⌜ r ≡ touchesPiece c x ⌝ }
 {
-    if c.head != x.head {
+    if c.net_and_orientation != x.net_and_orientation {
         return false;
     }
-    if c.line != x.line {
+    if c.fixed != x.fixed {
         return false;
     }
     x.start <= c.end
 }
 
-fn later(a: u64, b: u64) -> u64
+fn greater_word(a: u64, b: u64) -> u64
     ensures { λ r. ⌜ r ≡ cond (ltb a b) b a ⌝ }
 {
     if a < b {
@@ -74,10 +74,10 @@ pub fn next(c: Piece, x: Piece) -> Piece
     if !touches(c, x) {
         return x;
     }
-    let end = later(c.end, x.end);
+    let end = greater_word(c.end, x.end);
     Piece {
-        head: c.head,
-        line: c.line,
+        net_and_orientation: c.net_and_orientation,
+        fixed: c.fixed,
         start: c.start,
         end: end,
     }

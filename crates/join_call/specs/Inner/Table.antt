@@ -15,15 +15,15 @@ use Rattle.drawing.specs.Held.{FitSegment}
 use Rattle.drawing.specs.Outputs.{writtenOver}
 use Rattle.joining.specs.declared.piece.Piece.{Piece}
 use Rattle.joining.specs.Inner.Pieces.{pieceOf}
-use Rattle.joining.specs.Joined.{canonical, inOrder}
+use Rattle.joining.specs.Joined.{canonicalZeros, inOrder}
 
 -- ---- the table
 unfoldable pub pieceWords : Piece → List ℕ
-pieceWords p = p .head ∷ p .line ∷ p .start ∷ p .end ∷ []
+pieceWords p = p .«net_and_orientation» ∷ p .fixed ∷ p .start ∷ p .end ∷ []
 
 -- the piece whose words begin at j
 abbrev pub pieceFrom : List ℕ → ℕ → Piece
-pieceFrom a j = record { head = getD a j 0; line = getD a (j + 1) 0; start = getD a (j + 2) 0; end = getD a (j + 3) 0 }
+pieceFrom a j = record { «net_and_orientation» = getD a j 0; fixed = getD a (j + 1) 0; start = getD a (j + 2) 0; end = getD a (j + 3) 0 }
 
 -- of n pieces, the k-th in order
 abbrev pub placed : ℕ → List ℕ → ℕ → Piece
@@ -44,7 +44,7 @@ pub record Lists (c : SegmentColumns) (m : ℕ) : Type 0 where
 -- the first i segments are in the table
 pub record Gathered (c : SegmentColumns) (i : ℕ) (s r : List ℕ) : Type 0 where
   pub same : length r ≡ length s
-  pub rows : (j : ℕ) → j < i → take 4 (drop (length (c .net) + 4 * j) r) ≡ pieceWords (pieceOf (canonical (segmentAt c j)))
+  pub rows : (j : ℕ) → j < i → take 4 (drop (length (c .net) + 4 * j) r) ≡ pieceWords (pieceOf (canonicalZeros (segmentAt c j)))
 
 -- n indices, each of a whole row of the table
 pub record Tabled (n : ℕ) (a : List ℕ) : Type 0 where
@@ -53,23 +53,23 @@ pub record Tabled (n : ℕ) (a : List ℕ) : Type 0 where
   pub small : (k : ℕ) → k < n → getD a k 0 < n
 
 -- the table has the segments of the columns, and their indices are in order
-pub record InOrder (c : SegmentColumns) (a : List ℕ) : Type 0 where
+pub record TableInOrder (c : SegmentColumns) (a : List ℕ) : Type 0 where
   pub tabled : Tabled (length (c .net)) a
-  pub entries : entriesFrom (length (c .net)) a 0 (length (c .net)) ≡ map pieceOf (sortBy inOrder (map canonical (segments c)))
+  pub entries : entriesFrom (length (c .net)) a 0 (length (c .net)) ≡ map pieceOf (sortBy inOrder (map canonicalZeros (segments c)))
 
 -- ---- the columns that are written
 unfoldable pub netOf : Piece → ℕ
-netOf p = p .head / 2 % 4294967296
+netOf p = p .«net_and_orientation» / 2 % 4294967296
 
 unfoldable pub orientationOf : Piece → ℕ
-orientationOf p = 1 - p .head % 2
+orientationOf p = 1 - p .«net_and_orientation» % 2
 
 unfoldable pub writtenPieces : List Piece → SegmentColumns → SegmentColumns
-writtenPieces l c = record { net = writtenOver netOf l (c .net); orientation = writtenOver orientationOf l (c .orientation); fixed = writtenOver (λ (p : Piece). floatAt (p .line)) l (c .fixed); start = writtenOver (λ (p : Piece). floatAt (p .start)) l (c .start); end = writtenOver (λ (p : Piece). floatAt (p .end)) l (c .end) }
+writtenPieces l c = record { net = writtenOver netOf l (c .net); orientation = writtenOver orientationOf l (c .orientation); fixed = writtenOver (λ (p : Piece). floatAt (p .fixed)) l (c .fixed); start = writtenOver (λ (p : Piece). floatAt (p .start)) l (c .start); end = writtenOver (λ (p : Piece). floatAt (p .end)) l (c .end) }
 
 -- one piece at an index
 unfoldable pub putPiece : SegmentColumns → ℕ → Piece → SegmentColumns
-putPiece c at p = record { net = set (c .net) at (netOf p); orientation = set (c .orientation) at (orientationOf p); fixed = set (c .fixed) at (floatAt (p .line)); start = set (c .start) at (floatAt (p .start)); end = set (c .end) at (floatAt (p .end)) }
+putPiece c at p = record { net = set (c .net) at (netOf p); orientation = set (c .orientation) at (orientationOf p); fixed = set (c .fixed) at (floatAt (p .fixed)); start = set (c .start) at (floatAt (p .start)); end = set (c .end) at (floatAt (p .end)) }
 
 -- each column has room for so many entries
 pub record Room (n : ℕ) (c : SegmentColumns) : Type 0 where

@@ -10,13 +10,13 @@ use Rattle.joining.specs.declared.piece.Piece.{Piece}
 
 -- twice the net and one more where the segment is vertical, so that horizontal ones come first, and the keys of its coordinates
 unfoldable pub pieceOf : Segment → Piece
-pieceOf s = record { head = 2 * s .net + (1 - s .orientation); line = keyOf (s .fixed); start = keyOf (s .start); end = keyOf (s .end) }
+pieceOf s = record { «net_and_orientation» = 2 * s .net + (1 - s .orientation); fixed = keyOf (s .fixed); start = keyOf (s .start); end = keyOf (s .end) }
 
 unfoldable pub touchesPiece : Piece → Piece → Bool
-touchesPiece c x = eqb (c .head) (x .head) && (eqb (c .line) (x .line) && leb (x .start) (c .end))
+touchesPiece c x = eqb (c .«net_and_orientation») (x .«net_and_orientation») && (eqb (c .fixed) (x .fixed) && leb (x .start) (c .end))
 
 unfoldable pub extendedPiece : Piece → Piece → Piece
-extendedPiece c x = record { head = c .head; line = c .line; start = c .start; end = cond (ltb (c .end) (x .end)) (x .end) (c .end) }
+extendedPiece c x = record { «net_and_orientation» = c .«net_and_orientation»; fixed = c .fixed; start = c .start; end = cond (ltb (c .end) (x .end)) (x .end) (c .end) }
 
 unfoldable pub nextPiece : Piece → Piece → Piece
 nextPiece c x = cond (touchesPiece c x) (extendedPiece c x) x
@@ -26,10 +26,10 @@ abbrev pub begun : Piece → Piece → ℕ
 begun c x = bit (not (touchesPiece c x))
 
 -- `joinFrom` and `pieces`, of pieces
-unfoldable pub runFrom : Piece → List Piece → List Piece
-runFrom c [] = c ∷ []
-runFrom c (x ∷ l) = put (not (touchesPiece c x)) c (runFrom (nextPiece c x) l)
+unfoldable pub joinPiecesFrom : Piece → List Piece → List Piece
+joinPiecesFrom c [] = c ∷ []
+joinPiecesFrom c (x ∷ l) = put (not (touchesPiece c x)) c (joinPiecesFrom (nextPiece c x) l)
 
-unfoldable pub joinWords : List Piece → List Piece
-joinWords [] = []
-joinWords (x ∷ l) = runFrom x l
+unfoldable pub joinedPieces : List Piece → List Piece
+joinedPieces [] = []
+joinedPieces (x ∷ l) = joinPiecesFrom x l

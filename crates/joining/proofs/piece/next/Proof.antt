@@ -12,11 +12,11 @@ touches-requires c κs = search needs
 returns : tie.Need-returns
 returns c = next-apart _ _ (sym (c .before .touches .ensures) ∙ not-true _ (c .if1 .taken))
 
-later-requires : tie.Need-later-requires
-later-requires c κs = search needs
+greater-word-requires : tie.Need-greater-word-requires
+greater-word-requires c κs = search needs
 
 returns-2 : tie.Need-returns-2
-returns-2 c = next-grown _ _ _ (sym (c .before .before .touches .ensures) ∙ not-false _ (c .before .if1 .left)) (c .later .ensures)
+returns-2 c = next-grown _ _ _ (sym (c .before .before .touches .ensures) ∙ not-false _ (c .before .if1 .left)) (c .greater-word .ensures)
 
 pub next-spec : {M : Type 1} → statement M
-next-spec = tie.close (tie.spec touches-requires returns later-requires returns-2)
+next-spec = tie.close (tie.spec touches-requires returns greater-word-requires returns-2)

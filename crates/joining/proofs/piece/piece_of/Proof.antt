@@ -1,4 +1,4 @@
--- `joining::piece::piece_of` meets its contract: the words of the canonical form. Assumes nothing.
+-- `joining::piece::piece_of` meets its contract: the words of the canonicalZeros form. Assumes nothing.
 use mathlib.Core.Path.{ap, _∙_}
 use Rattle.floats.specs.TotalOrder.{keyOf}
 use Rattle.joining.proofs.PieceLaws.{piece-made}
@@ -6,8 +6,8 @@ use borrow.Author.Needs.{needs}
 use Rattle.joining.proofs.piece.piece_of.Statement.{statement}
 use Rattle.joining.proofs.piece.piece_of.Tie as tie
 
-head-of-requires : tie.Need-head-of-requires
-head-of-requires c κs = search needs
+net-and-orientation-of-requires : tie.Need-net-and-orientation-of-requires
+net-and-orientation-of-requires c κs = search needs
 
 canonical-zero-requires : tie.Need-canonical-zero-requires
 canonical-zero-requires c κs = search needs
@@ -35,13 +35,13 @@ returns c =
     let ends = c .before .before .before .before in
     let line = ends .before .before in
     let a = c .before .before .before .before .before .before .before .before .args in
-    piece-made (record { net = a .net; orientation = a .orientation; fixed = a .fixed; start = a .start; end = a .end }) _ _ _ _ _ (ends .ends-in-order .ensures) (line .before .head-of .ensures) (ends .before .key-of .ensures ∙ ap keyOf (line .canonical-zero .ensures)) (c .before .before .key-of2 .ensures ∙ ap keyOf (c .before .before .before .canonical-zero2 .ensures)) (c .key-of3 .ensures ∙ ap keyOf (c .before .canonical-zero3 .ensures))
+    piece-made (record { net = a .net; orientation = a .orientation; fixed = a .fixed; start = a .start; end = a .end }) _ _ _ _ _ (ends .ends-in-order .ensures) (line .before .net-and-orientation-of .ensures) (ends .before .key-of .ensures ∙ ap keyOf (line .canonical-zero .ensures)) (c .before .before .key-of2 .ensures ∙ ap keyOf (c .before .before .before .canonical-zero2 .ensures)) (c .key-of3 .ensures ∙ ap keyOf (c .before .canonical-zero3 .ensures))
 
 pub piece-of-spec : {M : Type 1} → statement M
 piece-of-spec =
     tie.close
     (tie.spec
-    head-of-requires
+    net-and-orientation-of-requires
     canonical-zero-requires
     key-of-requires
     ends-in-order-requires

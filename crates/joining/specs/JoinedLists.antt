@@ -1,4 +1,4 @@
--- Request 2, SCOPE 16.2 to 16.5, clause by clause: what holds of the joined list, whichever way it is computed, on every number line. `proofs/Joins.antt` proves `Joins`. Lists are of segments as they are taken and accepted (`FitSegment`): refusal 5 lets no others pass.
+-- Request 2, SCOPE 16.2 to 16.5, clause by clause: what holds of the joined list, whichever way it is computed, on every number line. `proofs/JoinedLists.antt` proves `JoinedLists`. Lists are of segments as they are taken and accepted (`FitSegment`): refusal 5 lets no others pass.
 use mathlib.Core.Path.{_≡_}
 use mathlib.Core.Bool.{true}
 use mathlib.Core.List.{List}
@@ -19,7 +19,7 @@ pub record NoMinusZero (s : Segment) : Type 0 where
   pub start : canonicalZero (s .start) ≡ s .start
   pub end : canonicalZero (s .end) ≡ s .end
 
-pub record Joins : Type 1 where
+pub record JoinedLists : Type 1 where
   -- SCOPE 16.2: "that cover the same points of the real line", "of each net, orientation and fixed coordinate"
   pub same-points : (L : NumberLine) (l : List Segment) → All FitSegment l → SamePoints L l (joined l)
   -- SCOPE 16.3: "the fewest pieces of each net, orientation and fixed coordinate": any pieces of that line that reach over the same points are at least as many, wherever they end
@@ -34,8 +34,8 @@ pub record Joins : Type 1 where
   pub zeros : (l : List Segment) → All FitSegment l → All NoMinusZero (joined l)
   -- SCOPE 16.5: "Joining a joined list gives it back"; it is accepted, and taken as it is
   pub again : (l : List Segment) → All FitSegment l → joined (joined l) ≡ joined l
-  pub again-fit : (l : List Segment) → All FitSegment l → All FitSegment (joined l)
-  pub again-taken : (l : List Segment) → All FitSegment l → All (λ s. asTaken s ≡ s) (joined l)
+  pub joined-fit : (l : List Segment) → All FitSegment l → All FitSegment (joined l)
+  pub joined-taken : (l : List Segment) → All FitSegment l → All (λ s. asTaken s ≡ s) (joined l)
   -- SCOPE 16.5: "two lists covering the same points per net and line join to equal lists", bit by bit; the same points on one number line are enough
   pub one-list : (L : NumberLine) (l m : List Segment) → All FitSegment l → All FitSegment m → SamePoints L l m → joined l ≡ joined m
   -- SCOPE 16.5: the order of the list decides nothing

@@ -22,8 +22,8 @@ use Rattle.floats.specs.TotalOrder.{keyOf}
 use Rattle.drawing.specs.Entries.{Segment, asTaken}
 use Rattle.drawing.specs.Held.{Binary64, FitSegment}
 use Rattle.joining.specs.Points.{NumberLine, NetLine, netLineOf, Covers, SamePoints, SameOnLine, isOn}
-use Rattle.joining.specs.Joined.{canonical, lineRow, pieceRow, inOrder, extended, pieces, joined}
-use Rattle.joining.specs.Joins.{NoMinusZero, Joins}
+use Rattle.joining.specs.Joined.{canonicalZeros, lineRow, pieceRow, inOrder, extended, pieces, joined}
+use Rattle.joining.specs.JoinedLists.{NoMinusZero, JoinedLists}
 use Rattle.joining.proofs.LineRows.{lead, on-one, same-lead}
 use Rattle.joining.proofs.Canonical.{Canonical, Strict, canonical-strict, canonical-is, canonical-fit, canonical-taken, strict-rises, row-of-line, piece-one, key-below}
 use Rattle.joining.proofs.Spans.{Some, mem-some, some-mem, Over, over-start, covers-some, some-covers, to-canonical, from-canonical}
@@ -32,7 +32,7 @@ use Rattle.joining.proofs.OneList.{apart-starts, apart-keys, one-normal
 use Rattle.joining.proofs.Halves.{halves}
 use Rattle.joining.proofs.Fewest.{fewest-spans}
 
--- ---- the entries made canonical and put in order
+-- ---- the entries made canonicalZeros and put in order
 starts-of : (a b : Segment) → inOrder a b ≡ true → starts a b ≡ true
 unfolding pieceRow
 starts-of a b h = elim (lead (lineRow a) (lineRow b) (keyOf (a .start) ∷ keyOf (a .end) ∷ []) (keyOf (b .start) ∷ keyOf (b .end) ∷ []) refl h) [
@@ -48,17 +48,17 @@ sorted-starts [] s = tt
 sorted-starts (x ∷ l) s = (λ y m. starts-of x y (s .0 y m), sorted-starts l (s .1))
 
 abbrev pub ready : List Segment → List Segment
-ready l = sortBy inOrder (map canonical l)
+ready l = sortBy inOrder (map canonicalZeros l)
 
-pub canonical-all : (l : List Segment) → All FitSegment l → All Canonical (map canonical l)
+pub canonical-all : (l : List Segment) → All FitSegment l → All Canonical (map canonicalZeros l)
 canonical-all [] f = tt
 canonical-all (x ∷ l) f = (canonical-is x (f .0), canonical-all l (f .1))
 
 pub ready-canonical : (l : List Segment) → All FitSegment l → All Canonical (ready l)
-ready-canonical l f = perm-all Canonical (perm-sym (sort-perm inOrder (map canonical l))) (canonical-all l f)
+ready-canonical l f = perm-all Canonical (perm-sym (sort-perm inOrder (map canonicalZeros l))) (canonical-all l f)
 
 pub ready-starts : (l : List Segment) → Sorted starts (ready l)
-ready-starts l = sorted-starts (ready l) (sort-sorted inOrder (by-rows pieceRow) (map canonical l))
+ready-starts l = sorted-starts (ready l) (sort-sorted inOrder (by-rows pieceRow) (map canonicalZeros l))
 
 some-perm : {A : Type 0} (P : A → Type 0) {l r : List A} → Perm l r → Some P l → Some P r
 some-perm P {l} {r} p s = let w = some-mem P l s in mem-some P (w .0) r (perm-mem (w .0) p (w .1)) (w .2)
@@ -69,10 +69,10 @@ unfolding pieces
 pieces-all P g [] p = tt
 pieces-all P g (x ∷ l) p = join-all P g x l p
 
--- what holds of the entries made canonical, and of a extended piece where it holds of the two, holds of the pieces
-pub joined-all : (P : Segment → Type 0) → ((c x : Segment) → P c → P x → P (extended c x)) → (l : List Segment) → All P (map canonical l) → All P (joined l)
+-- what holds of the entries made canonicalZeros, and of a extended piece where it holds of the two, holds of the pieces
+pub joined-all : (P : Segment → Type 0) → ((c x : Segment) → P c → P x → P (extended c x)) → (l : List Segment) → All P (map canonicalZeros l) → All P (joined l)
 unfolding joined
-joined-all P g l h = pieces-all P g (ready l) (perm-all P (perm-sym (sort-perm inOrder (map canonical l))) h)
+joined-all P g l h = pieces-all P g (ready l) (perm-all P (perm-sym (sort-perm inOrder (map canonicalZeros l))) h)
 
 pieces-normal : (l : List Segment) → Sorted starts l → Normal (pieces l)
 unfolding pieces
@@ -97,21 +97,21 @@ module _ (L : NumberLine) (t : NetLine) (p : L .Point) where
 
   pub covers-joined : (l : List Segment) → All FitSegment l → Covers L l t p → Some (Over L t p) (joined l)
   unfolding joined
-  covers-joined l f c = pieces-into (ready l) (ready-canonical l f) (ready-starts l) (some-perm (Over L t p) (perm-sym (sort-perm inOrder (map canonical l))) (to-canonical L t p l f (covers-some L t p l c)))
+  covers-joined l f c = pieces-into (ready l) (ready-canonical l f) (ready-starts l) (some-perm (Over L t p) (perm-sym (sort-perm inOrder (map canonicalZeros l))) (to-canonical L t p l f (covers-some L t p l c)))
 
   pub joined-covers : (l : List Segment) → All FitSegment l → Some (Over L t p) (joined l) → Covers L l t p
   unfolding joined
-  joined-covers l f o = some-covers L t p l (from-canonical L t p l f (some-perm (Over L t p) (sort-perm inOrder (map canonical l)) (pieces-out (ready l) (ready-canonical l f) o)))
+  joined-covers l f o = some-covers L t p l (from-canonical L t p l f (some-perm (Over L t p) (sort-perm inOrder (map canonicalZeros l)) (pieces-out (ready l) (ready-canonical l f) o)))
 
 -- ---- start stays below end
-strict-all : (l : List Segment) → All FitSegment l → All Strict (map canonical l)
+strict-all : (l : List Segment) → All FitSegment l → All Strict (map canonicalZeros l)
 strict-all [] f = tt
 strict-all (x ∷ l) f = (canonical-strict x (f .0), strict-all l (f .1))
 
 pub joined-strict : (l : List Segment) → All FitSegment l → All Strict (joined l)
 joined-strict l f = joined-all Strict extended-strict l (strict-all l f)
 
--- what holds of each canonical segment with start below end holds of the pieces
+-- what holds of each canonicalZeros segment with start below end holds of the pieces
 pub pieces-have : (P : Segment → Type 0) → ((s : Segment) → Canonical s → Strict s → P s) → (l : List Segment) → All FitSegment l → All P (joined l)
 pieces-have P h l f = both (joined l) (joined-canonical l f) (joined-strict l f)
   where
@@ -139,7 +139,7 @@ one-list L l m f g s =
     (λ t p o. covers-joined L t p m g (s t p .0 (joined-covers L t p l f o)))
     (λ t p o. covers-joined L t p l f (s t p .1 (joined-covers L t p m g o)))
 
--- ==== "the fewest pieces of each net, orientation and fixed coordinate": no pieces of a track with the same points are fewer, wherever they end
+-- ==== "the fewest pieces of each net, orientation and fixed coordinate": no pieces of a line with the same points are fewer, wherever they end
 pub fewest : (L : NumberLine) (l : List Segment) → All FitSegment l → (t : NetLine) → Binary64 (t .fixed) → (m : List (L .Point × L .Point)) → SameOnLine L l t m → count (isOn t) (joined l) ≤ length m
 fewest L l f t b m s = fewest-spans L t b (joined l) m (joined-canonical l f) (joined-normal l) kept met
   where
@@ -155,7 +155,7 @@ fewest L l f t b m s = fewest-spans L t b (joined l) m (joined-canonical l f) (j
         let c = s x .0 (joined-covers L t x l f (mem-some (Over L t x) q (joined l) i (subst (λ (z : NetLine). Over L z x q) e (over-start L q k)))) in
         mem-some (λ (y : L .Point × L .Point). L .upTo (y .0) x × L .upTo x (y .1)) (c .by) m (c .there) (c .from, c .to)
 
--- ==== "JoinAnswer a joined list gives it back"
+-- ==== "Joining a joined list gives it back"
 pub again : (l : List Segment) → All FitSegment l → joined (joined l) ≡ joined l
 again l f = sym (one-list halves l (joined l) f (joined-fit l f) (same-points halves l f))
 
@@ -195,30 +195,30 @@ pub rises : (l : List Segment) → All FitSegment l → All (λ s. lt (s .start)
 rises = pieces-have (λ s. lt (s .start) (s .end) ≡ true) strict-rises
 
 -- ==== the joined list is taken as it is
-pub again-taken : (l : List Segment) → All FitSegment l → All (λ s. asTaken s ≡ s) (joined l)
-again-taken = pieces-have (λ s. asTaken s ≡ s) canonical-taken
+pub joined-taken : (l : List Segment) → All FitSegment l → All (λ s. asTaken s ≡ s) (joined l)
+joined-taken = pieces-have (λ s. asTaken s ≡ s) canonical-taken
 
--- ==== the order of the list decides nothing: no two canonical segments tie
+-- ==== the order of the list decides nothing: no two canonicalZeros segments tie
 pub piece-of-row : (a b : Segment) → Canonical a → Canonical b → pieceRow a ≡ pieceRow b → a ≡ b
 unfolding pieceRow
 piece-of-row a b p q e = piece-one a b p q (cc e) (cc e) (cc e)
 
 pub any-order : (l m : List Segment) → All FitSegment l → Perm l m → joined l ≡ joined m
 unfolding joined
-any-order l m f p = ap pieces (sort-same inOrder (by-rows pieceRow) Canonical (λ a b x y g k. piece-of-row a b x y (row-antisym (pieceRow a) (pieceRow b) g k)) (perm-map canonical p) (canonical-all l f))
+any-order l m f p = ap pieces (sort-same inOrder (by-rows pieceRow) Canonical (λ a b x y g k. piece-of-row a b x y (row-antisym (pieceRow a) (pieceRow b) g k)) (perm-map canonicalZeros p) (canonical-all l f))
 
 -- ==== "how many pieces went away": there are no more pieces than entries
 pub no-more : (l : List Segment) → length (joined l) ≤ length l
 unfolding joined
 no-more l =
     let a = pieces-length (ready l) in
-    let b = perm-length (sort-perm inOrder (map canonical l)) in
-    let c = length-map l canonical in
+    let b = perm-length (sort-perm inOrder (map canonicalZeros l)) in
+    let c = length-map l canonicalZeros in
     omega arith
 
 -- ==== all of it
-pub joins : Joins
-joins = record {
+pub joined-lists : JoinedLists
+joined-lists = record {
   same-points = same-points;
   fewest = fewest;
   apart = apart;
@@ -226,8 +226,8 @@ joins = record {
   in-order = in-order;
   zeros = zeros;
   again = again;
-  again-fit = joined-fit;
-  again-taken = again-taken;
+  joined-fit = joined-fit;
+  joined-taken = joined-taken;
   one-list = one-list;
   any-order = any-order;
   no-more = no-more;
