@@ -3,9 +3,10 @@ use mathlib.Core.Path.{_≡_, refl, sym, ap, _∙_}
 use mathlib.Core.Logic.{_⊎_, inl, inr}
 use mathlib.Core.Bool.{Bool, false}
 use mathlib.Core.List.{List, [], _∷_, map, _++_}
-use Prim.Native.Nat.{_-_, _≤_}
+use Prim.Native.Nat.{ℕ, _-_, _≤_}
 use native.Mathlib.Omega.{arith}
-use lib.ListN.{length}
+use lib.ListN.{length, take, drop, length-map}
+use lib.Seq.{take-append-seam}
 use borrow.Author.Tests.{le-ltb}
 use lib.Dec.{ltb}
 use Rattle.laws.specs.Lists.{All, some-of}
@@ -13,19 +14,22 @@ use Rattle.laws.specs.Perm.{Perm}
 use Rattle.laws.proofs.ListLaws.{all-none}
 use Rattle.laws.proofs.Perms.{perm-length}
 use Rattle.drawing.specs.declared.refusal.Refusal.{Refusal}
+use Rattle.drawing.specs.declared.refusal.Refusal.the-variants.{ShortOutput}
 use Rattle.drawing.specs.declared.refusal.Check.{Check}
 use Rattle.drawing.specs.declared.refusal.Check.the-variants as checks
 use Rattle.drawing.specs.declared.refusal.Check.the-variants.{Passed}
 use Rattle.drawing.specs.Conditions.{tooMany, unfitSegment, shortOutput}
 use Rattle.drawing.specs.Checks.{segmentsDiffer, segmentListConditions}
-use Rattle.drawing.specs.Entries.{Segment, SegmentColumns, asLent, asTaken, segments, columnsOf}
+use Rattle.drawing.specs.Entries.{Segment, SegmentColumns, segmentColumns, asLent, asTaken, segments, columnsOf}
 use Rattle.drawing.specs.Held.{FitSegment}
+use Rattle.drawing.specs.Outputs.{writtenOver}
 use Rattle.drawing.specs.Refusals.{firstOf, checked}
 use Rattle.drawing.proofs.AnyOrder.{lent-taken}
 use Rattle.drawing.proofs.ColumnLaws.{columns-entries, columns-same, columns-count}
 use Rattle.drawing.proofs.EntryLaws.{length-segments}
-use Rattle.drawing.proofs.FirstRefusal.{segment-list-passes}
+use Rattle.drawing.proofs.FirstRefusal.{first-go-on, segment-list-passes}
 use Rattle.drawing.proofs.Fit.{fit-segments}
+use Rattle.joining.specs.declared.answer.JoinAnswer.{JoinAnswer}
 use Rattle.joining.specs.declared.answer.JoinAnswer.the-variants.{Joined, Refused}
 use Rattle.joining.specs.Points.{NumberLine, SamePoints}
 use Rattle.joining.specs.Joined.{joined}
@@ -34,7 +38,7 @@ use Rattle.joining.specs.Answer.{joinedOf, joinAnswer, written, outputAfter, re
 use Rattle.joining.proofs.JoinedLists as lists
 use Rattle.demands.specs.Applies.{First, NoneApplies, placeInList, InOrder}
 use Rattle.demands.specs.Directions.{columnsAsTaken}
-use Rattle.demands.specs.Joining.{JoinRun, JoinFit, JoinUnfit, JoinAccepted, JoinRefused, SameJoin, Joining}
+use Rattle.demands.specs.Joining.{JoinRun, ListFit, JoinFit, JoinUnfit, JoinAccepted, JoinRefused, front, SamePieces, SameJoin, Joining}
 use Rattle.demands.proofs.FirstMet.{first-refused, none-passed, some-or-none}
 use Rattle.demands.proofs.Directions.{SeenAlike, seen-alike}
 
@@ -54,45 +58,97 @@ unfit r why f =
     let e = first-refused (joinConditions (r .lent) (r .before)) why f in
     record { returns = ap resultOf (r .says .answers ∙ answer-is (r .lent) (r .before) (checks.Refused why) e); writes = r .says .leaves ∙ output-is (r .lent) (r .before) (checks.Refused why) e }
 
+-- the pieces of a call
+abbrev pieces : JoinRun → List Segment
+pieces r = joined (segments (r .lent))
+
+-- ---- a call whose list passes: 8 alone decides
+abbrev room : ℕ → SegmentColumns → Check
+room needed out = firstOf ((shortOutput needed (outputLengths out), ShortOutput) ∷ [])
+
+module _ (r : JoinRun) (h : ListFit r) where
+  list-passes : firstOf (segmentListConditions (r .lent)) ≡ Passed
+  list-passes = none-passed (segmentListConditions (r .lent)) h
+
+  fit-all : All FitSegment (segments (r .lent))
+  fit-all = fit-segments (segments (r .lent)) (r .says .held list-passes) (segment-list-passes (r .lent) list-passes .fit)
+
+  room-decides : firstOf (joinConditions (r .lent) (r .before)) ≡ room (length (pieces r)) (r .before)
+  unfolding joinConditions
+  room-decides = first-go-on (segmentListConditions (r .lent)) _ (firstOf (segmentListConditions (r .lent))) refl list-passes
+
+  answered : r .returned ≡ checked Refused (room (length (pieces r)) (r .before)) (joinedOf (segments (r .lent)))
+  answered = r .says .answers ∙ answer-is (r .lent) (r .before) _ room-decides
+
+  left : r .after ≡ checked (λ w. r .before) (room (length (pieces r)) (r .before)) (written (pieces r) (r .before))
+  left = r .says .leaves ∙ output-is (r .lent) (r .before) _ room-decides
+
 -- ---- an accepted call
 first-part : (l m : List (Bool × Refusal)) → NoneApplies (l ++ m) → NoneApplies l
 first-part [] m p = tt
 first-part (x ∷ l) m p = (p .0, first-part l m (p .1))
 
+-- the front of columns that a list was written over is the list's columns
+front-over : {A B : Type 0} (f : A → B) (l : List A) (old : List B) → take (length l) (writtenOver f l old) ≡ map f l
+front-over f l old = ap (λ (n : ℕ). take n (writtenOver f l old)) (sym (length-map l f)) ∙ take-append-seam (map f l) (drop (length l) old)
+
+front-written : (l : List Segment) (c : SegmentColumns) → front (length l) (written l c) ≡ columnsOf l
+unfolding written columnsOf
+front-written l c = λ i. segmentColumns (front-over (λ (s : Segment). s .net) l (c .net) i) (front-over (λ (s : Segment). s .orientation) l (c .orientation) i) (front-over (λ (s : Segment). s .fixed) l (c .fixed) i) (front-over (λ (s : Segment). s .start) l (c .start) i) (front-over (λ (s : Segment). s .end) l (c .end) i)
+
 module _ (r : JoinRun) (h : JoinFit r) where
   passes : firstOf (joinConditions (r .lent) (r .before)) ≡ Passed
   passes = none-passed (joinConditions (r .lent) (r .before)) h
 
-  list-passes : firstOf (segmentListConditions (r .lent)) ≡ Passed
+  list-fit : ListFit r
   unfolding joinConditions
-  list-passes = none-passed (segmentListConditions (r .lent)) (first-part (segmentListConditions (r .lent)) _ h)
+  list-fit = first-part (segmentListConditions (r .lent)) _ h
 
-  fit-all : All FitSegment (segments (r .lent))
-  fit-all = fit-segments (segments (r .lent)) (r .says .held list-passes) (segment-list-passes (r .lent) list-passes .fit)
+  returns : resultOf (r .returned) ≡ (0, length (pieces r), length (segments (r .lent)) - length (pieces r))
+  unfolding resultOf
+  returns = ap resultOf (r .says .answers ∙ answer-is (r .lent) (r .before) Passed passes)
 
-  answered : r .returned ≡ joinedOf (segments (r .lent))
-  answered = r .says .answers ∙ answer-is (r .lent) (r .before) Passed passes
-
-  left : r .after ≡ written (joined (segments (r .lent))) (r .before)
-  left = r .says .leaves ∙ output-is (r .lent) (r .before) Passed passes
+  writes : r .after ≡ written (pieces r) (r .before)
+  writes = r .says .leaves ∙ output-is (r .lent) (r .before) Passed passes
 
   accepted : JoinAccepted r
-  unfolding resultOf
-  accepted = record { fit = fit-all; returns = ap resultOf answered; writes = left }
+  accepted = record { fit = fit-all r list-fit; returns = returns; writes = writes }
 
--- ---- two accepted calls whose output columns held the same
-module _ (a b : JoinRun) (f : JoinFit a) (g : JoinFit b) (same : a .before ≡ b .before) where
-  pieces-decide : joined (segments (a .lent)) ≡ joined (segments (b .lent)) → a .after ≡ b .after
-  pieces-decide e = left a f ∙ (λ i. written (e i) (same i)) ∙ sym (left b g)
+  how-many : resultOf (r .returned) .1 ≡ length (pieces r)
+  how-many = ap (λ (w : ℕ × ℕ × ℕ). w .1) returns
 
-  same-points : (L : NumberLine) → SamePoints L (segments (a .lent)) (segments (b .lent)) → a .after ≡ b .after
-  same-points L p = pieces-decide (lists.one-list L (segments (a .lent)) (segments (b .lent)) (fit-all a f) (fit-all b g) p)
+  front-is : front (resultOf (r .returned) .1) (r .after) ≡ columnsOf (pieces r)
+  front-is = (λ i. front (how-many i) (writes i)) ∙ front-written (pieces r) (r .before)
+
+  read-back : asLent (front (resultOf (r .returned) .1) (r .after)) ≡ pieces r
+  read-back = ap asLent front-is ∙ columns-entries (pieces r)
+
+-- ---- two calls whose lists pass, and whose output columns held the same
+same-outcome : (k : Check) (n g h : ℕ) (x y : JoinAnswer) → x ≡ checked Refused k (Joined n g) → y ≡ checked Refused k (Joined n h) → (resultOf x .0 ≡ resultOf y .0) × (resultOf x .1 ≡ resultOf y .1)
+unfolding resultOf
+same-outcome Passed n g h x y p q = (rw (p, q), rw (p, q))
+same-outcome (checks.Refused w) n g h x y p q = (rw (p, q), rw (p, q))
+
+module _ (a b : JoinRun) (f : ListFit a) (g : ListFit b) (same : a .before ≡ b .before) where
+  pieces-decide : pieces a ≡ pieces b → a .after ≡ b .after
+  pieces-decide e = left a f ∙ (λ i. checked (λ w. same i) (room (length (e i)) (same i)) (written (e i) (same i))) ∙ sym (left b g)
+
+  -- what a returns, said of the pieces of b
+  answered-alike : (e : pieces a ≡ pieces b) → a .returned ≡ checked Refused (room (length (pieces b)) (b .before)) (Joined (length (pieces b)) (length (segments (a .lent)) - length (pieces b)))
+  answered-alike e = answered a f ∙ (λ i. checked Refused (room (length (e i)) (same i)) (Joined (length (e i)) (length (segments (a .lent)) - length (e i))))
+
+  one-list : (L : NumberLine) → SamePoints L (segments (a .lent)) (segments (b .lent)) → SamePieces a b
+  one-list L p =
+      let e = lists.one-list L (segments (a .lent)) (segments (b .lent)) (fit-all a f) (fit-all b g) p in
+      let n = length (pieces b) in
+      let o = same-outcome (room n (b .before)) n (length (segments (a .lent)) - n) (length (segments (b .lent)) - n) (a .returned) (b .returned) (answered-alike e) (answered b g) in
+      record { number = o .0; pieces = o .1; after = pieces-decide e }
 
   any-order : Perm (asLent (a .lent)) (asLent (b .lent)) → SameJoin a b
   any-order p =
       let q = lent-taken (a .lent) (b .lent) p in
       let e = lists.any-order (segments (a .lent)) (segments (b .lent)) (fit-all a f) q in
-      record { returned = answered a f ∙ (λ i. Joined (length (e i)) (perm-length q i - length (e i))) ∙ sym (answered b g); after = pieces-decide e }
+      record { returned = answered-alike e ∙ (λ i. checked Refused (room (length (pieces b)) (b .before)) (Joined (length (pieces b)) (perm-length q i - length (pieces b)))) ∙ sym (answered b g); after = pieces-decide e }
 
 -- ---- two calls that differ only in directions
 module _ (s t : SegmentColumns) (a : SeenAlike s t) (out : SegmentColumns) where
@@ -114,29 +170,32 @@ directions a b same e =
     record { returned = a .says .answers ∙ ap (joinAnswer (a .lent)) same ∙ same-answer (b .lent) (a .lent) k (b .before) ∙ sym (b .says .answers); after = a .says .leaves ∙ ap (outputAfter (a .lent)) same ∙ same-output (b .lent) (a .lent) k (b .before) ∙ sym (b .says .leaves) }
 
 -- ---- joining the pieces again
-module _ (a b : JoinRun) (f : JoinFit a) (is : b .lent ≡ columnsOf (joined (segments (a .lent)))) (room : shortOutput (length (joined (segments (a .lent)))) (outputLengths (b .before)) ≡ false) where
-  abbrev pieces : List Segment
-  pieces = joined (segments (a .lent))
+module _ (a b : JoinRun) (f : JoinFit a) (lent-front : b .lent ≡ front (resultOf (a .returned) .1) (a .after)) (fits : shortOutput (resultOf (a .returned) .1) (outputLengths (b .before)) ≡ false) where
+  fit-list : All FitSegment (segments (a .lent))
+  fit-list = fit-all a (list-fit a f)
 
-  pieces-taken : segments (columnsOf pieces) ≡ pieces
+  is : b .lent ≡ columnsOf (pieces a)
+  is = lent-front ∙ front-is a f
+
+  pieces-taken : segments (columnsOf (pieces a)) ≡ pieces a
   unfolding segments
-  pieces-taken = ap (map asTaken) (columns-entries pieces) ∙ kept pieces (lists.joined-taken (segments (a .lent)) (fit-all a f))
+  pieces-taken = ap (map asTaken) (columns-entries (pieces a)) ∙ kept (pieces a) (lists.joined-taken (segments (a .lent)) fit-list)
     where
       kept : (l : List Segment) → All (λ s. asTaken s ≡ s) l → map asTaken l ≡ l
       kept [] h = refl
       kept (s ∷ l) h = λ i. h .0 i ∷ kept l (h .1) i
 
-  lent-pieces : segments (b .lent) ≡ pieces
+  lent-pieces : segments (b .lent) ≡ pieces a
   lent-pieces = ap segments is ∙ pieces-taken
 
-  joined-again : joined (segments (b .lent)) ≡ pieces
-  joined-again = ap joined lent-pieces ∙ lists.again (segments (a .lent)) (fit-all a f)
+  joined-again : joined (segments (b .lent)) ≡ pieces a
+  joined-again = ap joined lent-pieces ∙ lists.again (segments (a .lent)) fit-list
 
-  few : length pieces ≤ 4096
-  few = let p = segment-list-passes (a .lent) (list-passes a f) in omega (arith, p .few-segments, length-segments (a .lent) (p .agree), lists.no-more (segments (a .lent)))
+  few : length (pieces a) ≤ 4096
+  few = let p = segment-list-passes (a .lent) (list-passes a (list-fit a f)) in omega (arith, p .few-segments, length-segments (a .lent) (p .agree), lists.no-more (segments (a .lent)))
 
-  none-unfit : some-of unfitSegment pieces ≡ false
-  none-unfit = all-none unfitSegment pieces (each pieces (lists.joined-fit (segments (a .lent)) (fit-all a f)))
+  none-unfit : some-of unfitSegment (pieces a) ≡ false
+  none-unfit = all-none unfitSegment (pieces a) (each (pieces a) (lists.joined-fit (segments (a .lent)) fit-list))
     where
       each : (l : List Segment) → All FitSegment l → All (λ s. unfitSegment s ≡ false) l
       each [] h = tt
@@ -145,24 +204,26 @@ module _ (a b : JoinRun) (f : JoinFit a) (is : b .lent ≡ columnsOf (joined (se
   again-fit : JoinFit b
   unfolding joinConditions segmentListConditions tooMany
   again-fit = (
-    ap segmentsDiffer is ∙ columns-same pieces,
+    ap segmentsDiffer is ∙ columns-same (pieces a),
     (
-      ap (λ (c : SegmentColumns). ltb 4096 (length (c .net))) is ∙ le-ltb 4096 (length (columnsOf pieces .net)) (omega (arith, columns-count pieces, few)),
-      (ap (some-of unfitSegment) lent-pieces ∙ none-unfit, (ap (λ (l : List Segment). shortOutput (length l) (outputLengths (b .before))) joined-again ∙ room, tt)),
+      ap (λ (c : SegmentColumns). ltb 4096 (length (c .net))) is ∙ le-ltb 4096 (length (columnsOf (pieces a) .net)) (omega (arith, columns-count (pieces a), few)),
+      (ap (some-of unfitSegment) lent-pieces ∙ none-unfit, (ap (λ (n : ℕ). shortOutput n (outputLengths (b .before))) (ap length joined-again ∙ sym (how-many a f)) ∙ fits, tt)),
     ),
   )
 
-  again : (resultOf (b .returned) ≡ (0, length pieces, 0)) × (b .after ≡ written pieces (b .before))
-  unfolding resultOf
+  again : (resultOf (b .returned) ≡ (0, resultOf (a .returned) .1, 0)) × (front (resultOf (a .returned) .1) (b .after) ≡ b .lent)
   again = (
-    ap resultOf (answered b again-fit ∙ (λ i. Joined (length (joined-again i)) (length (lent-pieces i) - length (joined-again i))) ∙ ap (Joined (length pieces)) (omega arith)),
-    left b again-fit ∙ ap (λ (l : List Segment). written l (b .before)) joined-again,
+    returns b again-fit ∙ (λ i. (0, length (joined-again i), length (lent-pieces i) - length (joined-again i))) ∙ (λ i. (0, sym (how-many a f) i, none-gone i)),
+    (λ i. front ((how-many a f ∙ sym (ap length joined-again)) i) (writes b again-fit i)) ∙ front-written (joined (segments (b .lent))) (b .before) ∙ ap columnsOf joined-again ∙ sym is,
   )
+    where
+      none-gone : length (pieces a) - length (pieces a) ≡ 0
+      none-gone = omega arith
 
 -- ---- the checks are in the order of the list of refusals
-in-order : (c out : SegmentColumns) → InOrder 0 (joinConditions c out)
+checks-in-order : (c out : SegmentColumns) → InOrder 0 (joinConditions c out)
 unfolding joinConditions segmentListConditions placeInList
-in-order c out = (omega arith, (omega arith, (omega arith, (omega arith, omega arith))))
+checks-in-order c out = (omega arith, (omega arith, (omega arith, (omega arith, omega arith))))
 
 unfit-or-fit : (r : JoinRun) → JoinUnfit r ⊎ JoinFit r
 unfit-or-fit r = elim (some-or-none (joinConditions (r .lent) (r .before))) [ inl s ↦ inl (record { refusal = s .refusal; first = s .first }) | inr h ↦ inr h ]
@@ -173,8 +234,9 @@ joining = record {
   unfit-or-fit = unfit-or-fit;
   unfit = unfit;
   accepted = accepted;
-  in-order = in-order;
-  same-points = λ L a b f g e p. same-points a b f g e L p;
+  checks-in-order = checks-in-order;
+  read-back = read-back;
+  one-list = λ L a b f g e p. one-list a b f g e L p;
   again = again;
   any-order = any-order;
   directions = directions;

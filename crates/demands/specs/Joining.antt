@@ -2,15 +2,15 @@
 use mathlib.Core.Path.{_≡_}
 use mathlib.Core.Logic.{_⊎_}
 use mathlib.Core.Bool.{false}
-use Prim.Native.Nat.{_-_}
-use lib.ListN.{length}
+use Prim.Native.Nat.{ℕ, _-_}
+use lib.ListN.{length, take}
 use Rattle.laws.specs.Lists.{All}
 use Rattle.laws.specs.Perm.{Perm}
 use Rattle.drawing.specs.declared.refusal.Refusal.{Refusal}
 use Rattle.drawing.specs.declared.refusal.Check.the-variants.{Passed}
 use Rattle.drawing.specs.Conditions.{shortOutput}
 use Rattle.drawing.specs.Checks.{segmentListConditions}
-use Rattle.drawing.specs.Entries.{SegmentColumns, asLent, segments, columnsOf}
+use Rattle.drawing.specs.Entries.{SegmentColumns, segmentColumns, asLent, segments}
 use Rattle.drawing.specs.Held.{SegmentsHeld, FitSegment}
 use Rattle.drawing.specs.Refusals.{numberOf, firstOf}
 use Rattle.joining.specs.declared.answer.JoinAnswer.{JoinAnswer}
@@ -36,6 +36,10 @@ pub record JoinRun : Type 0 where
   pub after : SegmentColumns
   pub says : JoinSays lent before returned after
 
+-- SCOPE 16.8: none of 2, 3 and 5 applies, which are of the segments alone; 8 may
+abbrev pub ListFit : JoinRun → Type 0
+ListFit r = NoneApplies (segmentListConditions (r .lent))
+
 -- SCOPE 16.8: no refusal applies
 abbrev pub JoinFit : JoinRun → Type 0
 JoinFit r = NoneApplies (joinConditions (r .lent) (r .before))
@@ -56,6 +60,16 @@ pub record JoinRefused (r : JoinRun) (refusal : Refusal) : Type 0 where
   pub returns : resultOf (r .returned) ≡ (numberOf refusal, 0, 0)
   pub writes : r .after ≡ r .before
 
+-- SCOPE 16.7: what a caller reads after a call, "at the front of the output columns": the first k entries of each column
+abbrev pub front : ℕ → SegmentColumns → SegmentColumns
+front k c = segmentColumns (take k (c .net)) (take k (c .orientation)) (take k (c .fixed)) (take k (c .start)) (take k (c .end))
+
+-- two calls that return the same number and as many pieces, and leave the same; how many went away differs with the lengths of the lists
+pub record SamePieces (a b : JoinRun) : Type 0 where
+  pub number : resultOf (a .returned) .0 ≡ resultOf (b .returned) .0
+  pub pieces : resultOf (a .returned) .1 ≡ resultOf (b .returned) .1
+  pub after : a .after ≡ b .after
+
 -- two calls that return the same and leave the same
 pub record SameJoin (a b : JoinRun) : Type 0 where
   pub returned : a .returned ≡ b .returned
@@ -68,13 +82,15 @@ pub record Joining : Type 1 where
   pub unfit : (r : JoinRun) (refusal : Refusal) → First (joinConditions (r .lent) (r .before)) refusal → JoinRefused r refusal
   pub accepted : (r : JoinRun) → JoinFit r → JoinAccepted r
   -- SCOPE 7.0, 16.8: "after 2, 3 and 5", in the order of the list of refusals
-  pub in-order : (lent before : SegmentColumns) → InOrder 0 (joinConditions lent before)
-  -- SCOPE 16.5: "two lists covering the same points per net and line join to equal lists", entry by entry and bit by bit, in output columns that held the same
-  pub same-points : (L : NumberLine) (a b : JoinRun) → JoinFit a → JoinFit b → a .before ≡ b .before → SamePoints L (segments (a .lent)) (segments (b .lent)) → a .after ≡ b .after
-  -- SCOPE 16.5: "Joining a joined list gives it back": a call that is lent the pieces of another is accepted wherever they fit into its output columns, writes them again, and none goes away
-  pub again : (a b : JoinRun) → JoinFit a → b .lent ≡ columnsOf (joined (segments (a .lent))) → shortOutput (length (joined (segments (a .lent)))) (outputLengths (b .before)) ≡ false
-      → (resultOf (b .returned) ≡ (0, length (joined (segments (a .lent))), 0)) × (b .after ≡ written (joined (segments (a .lent))) (b .before))
-  -- SCOPE 16.5: the order of the list decides nothing
-  pub any-order : (a b : JoinRun) → JoinFit a → JoinFit b → a .before ≡ b .before → Perm (asLent (a .lent)) (asLent (b .lent)) → SameJoin a b
+  pub checks-in-order : (lent before : SegmentColumns) → InOrder 0 (joinConditions lent before)
+  -- SCOPE 16.7: "from segment columns it writes, into lent output columns": as many entries as the call returns pieces, read from the front of the columns, are the pieces, each field in its column
+  pub read-back : (r : JoinRun) → JoinFit r → asLent (front (resultOf (r .returned) .1) (r .after)) ≡ joined (segments (r .lent))
+  -- SCOPE 16.5: "two lists covering the same points per net and line join to equal lists", entry by entry and bit by bit, in output columns that held the same; 8 is met by both or by neither
+  pub one-list : (L : NumberLine) (a b : JoinRun) → ListFit a → ListFit b → a .before ≡ b .before → SamePoints L (segments (a .lent)) (segments (b .lent)) → SamePieces a b
+  -- SCOPE 16.5: "Joining a joined list gives it back": a call that is lent what another has written is accepted wherever that fits into its output columns, writes it again, and nothing goes away
+  pub again : (a b : JoinRun) → JoinFit a → b .lent ≡ front (resultOf (a .returned) .1) (a .after) → shortOutput (resultOf (a .returned) .1) (outputLengths (b .before)) ≡ false
+      → (resultOf (b .returned) ≡ (0, resultOf (a .returned) .1, 0)) × (front (resultOf (a .returned) .1) (b .after) ≡ b .lent)
+  -- SCOPE 16.5: the order of the list decides nothing, 8 included
+  pub any-order : (a b : JoinRun) → ListFit a → ListFit b → a .before ≡ b .before → Perm (asLent (a .lent)) (asLent (b .lent)) → SameJoin a b
   -- SCOPE 2.8: neither does the direction in which a segment is given, and no refusal is for that alone
   pub directions : (a b : JoinRun) → a .before ≡ b .before → columnsAsTaken (a .lent) ≡ columnsAsTaken (b .lent) → SameJoin a b

@@ -28,7 +28,7 @@ SegmentsHeld c = All SegmentHeld (segments c)
 abbrev pub NodesHeld : NodeColumns → Type 0
 NodesHeld c = All NodeHeld (nodes c)
 
--- a segment that every call takes: its floats are values of binary64, and refusal 5 (SCOPE 7.5) does not apply to it
+-- a segment, as taken, to which refusal 5 (SCOPE 7.5) does not apply, its floats being values of binary64
 pub record FitSegment (s : Segment) : Type 0 where
   pub held : SegmentHeld s
   pub passes : unfitSegment s ≡ false

@@ -1,17 +1,17 @@
 -- What the call returns and what the lent columns hold then, from what its checks returned. Assumes nothing.
 use mathlib.Core.Path.{_≡_, refl, sym, ap, _∙_}
 use mathlib.Core.Logic.{inl, inr}
-use mathlib.Core.Bool.{Bool, true, false}
+use mathlib.Core.Bool.{Bool, true, false, not}
 use mathlib.Core.List.{List, [], _∷_, _++_, map}
-use Prim.Native.Nat.{ℕ, _+_, _-_, _*_, _/_, _%_, _≤_, _<_}
+use Prim.Native.Nat.{ℕ, zero, suc, _+_, _-_, _*_, _/_, _%_, _≤_, _<_}
 use native.Mathlib.Omega.{arith}
 use lib.Dec.{ltb}
 use lib.Ieee.{nan}
 use lib.ListN.{length, getD, drop, length-map}
-use borrow.Author.Tests.{ltb-false}
-use Rattle.laws.specs.Lists.{Mem, All, some-of}
+use borrow.Author.Tests.{ltb-false, le-ltb}
+use Rattle.laws.specs.Lists.{Mem, All, some-of, put}
 use Rattle.laws.specs.Sort.{sortBy}
-use Rattle.laws.proofs.ListLaws.{all-mem, none-all}
+use Rattle.laws.proofs.ListLaws.{all-mem, none-all, all-none}
 use Rattle.laws.proofs.Tests.{decide, cond-true, cond-false}
 use Rattle.floats.specs.TotalOrder.{floatAt}
 use Rattle.floats.proofs.NumberKeys.{float-back}
@@ -40,7 +40,7 @@ use Rattle.joining.specs.Answer.{joinedOf, joinAnswer, written, outputAfter}
 use Rattle.joining.proofs.Canonical.{Canonical}
 use Rattle.joining.proofs.JoinedLists.{joined-canonical, joined-all, no-more}
 use Rattle.joining.specs.declared.piece.Piece.{Piece}
-use Rattle.joining.specs.Inner.Pieces.{pieceOf, joinedPieces}
+use Rattle.joining.specs.Inner.Pieces.{pieceOf, touchesPiece, nextPiece, joinPiecesFrom, joinedPieces}
 use Rattle.join_call.specs.Inner.Table.{entriesFrom, netOf, orientationOf, writtenPieces, Room, Lists, TableInOrder}
 use Rattle.join_call.specs.Inner.Rest.{restAnswer, restOutput}
 use Rattle.joining.proofs.PieceLaws.{words-join}
@@ -104,15 +104,50 @@ joined-count c a o = ap length (joined-words c a o) ∙ length-map (joined (segm
 pub fewer : (c : SegmentColumns) (a : List ℕ) (count : ℕ) → SegmentsAgree c → TableInOrder c a → count ≡ length (joinedPieces (entriesFrom (length (c .net)) a 0 (length (c .net)))) → count ≤ length (c .net)
 fewer c a count g o e = omega (arith, joined-count c a o, no-more (segments c), length-segments c g)
 
+-- ---- no more pieces than segments
+run-few : (c : Piece) (l : List Piece) → length (joinPiecesFrom c l) ≤ length l + 1
+unfolding joinPiecesFrom
+run-few c [] = omega arith
+run-few c (x ∷ l) = few (not (touchesPiece c x)) (joinPiecesFrom (nextPiece c x) l) (run-few (nextPiece c x) l)
+  where
+    few : (b : Bool) (r : List Piece) → length r ≤ length l + 1 → length (put b c r) ≤ length (x ∷ l) + 1
+    few true r h = omega arith
+    few false r h = omega arith
+
+pieces-few : (l : List Piece) → length (joinedPieces l) ≤ length l
+unfolding joinedPieces
+pieces-few [] = omega arith
+pieces-few (x ∷ l) = let h = run-few x l in omega arith
+
+entries-length : (n : ℕ) (a : List ℕ) (k m : ℕ) → length (entriesFrom n a k m) ≡ m
+unfolding entriesFrom
+entries-length n a k zero = refl
+entries-length n a k (suc m) = ap suc (entries-length n a (k + 1) m)
+
+-- ---- what is short for the pieces is short for the segments
+pub room-enough : (n : ℕ) (a : List ℕ) (l : List ℕ) → shortOutput n l ≡ false → shortOutput (length (joinedPieces (entriesFrom n a 0 n))) l ≡ false
+unfolding shortOutput
+room-enough n a l e = all-none (λ (m : ℕ). ltb m count) l (each l (none-all (λ (m : ℕ). ltb m n) l e))
+  where
+    count : ℕ
+    count = length (joinedPieces (entriesFrom n a 0 n))
+
+    fewer : count ≤ n
+    fewer = omega (arith, pieces-few (entriesFrom n a 0 n), entries-length n a 0 n)
+
+    each : (l : List ℕ) → All (λ k. ltb k n ≡ false) l → All (λ k. ltb k count ≡ false) l
+    each [] h = tt
+    each (k ∷ l) h = (le-ltb k count (omega (arith, fewer, ltb-false k n (h .0))), each l (h .1))
+
 pub short-is : (b v : Bool) (count m : ℕ) (l : List ℕ) → b ≡ shortOutput count l → b ≡ v → count ≡ m → shortOutput m l ≡ v
 short-is b v count m l e f g = ap (λ (z : ℕ). shortOutput z l) (sym g) ∙ sym e ∙ f
 
 -- ---- room where the shortest column is long enough
-pub has-room : (n m : ℕ) (c : SegmentColumns) → shortOutput n (outputLengths c) ≡ false → n ≡ m → Room m c
+pub has-room : (n : ℕ) (c : SegmentColumns) → shortOutput n (outputLengths c) ≡ false → Room n c
 unfolding shortOutput
-has-room n m c e g =
+has-room n c e =
     let a = none-all (λ (k : ℕ). ltb k n) (outputLengths c) e in
-    record { net = omega (arith, ltb-false _ n (a .0)); orientation = omega (arith, ltb-false _ n (a .1 .0)); fixed = omega (arith, ltb-false _ n (a .1 .1 .0)); start = omega (arith, ltb-false _ n (a .1 .1 .1 .0)); end = omega (arith, ltb-false _ n (a .1 .1 .1 .1 .0)) }
+    record { net = ltb-false _ n (a .0); orientation = ltb-false _ n (a .1 .0); fixed = ltb-false _ n (a .1 .1 .0); start = ltb-false _ n (a .1 .1 .1 .0); end = ltb-false _ n (a .1 .1 .1 .1 .0) }
 
 -- ---- what is returned and written once the checks of the segments have passed
 module _ (c out : SegmentColumns) where
@@ -128,11 +163,11 @@ module _ (c out : SegmentColumns) where
   all-written s = (sym (cond-false _ (Refused ShortOutput) (joinedOf (segments c)) s), sym (cond-false _ out (written (joined (segments c)) out) s))
 
   pub finished : (new : SegmentColumns) (a : List ℕ) (count m : ℕ) → Lists c m → ((i : ℕ) → segmentAt c i .net < 4294967296) → TableInOrder c a
-      → count ≡ length (joinedPieces (entriesFrom (length (c .net)) a 0 (length (c .net)))) → shortOutput count (outputLengths out) ≡ false → new ≡ writtenPieces (joinedPieces (entriesFrom (length (c .net)) a 0 (length (c .net)))) out
+      → count ≡ length (joinedPieces (entriesFrom (length (c .net)) a 0 (length (c .net)))) → shortOutput (length (joinedPieces (entriesFrom (length (c .net)) a 0 (length (c .net))))) (outputLengths out) ≡ false → new ≡ writtenPieces (joinedPieces (entriesFrom (length (c .net)) a 0 (length (c .net)))) out
       → Ended (Joined count (length (c .net) - count)) new
   finished new a count m l nets o n s w =
       let j = n ∙ joined-count c a o in
-      let r = all-written (ap (λ (z : ℕ). shortOutput z (outputLengths out)) (sym j) ∙ s) in
+      let r = all-written (ap (λ (z : ℕ). shortOutput z (outputLengths out)) (sym (joined-count c a o)) ∙ s) in
       let small = segments-all Small c (l .agree) nets in
       let back = ap (λ (z : List Piece). writtenPieces z out) (joined-words c a o) ∙ written-back (joined (segments c)) out (joined-canonical (segments c) (l .fit)) (joined-small (segments c) small) in
       ((λ i. Joined (j i) (sym (length-segments c (l .agree)) i - j i)) ∙ r .0, w ∙ back ∙ r .1)

@@ -91,6 +91,7 @@ run-some c (x ∷ l) = let h = run-some (nextPiece c x) l in let e = put-length 
 
 pub record Writing (a : List ℕ) (n : ℕ) (old out : SegmentColumns) (c : Piece) (at k : ℕ) : Type 0 where
   pub small : k ≤ n
+  pub fewer : at < k
   pub done : List Piece
   pub whole : joinedPieces (entriesFrom n a 0 n) ≡ done ++ left a n k c
   pub count : at ≡ length done
@@ -101,7 +102,7 @@ pub write-none : (a : List ℕ) (n : ℕ) (old : SegmentColumns) → n ≡ 0 →
 write-none a n old e = none-written old ∙ ap (λ (l : List Piece). writtenPieces l old) (sym (whole-none a n e))
 
 pub write-start : (a : List ℕ) (n : ℕ) (old : SegmentColumns) (c : Piece) → (n ≡ 0 → ⊥) → c ≡ placed n a 0 → Writing a n old old c 0 1
-write-start a n old c h e = record { small = omega arith; done = []; whole = whole-first a n h ∙ ap (left a n 1) (sym e); count = refl; is = none-written old; same = record { net = refl; orientation = refl; fixed = refl; start = refl; end = refl } }
+write-start a n old c h e = record { small = omega arith; fewer = omega arith; done = []; whole = whole-first a n h ∙ ap (left a n 1) (sym e); count = refl; is = none-written old; same = record { net = refl; orientation = refl; fixed = refl; start = refl; end = refl } }
 
 module _ (a : List ℕ) (n : ℕ) (old : SegmentColumns) (room : Room (length (joinedPieces (entriesFrom n a 0 n))) old) where
   write-fits : (out : SegmentColumns) (c : Piece) (at k : ℕ) (w : Writing a n old out c at k) → length (w .done) + 1 ≤ length (joinedPieces (entriesFrom n a 0 n))
@@ -131,6 +132,7 @@ module _ (a : List ℕ) (n : ℕ) (old : SegmentColumns) (room : Room (length (j
       go : (touchesPiece c x ≡ true) ⊎ (touchesPiece c x ≡ false) → Writing a n old new d m (k + 1)
       go (inl t) = record {
         small = omega arith;
+        fewer = let z : begun c x ≡ 0 = ap (λ (b : Bool). bit (not b)) t in omega (arith, w .fewer);
         done = w .done;
         whole = w .whole ∙ ap (λ (l : List Piece). w .done ++ l) (split ∙ ap (λ (b : Bool). put (not b) c (left a n (k + 1) d)) t);
         count = let z : begun c x ≡ 0 = ap (λ (b : Bool). bit (not b)) t in omega (arith, w .count);
@@ -139,6 +141,7 @@ module _ (a : List ℕ) (n : ℕ) (old : SegmentColumns) (room : Room (length (j
       }
       go (inr t) = record {
         small = omega arith;
+        fewer = let z : begun c x ≡ 1 = ap (λ (b : Bool). bit (not b)) t in omega (arith, w .fewer);
         done = w .done ++ (c ∷ []);
         whole = w .whole ∙ ap (λ (l : List Piece). w .done ++ l) (split ∙ ap (λ (b : Bool). put (not b) c (left a n (k + 1) d)) t) ∙ sym (append-snoc (w .done) c (left a n (k + 1) d));
         count = let z : begun c x ≡ 1 = ap (λ (b : Bool). bit (not b)) t in omega (arith, w .count, length-append (w .done) (c ∷ []));
@@ -148,3 +151,6 @@ module _ (a : List ℕ) (n : ℕ) (old : SegmentColumns) (room : Room (length (j
 
   pub write-end : (out new : SegmentColumns) (c : Piece) (at k : ℕ) → Writing a n old out c at k → n ≤ k → new ≡ putPiece out at c → new ≡ writtenPieces (joinedPieces (entriesFrom n a 0 n)) old
   write-end out new c at k w h g = g ∙ more out c at k w ∙ ap (λ (l : List Piece). writtenPieces l old) (sym (w .whole ∙ ap (λ (l : List Piece). w .done ++ l) (left-last a n k c h)))
+
+  pub write-count : (out : SegmentColumns) (c : Piece) (at k : ℕ) → Writing a n old out c at k → n ≤ k → at + 1 ≡ length (joinedPieces (entriesFrom n a 0 n))
+  write-count out c at k w h = omega (arith, w .count, ap length (w .whole ∙ ap (λ (l : List Piece). w .done ++ l) (left-last a n k c h)), length-append (w .done) (c ∷ []))

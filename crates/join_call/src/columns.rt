@@ -1,14 +1,17 @@
 // The joiner by columns.
+ghost use mathlib.Core.List.{[], _∷_};
 ghost use mathlib.Core.Path.{_≡_};
 ghost use lib.ListN.{length};
 ghost use Rattle.drawing.specs.declared.refusal.Check.the-variants.{Passed};
 ghost use Rattle.drawing.specs.Refusals.{firstOf};
 ghost use Rattle.drawing.specs.Entries.{segmentColumns};
+ghost use Rattle.drawing.specs.Conditions.{shortOutput};
 ghost use Rattle.drawing.specs.Checks.{segmentListConditions};
 ghost use Rattle.drawing.specs.Held.{SegmentsHeld};
 ghost use Rattle.joining.specs.Answer.{joinAnswer, outputAfter};
 ghost use Rattle.join_call.specs.Inner.Rest.{restAnswer, restOutput};
-ghost use Rattle.join_call.specs.Inner.Table.{Lists};
+ghost use Rattle.joining.specs.Inner.Pieces.{joinedPieces};
+ghost use Rattle.join_call.specs.Inner.Table.{entriesFrom, Lists, Tabled};
 use crate::table::count_pieces;
 use crate::table::order_pieces;
 use crate::write::write_pieces;
@@ -18,7 +21,27 @@ use joining::JoinAnswer;
 use joining::short_output;
 use list_checks::check_segment_list;
 
-// Joins segments that passed the checks, by a table that has five words for each. The pieces are counted before any is written.
+// Whether some output column, of these lengths, has fewer entries than there are pieces. There are no more pieces than segments, so they are counted only where a column is shorter than the list.
+fn lacks_room(
+    a: &[u64],
+    n: usize,
+    net: usize,
+    orientation: usize,
+    fixed: usize,
+    start: usize,
+    end: usize,
+) -> bool
+    requires { ⌜ Tabled n (now a) ⌝ }
+    ensures { λ r. ⌜ r ≡ shortOutput (length (joinedPieces (entriesFrom n (now (a .entry)) 0 n))) (net ∷ orientation ∷ fixed ∷ start ∷ end ∷ []) ⌝ }
+{
+    if !short_output(n, net, orientation, fixed, start, end) {
+        return false;
+    }
+    let count = count_pieces(a, n);
+    short_output(count, net, orientation, fixed, start, end)
+}
+
+// Joins segments that passed the checks, by a table that has five words for each. Nothing is written before it is known that there is room.
 fn join_by_table(
     table: &mut [u64],
     net: &[u32],
@@ -42,9 +65,9 @@ fn join_by_table(
 {
     let n = net.len();
     order_pieces(table, net, orientation, fixed, start, end);
-    let count = count_pieces(table, n);
-    if short_output(
-        count,
+    if lacks_room(
+        table,
+        n,
         to_net.len(),
         to_orientation.len(),
         to_fixed.len(),
@@ -53,7 +76,7 @@ fn join_by_table(
     ) {
         return JoinAnswer::Refused(Refusal::ShortOutput);
     }
-    write_pieces(table, n, to_net, to_orientation, to_fixed, to_start, to_end);
+    let count = write_pieces(table, n, to_net, to_orientation, to_fixed, to_start, to_end);
     JoinAnswer::Joined(count, n - count)
 }
 

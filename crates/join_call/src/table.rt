@@ -84,7 +84,7 @@ fn one_more(count: usize, c: Piece, x: Piece) -> usize
     count + 1
 }
 
-// How many pieces the n pieces of the table join to.
+// How many pieces the n segments of the table join to.
 pub(crate) fn count_pieces(a: &[u64], n: usize) -> usize
     requires { ⌜ Tabled n (now a) ⌝ }
     ensures { λ r. ⌜ r ≡ length (joinedPieces (entriesFrom n (now (a .entry)) 0 n)) ⌝ }

@@ -56,7 +56,7 @@ fn close_piece(
     at + 1
 }
 
-// Writes what the n pieces of the table join to.
+// Writes what the n segments of the table join to. Returns how many pieces there are.
 pub(crate) fn write_pieces(
     a: &[u64],
     n: usize,
@@ -65,12 +65,13 @@ pub(crate) fn write_pieces(
     fixed: &mut [f64],
     start: &mut [f64],
     end: &mut [f64],
-)
+) -> usize
     requires { ⌜ Tabled n (now a) × Room (length (joinedPieces (entriesFrom n (now a) 0 n))) (segmentColumns (now net) (now orientation) (now fixed) (now start) (now end)) ⌝ }
+    ensures { λ r. ⌜ r ≡ length (joinedPieces (entriesFrom n (now (a .entry)) 0 n)) ⌝ }
     ensures { λ _. ⌜ segmentColumns (now (net .exit)) (now (orientation .exit)) (now (fixed .exit)) (now (start .exit)) (now (end .exit)) ≡ writtenPieces (joinedPieces (entriesFrom n (now (a .entry)) 0 n)) (segmentColumns (now (net .entry)) (now (orientation .entry)) (now (fixed .entry)) (now (start .entry)) (now (end .entry))) ⌝ }
 {
     if n == 0 {
-        return;
+        return 0;
     }
     let mut c = piece_at(a, n, 0);
     let mut at = 0;
@@ -82,4 +83,5 @@ pub(crate) fn write_pieces(
         k += 1;
     }
     write_piece(net, orientation, fixed, start, end, at, c);
+    at + 1
 }

@@ -1,4 +1,4 @@
--- Examples of the joined list and of what the call returns and leaves, by computing the definitions. Assumes nothing.
+-- Examples of the joined list and of what the call returns and leaves, by computing the definitions; any number of equal segments by `one-list`. Assumes nothing.
 use mathlib.Core.Path.{_≡_, refl, ap, _∙_}
 use mathlib.Core.Logic.{inl, inr}
 use mathlib.Core.List.{[], _∷_}
@@ -26,6 +26,18 @@ use Rattle.joining.proofs.JoinedLists.{one-list}
 
 abbrev one : Float
 one = ofBits binary64 0x3ff0_0000_0000_0000
+
+abbrev two : Float
+two = ofBits binary64 0x4000_0000_0000_0000
+
+abbrev three : Float
+three = ofBits binary64 0x4008_0000_0000_0000
+
+abbrev four : Float
+four = ofBits binary64 0x4010_0000_0000_0000
+
+abbrev five : Float
+five = ofBits binary64 0x4014_0000_0000_0000
 
 abbrev entry : ℕ → ℕ → ℕ → ℕ → ℕ → Segment
 entry n o f s e = record { net = n; orientation = o; fixed = ofBits binary64 f; start = ofBits binary64 s; end = ofBits binary64 e }
@@ -61,6 +73,11 @@ pub order : joined (entry 4294967295 1 0 0 0x3ff0_0000_0000_0000 ∷ entry 0 0 0
 unfolding joined pieces joinFrom touches extended canonicalZeros pieceRow sortBy insertBy rowLe keyOf key toBits size canonicalZero ofBits
 order = refl
 
+-- a line below 0 before one above it
+pub lines-in-order : joined (entry 1 1 0x3ff0_0000_0000_0000 0 0x3ff0_0000_0000_0000 ∷ entry 1 1 0xbff0_0000_0000_0000 0 0x3ff0_0000_0000_0000 ∷ []) ≡ entry 1 1 0xbff0_0000_0000_0000 0 0x3ff0_0000_0000_0000 ∷ entry 1 1 0x3ff0_0000_0000_0000 0 0x3ff0_0000_0000_0000 ∷ []
+unfolding joined pieces joinFrom touches extended canonicalZeros pieceRow sortBy insertBy rowLe keyOf key toBits size canonicalZero ofBits
+lines-in-order = refl
+
 -- the greatest finite numbers
 pub greatest : joined (entry 1 0 0 0xffef_ffff_ffff_ffff 0 ∷ entry 1 0 0 0 0x7fef_ffff_ffff_ffff ∷ []) ≡ entry 1 0 0 0xffef_ffff_ffff_ffff 0x7fef_ffff_ffff_ffff ∷ []
 unfolding joined pieces joinFrom touches extended canonicalZeros pieceRow sortBy insertBy rowLe keyOf key toBits size canonicalZero ofBits
@@ -94,30 +111,30 @@ module _ (s : Segment) (f : FitSegment s) where
   many-equal = ap length (equal-ones 4095)
 
 -- ---- calls: output columns of so many entries, which held something before
-abbrev lent : ℕ → ℕ → ℕ → ℕ → ℕ → SegmentColumns
-lent n o f s e = segmentColumns (replicate n 7) (replicate o 9) (replicate f one) (replicate s one) (replicate e one)
+abbrev held : ℕ → ℕ → ℕ → ℕ → ℕ → SegmentColumns
+held n o f s e = segmentColumns (replicate n 7) (replicate o 9) (replicate f one) (replicate s two) (replicate e three)
 
 abbrev nothing : SegmentColumns
 nothing = segmentColumns [] [] [] [] []
 
 -- 9 down to 5, and 0 to 5: one, from 0 to 9, and 1 went away
-pub reversed : joinAnswer (columnsOf (entry 1 1 0 0x4022_0000_0000_0000 0x4014_0000_0000_0000 ∷ entry 1 1 0 0 0x4014_0000_0000_0000 ∷ [])) (lent 1 1 1 1 1) ≡ Joined 1 1
+pub reversed : joinAnswer (columnsOf (entry 1 1 0 0x4022_0000_0000_0000 0x4014_0000_0000_0000 ∷ entry 1 1 0 0 0x4014_0000_0000_0000 ∷ [])) (held 1 1 1 1 1) ≡ Joined 1 1
 unfolding joinAnswer joinConditions segmentListConditions segmentsDiffer differ tooMany shortOutput unfitSegment unfitFields some-of firstOf segments segmentsOf columnsOf joined pieces joinFrom touches extended canonicalZeros pieceRow sortBy insertBy rowLe keyOf key toBits size canonicalZero lesserOf greaterOf lt ofBits
 reversed = refl
 
-pub reversed-written : outputAfter (columnsOf (entry 1 1 0 0x4022_0000_0000_0000 0x4014_0000_0000_0000 ∷ entry 1 1 0 0 0x4014_0000_0000_0000 ∷ [])) (lent 1 1 1 1 1) ≡ columnsOf (entry 1 1 0 0 0x4022_0000_0000_0000 ∷ [])
+pub reversed-written : outputAfter (columnsOf (entry 1 1 0 0x4022_0000_0000_0000 0x4014_0000_0000_0000 ∷ entry 1 1 0 0 0x4014_0000_0000_0000 ∷ [])) (held 1 1 1 1 1) ≡ columnsOf (entry 1 1 0 0 0x4022_0000_0000_0000 ∷ [])
 unfolding outputAfter written joinConditions segmentListConditions segmentsDiffer differ tooMany shortOutput unfitSegment unfitFields some-of firstOf segments segmentsOf columnsOf joined pieces joinFrom touches extended canonicalZeros pieceRow sortBy insertBy rowLe keyOf key toBits size canonicalZero lesserOf greaterOf lt ofBits
 reversed-written = refl
 
--- two pieces of two nets, and columns of 3, 2, 9, 9 and 9 entries: accepted, and what stood past them stays
+-- two pieces of two nets, at 4 from 0 to 5, and columns of 3, 2, 9, 9 and 9 entries: accepted, and what they held past the pieces stays
 abbrev two-nets : SegmentColumns
-two-nets = columnsOf (entry 2 1 0 0 0x3ff0_0000_0000_0000 ∷ entry 1 0 0 0 0x3ff0_0000_0000_0000 ∷ [])
+two-nets = columnsOf (entry 2 1 0x4010_0000_0000_0000 0 0x4014_0000_0000_0000 ∷ entry 1 0 0x4010_0000_0000_0000 0 0x4014_0000_0000_0000 ∷ [])
 
-pub different-lengths : joinAnswer two-nets (lent 3 2 9 9 9) ≡ Joined 2 0
+pub different-lengths : joinAnswer two-nets (held 3 2 9 9 9) ≡ Joined 2 0
 unfolding joinAnswer joinConditions segmentListConditions segmentsDiffer differ tooMany shortOutput unfitSegment unfitFields some-of firstOf segments segmentsOf columnsOf joined pieces joinFrom touches extended canonicalZeros pieceRow sortBy insertBy rowLe keyOf key toBits size canonicalZero lesserOf greaterOf lt ofBits
 different-lengths = refl
 
-pub kept-past : outputAfter two-nets (lent 3 2 9 9 9) ≡ segmentColumns (1 ∷ 2 ∷ 7 ∷ []) (0 ∷ 1 ∷ []) (ofBits binary64 0 ∷ ofBits binary64 0 ∷ replicate 7 one) (ofBits binary64 0 ∷ ofBits binary64 0 ∷ replicate 7 one) (one ∷ one ∷ replicate 7 one)
+pub kept-past : outputAfter two-nets (held 3 2 9 9 9) ≡ segmentColumns (1 ∷ 2 ∷ 7 ∷ []) (0 ∷ 1 ∷ []) (four ∷ four ∷ replicate 7 one) (ofBits binary64 0 ∷ ofBits binary64 0 ∷ replicate 7 two) (five ∷ five ∷ replicate 7 three)
 unfolding outputAfter written joinConditions segmentListConditions segmentsDiffer differ tooMany shortOutput unfitSegment unfitFields some-of firstOf segments segmentsOf columnsOf joined pieces joinFrom touches extended canonicalZeros pieceRow sortBy insertBy rowLe keyOf key toBits size canonicalZero lesserOf greaterOf lt ofBits
 kept-past = refl
 
@@ -125,11 +142,11 @@ kept-past = refl
 abbrev three-nets : SegmentColumns
 three-nets = columnsOf (entry 2 1 0 0 0x3ff0_0000_0000_0000 ∷ entry 1 0 0 0 0x3ff0_0000_0000_0000 ∷ entry 3 0 0 0 0x3ff0_0000_0000_0000 ∷ [])
 
-pub short : joinAnswer three-nets (lent 3 2 9 9 9) ≡ Refused ShortOutput
+pub short : joinAnswer three-nets (held 3 2 9 9 9) ≡ Refused ShortOutput
 unfolding joinAnswer joinConditions segmentListConditions segmentsDiffer differ tooMany shortOutput unfitSegment unfitFields some-of firstOf segments segmentsOf columnsOf joined pieces joinFrom touches extended canonicalZeros pieceRow sortBy insertBy rowLe keyOf key toBits size canonicalZero lesserOf greaterOf lt ofBits
 short = refl
 
-pub nothing-written : outputAfter three-nets (lent 3 2 9 9 9) ≡ lent 3 2 9 9 9
+pub nothing-written : outputAfter three-nets (held 3 2 9 9 9) ≡ held 3 2 9 9 9
 unfolding outputAfter written joinConditions segmentListConditions segmentsDiffer differ tooMany shortOutput unfitSegment unfitFields some-of firstOf segments segmentsOf columnsOf joined pieces joinFrom touches extended canonicalZeros pieceRow sortBy insertBy rowLe keyOf key toBits size canonicalZero lesserOf greaterOf lt ofBits
 nothing-written = refl
 
@@ -146,3 +163,8 @@ differ-first = refl
 pub none : joinAnswer nothing nothing ≡ Joined 0 0
 unfolding joinAnswer joinConditions segmentListConditions segmentsDiffer differ tooMany shortOutput unfitSegment unfitFields some-of firstOf segments segmentsOf columnsOf joined pieces joinFrom touches extended canonicalZeros pieceRow sortBy insertBy rowLe keyOf key toBits size canonicalZero lesserOf greaterOf lt ofBits
 none = refl
+
+-- a segment between the two zeros: 5
+pub between-zeros : joinAnswer (columnsOf (entry 1 1 0 0x8000_0000_0000_0000 0 ∷ [])) (held 1 1 1 1 1) ≡ Refused InvalidInput
+unfolding joinAnswer joinConditions segmentListConditions segmentsDiffer differ tooMany shortOutput unfitSegment unfitFields some-of firstOf segments segmentsOf columnsOf joined pieces joinFrom touches extended canonicalZeros pieceRow sortBy insertBy rowLe keyOf key toBits size canonicalZero lesserOf greaterOf lt ofBits
+between-zeros = refl

@@ -7,16 +7,16 @@ use Prim.Native.Nat.{suc, _≤_, zero-le}
 use native.Mathlib.Omega.{arith}
 use lib.Dec.{eqb}
 use lib.ListN.{length}
-use borrow.Author.Tests.{eqb-true}
+use borrow.Author.Tests.{eqb-true, eq-eqb}
 use Rattle.laws.specs.Lists.{Mem, All, fold, count}
-use Rattle.laws.proofs.Tests.{decide, and-left, and-right}
+use Rattle.laws.proofs.Tests.{decide, and-left, and-right, and-both}
 use Rattle.laws.proofs.ListLaws.{all-mem}
 use Rattle.floats.specs.TotalOrder.{keyOf}
 use Rattle.floats.specs.Values.{canonicalZero}
 use Rattle.floats.proofs.NumberKeys.{key-of-one}
 use Rattle.drawing.specs.Entries.{Segment}
 use Rattle.drawing.specs.Held.{Binary64}
-use Rattle.joining.specs.Points.{NumberLine, NetLine, netLineOf, isOn}
+use Rattle.joining.specs.Points.{Finite, NumberLine, NetLine, netLineOf, isOn}
 use Rattle.joining.proofs.Canonical.{Canonical, canonical-number, row-of-line}
 use Rattle.joining.proofs.Spans.{Some, Over, reach, other, back}
 use Rattle.joining.proofs.Merging.{Normal}
@@ -48,7 +48,16 @@ without P (y ∷ m) (inr h) = go (without P m h)
         all Q (inr s) = inr (w .all Q s)
 
 -- ---- the test of a line
-pub on-line : (t : NetLine) (s : Segment) → Binary64 (t .fixed) → Canonical s → isOn t s ≡ true → netLineOf s ≡ t
+pub is-on : (t : NetLine) (s : Segment) → netLineOf s ≡ t → isOn t s ≡ true
+unfolding isOn
+is-on t s e =
+    let n = eqb (s .net) (t .net) in
+    let o = eqb (s .orientation) (t .orientation) in
+    let f = eqb (keyOf (canonicalZero (s .fixed))) (keyOf (t .fixed)) in
+    and-both n (o && f) (eq-eqb (s .net) (t .net) (ap (λ (u : NetLine). u .net) e))
+    (and-both o f (eq-eqb (s .orientation) (t .orientation) (ap (λ (u : NetLine). u .orientation) e)) (eq-eqb (keyOf (canonicalZero (s .fixed))) (keyOf (t .fixed)) (ap (λ (u : NetLine). keyOf (u .fixed)) e)))
+
+pub on-line : (t : NetLine) (s : Segment) → Binary64 (t .fixed) → Finite (s .fixed) → isOn t s ≡ true → netLineOf s ≡ t
 unfolding isOn
 on-line t s b p h =
     let n = eqb (s .net) (t .net) in
@@ -57,7 +66,7 @@ on-line t s b p h =
     let k = and-right n (o && f) h in
     let x = eqb-true (s .net) (t .net) (and-left n (o && f) h) in
     let y = eqb-true (s .orientation) (t .orientation) (and-left o f k) in
-    let z = key-of-one (canonicalZero (s .fixed)) (t .fixed) (canonical-number (s .fixed) (p .fixed .fin) .fin .0) b (eqb-true (keyOf (canonicalZero (s .fixed))) (keyOf (t .fixed)) (and-right o f k)) in
+    let z = key-of-one (canonicalZero (s .fixed)) (t .fixed) (canonical-number (s .fixed) p .fin .0) b (eqb-true (keyOf (canonicalZero (s .fixed))) (keyOf (t .fixed)) (and-right o f k)) in
     (λ i. record { net = x i; orientation = y i; fixed = z i })
 
 module _ (L : NumberLine) (t : NetLine) (b : Binary64 (t .fixed)) where
@@ -110,7 +119,7 @@ module _ (L : NumberLine) (t : NetLine) (b : Binary64 (t .fixed)) where
         let c : count (isOn t) l ≤ length m = fewest-spans l m (ps .1) (n .1) (kept-later a l m ps n k) (λ q i e. r q (inr i) e) in
         rw f (omega arith)
     | inl h ↦
-        let e = on-line t a b (ps .0) h in
+        let e = on-line t a b (ps .0 .fixed .fin) h in
         let w = without (In (L .at (a .start))) m (r a (inl refl) e) in
         let met : Met l (w .rest) = λ q i d. elim (w .others (In (L .at (q .start))) (r q (inr i) d)) [ inr s ↦ s | inl v ↦ absurd (apart-spans a l m ps n k e (w .one) (w .first) (w .has) q i d v) ] in
         let later : Kept l (w .rest) = λ q i d p u s. kept-later a l m ps n k q i d p u (w .all (In p) s) in

@@ -25,12 +25,12 @@ use Rattle.joining.specs.Points.{NumberLine, NetLine, netLineOf, Covers,
 use Rattle.joining.specs.Joined.{canonicalZeros, lineRow, pieceRow, inOrder, extended, pieces, joined}
 use Rattle.joining.specs.JoinedLists.{NoMinusZero, JoinedLists}
 use Rattle.joining.proofs.LineRows.{lead, on-one, same-lead}
-use Rattle.joining.proofs.Canonical.{Canonical, Strict, canonical-strict, canonical-is, canonical-fit, canonical-taken, strict-rises, row-of-line, piece-one, key-below}
+use Rattle.joining.proofs.Canonical.{Canonical, Strict, finite-fixed, canonical-strict, canonical-is, canonical-fit, canonical-taken, strict-rises, row-of-line, piece-one, key-below}
 use Rattle.joining.proofs.Spans.{Some, mem-some, some-mem, Over, over-start, covers-some, some-covers, to-canonical, from-canonical}
 use Rattle.joining.proofs.Merging.{starts, Apart, Normal, join-all, extended-canonical, extended-strict, join-length, join-normal, join-into, join-out}
 use Rattle.joining.proofs.OneList.{apart-starts, apart-keys, one-normal}
 use Rattle.joining.proofs.Halves.{halves}
-use Rattle.joining.proofs.Fewest.{fewest-spans}
+use Rattle.joining.proofs.Fewest.{is-on, on-line, fewest-spans}
 
 -- ---- the entries made canonicalZeros and put in order
 starts-of : (a b : Segment) → inOrder a b ≡ true → starts a b ≡ true
@@ -221,6 +221,8 @@ pub joined-lists : JoinedLists
 joined-lists = record {
   same-points = same-points;
   fewest = fewest;
+  counted = is-on;
+  only-counted = λ t s b f h. on-line t s b (finite-fixed s f) h;
   apart = apart;
   rises = rises;
   in-order = in-order;

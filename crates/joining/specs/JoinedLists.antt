@@ -24,6 +24,9 @@ pub record JoinedLists : Type 1 where
   pub same-points : (L : NumberLine) (l : List Segment) → All FitSegment l → SamePoints L l (joined l)
   -- SCOPE 16.3: "the fewest pieces of each net, orientation and fixed coordinate": any pieces of that line that reach over the same points are at least as many, wherever they end
   pub fewest : (L : NumberLine) (l : List Segment) → All FitSegment l → (t : NetLine) → Binary64 (t .fixed) → (m : List (L .Point × L .Point)) → SameOnLine L l t m → count (isOn t) (joined l) ≤ length m
+  -- the pieces that are counted there are those of the line, and no others
+  pub counted : (t : NetLine) (s : Segment) → netLineOf s ≡ t → isOn t s ≡ true
+  pub only-counted : (t : NetLine) (s : Segment) → Binary64 (t .fixed) → FitSegment s → isOn t s ≡ true → netLineOf s ≡ t
   -- SCOPE 16.3: "pieces that touch at an end becoming one": of two pieces of one line the earlier one ends below the start of the later one
   pub apart : (l : List Segment) → All FitSegment l → Pairwise (λ a b. netLineOf a ≡ netLineOf b → lt (a .end) (b .start) ≡ true) (joined l)
   -- SCOPE 16.4: "each written with start below end"

@@ -1,4 +1,4 @@
--- The points that segments cover (SCOPE 16.2), "points of the real line". The logic has no real numbers, so all is said of every number line: a linear order of points that has the finite floats in the order of their values, and between any two of them a point more. The real line is one; `Halves` in proofs/ is another, so that what is said is said of something.
+-- The points that segments cover (SCOPE 16.2), "points of the real line". The logic has no real numbers, so all is said of every number line: points in a total order that has the finite floats in the order of their values, and between any two of them a point more. The real line of ordinary mathematics is one, which is said here and not proved; `halves` in proofs/Halves is another, so that what is said is said of something.
 use mathlib.Core.Path.{_≡_}
 use mathlib.Core.Logic.{_⊎_}
 use mathlib.Core.Bool.{Bool, true, _&&_}

@@ -59,7 +59,7 @@ pub fn bench(runs: u64, allowance: Option<u64>) -> Result<(), String> {
         })?;
         greatest.push(("tight pair", greatest_ratio(rows, allowance)));
         println!(
-            "The Rust has no joiner: its times are those of a plain one that sorts and walks."
+            "The Rust has no joiner: its times are those of a plain one that checks, sorts and walks."
         );
         for (name, kinds) in [("join", &JOIN[..]), ("short join", &SHORT_JOIN[..])] {
             let rows = print_rows(name, kinds, |drawing| join_times(drawing, runs))?;
@@ -275,9 +275,11 @@ fn join_times(drawing: &Drawing, runs: u64) -> Result<Times, Returned> {
                 words: words.to_vec(),
             }
         },
-        |counts, returned| {
-            let words = counts.map(|count| count as u64).to_vec();
-            *returned == Returned { status: 0, words }
+        |counts: Option<[usize; 2]>, returned| {
+            counts.is_some_and(|counts| {
+                let words = counts.map(|count| count as u64).to_vec();
+                *returned == Returned { status: 0, words }
+            })
         },
     )?;
     if by_rust != by_port {

@@ -483,7 +483,7 @@ fn the_plain_joiner_joins_to_the_same_pieces() {
         let pieces = joined(&segments);
         let mut to = SegmentColumns::of_words([pieces.len(); 5], || 0);
         let counts = crate::plain_joiner::join(&columns, &mut to);
-        assert_eq!(counts, [pieces.len(), segments.len() - pieces.len()]);
+        assert_eq!(counts, Some([pieces.len(), segments.len() - pieces.len()]));
         assert_eq!(to, SegmentColumns::of(&pieces));
     }
 }

@@ -1,26 +1,33 @@
 //! A plain joiner, for the port's to be timed against: the reference has none.
 //!
-//! It is what a program in Rust would do: gather the columns into records, sort
-//! them with the standard library's sort, and make pieces of them on one walk.
-//! The ends are not compared in sorting, since the walk takes the greatest. It
-//! needs no second list: the pieces replace the records from the front.
+//! It is what a program in Rust would do: check the columns as the call does, gather
+//! them into records, sort these with the standard library's sort, and make pieces
+//! of them on one walk. The ends are not compared in sorting, since the walk takes
+//! the greatest. It needs no second list: the pieces replace the records from the
+//! front.
 
 use std::cmp::Ordering;
 
 use crate::{
     drawing::{plus_zero, VERTICAL},
+    refusals::CALL_LIMITS,
     segment_columns::SegmentColumns,
 };
 
 /// Writes the pieces to the front of other columns and returns how many they are,
-/// and how many went away. That the lists are fit and that there is room is not
-/// checked.
-pub fn join(columns: &SegmentColumns, to: &mut SegmentColumns) -> [usize; 2] {
+/// and how many went away; nothing where the port's call would refuse.
+pub fn join(columns: &SegmentColumns, to: &mut SegmentColumns) -> Option<[usize; 2]> {
+    if !is_fit(columns) {
+        return None;
+    }
     let mut records: Vec<Record> = (0..columns.net.len())
         .map(|place| Record::of(columns, place))
         .collect();
     records.sort_unstable_by(Record::order);
     let pieces = merge(&mut records);
+    if lengths(to).iter().any(|&length| length < pieces) {
+        return None;
+    }
     for (place, piece) in records[..pieces].iter().enumerate() {
         to.net[place] = (piece.net_and_orientation / 2) as u32;
         to.orientation[place] = 1 - (piece.net_and_orientation % 2) as u8;
@@ -28,7 +35,36 @@ pub fn join(columns: &SegmentColumns, to: &mut SegmentColumns) -> [usize; 2] {
         to.start[place] = piece.start;
         to.end[place] = piece.end;
     }
-    [pieces, records.len() - pieces]
+    Some([pieces, records.len() - pieces])
+}
+
+fn lengths(columns: &SegmentColumns) -> [usize; 5] {
+    [
+        columns.net.len(),
+        columns.orientation.len(),
+        columns.fixed.len(),
+        columns.start.len(),
+        columns.end.len(),
+    ]
+}
+
+/// Refusals 2, 3 and 5.
+fn is_fit(columns: &SegmentColumns) -> bool {
+    let count = columns.net.len();
+    lengths(columns) == [count; 5]
+        && count <= CALL_LIMITS.segments
+        && (0..count).all(|place| {
+            let (fixed, start, end) = (
+                columns.fixed[place],
+                columns.start[place],
+                columns.end[place],
+            );
+            columns.orientation[place] <= 1
+                && fixed.is_finite()
+                && start.is_finite()
+                && end.is_finite()
+                && start != end
+        })
 }
 
 #[derive(Clone, Copy)]

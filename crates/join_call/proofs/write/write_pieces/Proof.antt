@@ -1,8 +1,10 @@
 -- `join_call::write::write_pieces` meets its contract: what is written and what is left make up the whole. Assumes nothing.
-use mathlib.Core.Path.{_∙_}
+use mathlib.Core.Path.{sym, ap, _∙_}
 use Prim.Native.Nat.{_-_}
+use lib.ListN.{length}
 use Rattle.drawing.specs.Entries.{segmentColumns}
-use Rattle.join_call.proofs.Writes.{Writing, write-none, write-start, write-room, write-next, write-end}
+use Rattle.join_call.proofs.Runs.{whole-none}
+use Rattle.join_call.proofs.Writes.{Writing, write-none, write-start, write-room, write-next, write-count, write-end}
 use native.Mathlib.Omega.{arith}
 use borrow.Author.Needs.{needs}
 use Rattle.join_call.proofs.write.write_pieces.Statement.{statement}
@@ -15,7 +17,7 @@ abbrev μ-loop : tie.MeasureT-loop
 μ-loop a n net₀ orientation₀ fixed₀ start₀ end₀ c₀ at₀ k₀ net orientation fixed start end c at k = n - k
 
 returns : tie.Need-returns Inv-loop μ-loop
-returns c = write-none _ _ _ (c .if1 .taken)
+returns c = (sym (ap length (whole-none _ _ (c .if1 .taken))), write-none _ _ _ (c .if1 .taken))
 
 piece-at-requires : tie.Need-piece-at-requires Inv-loop μ-loop
 piece-at-requires c κs = (c .before .before .before .before .before .before .before .pre .0, omega (arith, c .if1 .left))
@@ -46,6 +48,9 @@ loop-again c =
 write-piece-requires : tie.Need-write-piece-requires Inv-loop μ-loop
 write-piece-requires c κs = write-room _ _ _ (c .before .before .before .before .before .before .before .before .before .before .before .before .before .before .before .pre .1) _ _ _ _ (c .before .before .before .before .before .before .loop .inv)
 
+add-result : tie.Need-add-result Inv-loop μ-loop
+add-result c = search needs
+
 same-length : tie.Need-same-length Inv-loop μ-loop
 same-length c = c .before .before .before .before .before .before .before .before .before .before .write-piece .kept .0 ∙ c .before .before .before .before .before .before .before .before .before .before .before .before .before .before .before .before .before .loop .inv .same .net
 
@@ -64,7 +69,8 @@ same-length-5 c = c .before .before .before .before .before .before .before .bef
 returns-2 : tie.Need-returns-2 Inv-loop μ-loop
 returns-2 c =
     let end = c .before .before .before .before .before .before .before .before .before .before .before .before .before .before .before .before in
-    write-end _ _ _ (end .before .before .before .before .before .before .before .before .before .before .pre .1) _ _ _ _ _ (end .before .loop .inv) (end .loop-test .left) (c .before .before .before .before .before .before .before .before .before .before .write-piece .ensures)
+    let room = end .before .before .before .before .before .before .before .before .before .before .pre .1 in
+    (write-count _ _ _ room _ _ _ _ (end .before .loop .inv) (end .loop-test .left), write-end _ _ _ room _ _ _ _ _ (end .before .loop .inv) (end .loop-test .left) (c .before .before .before .before .before .before .before .before .before .before .write-piece .ensures))
 
 pub write-pieces-spec : {M : Type 1} → statement M
 write-pieces-spec =
@@ -82,6 +88,7 @@ write-pieces-spec =
     loop-less
     loop-again
     write-piece-requires
+    add-result
     same-length
     same-length-2
     same-length-3
