@@ -1,4 +1,5 @@
 // Axis-aligned boxes of nodes and segments.
+#![tactic(auto)]
 pub mod aabb;
 
 pub use aabb::Aabb;

@@ -28,7 +28,7 @@ indexed_row false n = key_of n.bounds.top ∷ key_of n.bounds.bottom ∷ key_of 
 unfoldable pub indexed_in_order : Bool → List IndexedNode → List IndexedNode
 indexed_in_order horizontal l = sort_by (λ a b. row_le (indexed_row horizontal a) (indexed_row horizontal b)) l
 
--- SCOPE 5.2: "along its wider axis, horizontal when the spans are equal": the spans by total_order, as the Rust compares them
+-- SCOPE 5.2: "along its wider axis, horizontal when the spans are equal": the spans by totalOrder, as the Rust compares them
 unfoldable pub horizontal_wider : Aabb → Bool
 horizontal_wider b = nat_le (key_of (sub binary64 b.bottom b.top)) (key_of (sub binary64 b.right b.left))
 

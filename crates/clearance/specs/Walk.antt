@@ -25,7 +25,7 @@ with_pair false threshold d g = record { least = lesser_gap g.least (Present d);
 
 -- the walk of one segment over a tree, from the figures so far.
 -- SCOPE 5.7: "A leaf costs one visit when reached and not pruned, exempt pairs included."
--- SCOPE 5.6: "The nearer child is walked first, the left one on a tie": the distances by total_order, as the Rust compares them.
+-- SCOPE 5.6: "The nearer child is walked first, the left one on a tie": the distances by totalOrder, as the Rust compares them.
 unfoldable pub walk : List Exemption → Float → Segment → Tree → Figures → Charged Figures
 walk ex threshold s empty g = free g
 walk ex threshold s (leaf n) g =

@@ -11,7 +11,7 @@ use Rattle.drawing.specs.Entries.{Segment}
 unfoldable pub close_floats : Float → Segment → Segment → Bool
 close_floats cutoff s t = eqb s.orientation t.orientation && lt (gap_of s.fixed t.fixed) cutoff && lt (greater_of s.start t.start) (lesser_of s.end t.end)
 
--- SCOPE 5.12, 9.1: `Excluded(FloatKey(query.fixed - cutoff)), Excluded(FloatKey(query.fixed + cutoff))`: the Rust's range of lines, each bound one rounded step, compared by total_order's keys; zeros are +0 first
+-- SCOPE 5.12, 9.1: `Excluded(FloatKey(query.fixed - cutoff)), Excluded(FloatKey(query.fixed + cutoff))`: the Rust's range of lines, each bound one rounded step, compared by totalOrder's keys; zeros are +0 first
 unfoldable pub in_range_floats : Float → Segment → Segment → Bool
 in_range_floats cutoff s t =
     let x = canonical_zero s.fixed in

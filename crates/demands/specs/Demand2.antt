@@ -37,9 +37,9 @@ pub record Exact (s : SegmentColumns) (cutoff : Float) : Type 0 where
 
 -- what the definitions use instead of the Rust's own comparisons
 pub record Comparisons : Type 0 where
-  -- SCOPE 1.3, 9.4, "floats by total_order": the definitions compare keys, whose order is IEEE 754's total_order of the bit patterns
+  -- SCOPE 1.3, 9.4, "floats by totalOrder": the definitions compare keys, whose order is IEEE 754's totalOrder of the bit patterns
   pub total-order : (a b : ℕ) → a < 2 ^ 64 → b < 2 ^ 64 → leb (key a) (key b) ≡ total_order a b
-  -- SCOPE 5.9, 5.12: the Rust orders congestion's events by total_order of their coordinates, the sweep by their 64ths: on the grid, zeros taken as +0 (SCOPE 9.2), both orders are the same
+  -- SCOPE 5.9, 5.12: the Rust orders congestion's events by totalOrder of their coordinates, the sweep by their 64ths: on the grid, zeros taken as +0 (SCOPE 9.2), both orders are the same
   pub grid-order : (x y : Float) → Binary64 x → Binary64 y → on_grid x ≡ true → on_grid y ≡ true → ltb (key_of (canonical_zero x)) (key_of (canonical_zero y)) ≡ ltb (unit x) (unit y)
   -- SCOPE 5.11: the Rust's tree of active nets keeps two different nets for each node; the walk of separation asks whether any other net is active on the node's lines
   pub two-nets : (ls : List ℕ) (active : List Row) (net h first : ℕ) → has_other (summary_over ls active h first) net ≡ other_in ls active net first (first + 2 ^ h)

@@ -1,4 +1,4 @@
--- The orders in which the lists are walked. SCOPE 9.4: "segments came in the order net, orientation byte, fixed, start, end, and its nodes in the order id, x, y, width, height, floats by total_order".
+-- The orders in which the lists are walked. SCOPE 9.4: "segments came in the order net, orientation byte, fixed, start, end, and its nodes in the order id, x, y, width, height, floats by totalOrder".
 use Rattle.std.specs.Prelude.{List, [], ◌∷◌, ℕ}
 use Rattle.laws.specs.Rows.{row_le}
 use Rattle.laws.specs.Sort.{sort_by}

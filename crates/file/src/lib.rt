@@ -1,4 +1,5 @@
 // The drawing file: reading its bytes into columns. SCOPE 10.
+#![tactic(auto)]
 mod bytes;
 mod fill;
 pub mod read;

@@ -1,4 +1,4 @@
--- The order of the keys is total_order, and the comparison by keys is the comparison by total_order. Assumes nothing.
+-- The order of the keys is totalOrder, and the comparison by keys is the comparison by total_order. Assumes nothing.
 use Rattle.std.proofs.Common.{◌≡◌, ℕ, ◌+◌, ◌-◌, ◌%◌, ◌^◌, ◌<◌, ◌≤◌, Bool, true, false, cond, not, ◌&&◌, T, eqb, leb, ◌⊎◌, pos, sym, refl, ap, ◌∙◌, subst, inl, inr, le_of_eq, eq-or-lt_of_le, arith, le→leb, eqb→eq, ltb→lt, leb→le, nltb→le}
 use lib.Dec.{nleb→lt, not_T}
 use lib.Ieee.{Float, fin, binary64, size, lt, is_nan, nan_bits, of_bits, to_bits}
@@ -153,7 +153,7 @@ nans a b (inl s) (inr t) h k = in_order a b (omega (arith, s.1, t.1)) ∙ sym (c
 nans a b (inr s) (inl t) h k = out_of_order a b (omega (arith, s.1, t.1)) ∙ sym (cond_false (sign_set a) _ _ s.0 ∙ cond_true (sign_set b) _ _ t.0)
 nans a b (inr s) (inr t) h k = leb_same (key a) (key b) (a % 2 ^ 63) (b % 2 ^ 63) (λ l. omega (arith, s.1, t.1)) (λ l. omega (arith, s.1, t.1)) ∙ nans_by_digits a b h k ∙ sym (cond_false (sign_set a) _ _ s.0 ∙ cond_false (sign_set b) _ _ t.0)
 
--- ---- the order of the keys is total_order
+-- ---- the order of the keys is totalOrder
 pub key-order : (a b : ℕ) → a < 2 ^ 64 → b < 2 ^ 64 → leb (key a) (key b) ≡ total_order a b
 unfolding total_order
 key-order a b p q = go (nan_bits binary64 a) (nan_bits binary64 b) (nan-above a) (number-below a) (nan-above b) (number-below b) (numbers a b p q)
@@ -174,7 +174,7 @@ module _ (a b : ℕ) (p : a < 2 ^ 64) (q : b < 2 ^ 64) where
   pub disorder_of_keys : key b < key a → total_order a b ≡ false
   disorder_of_keys h = sym (key-order a b p q) ∙ out_of_order a b h
 
--- ---- and a comparison of keys is one by total_order
+-- ---- and a comparison of keys is one by totalOrder
 module _ (a b : ℕ) (p : a < 2 ^ 64) (q : b < 2 ^ 64) where
   pub less_of_keys : key a < key b → total_cmp a b ≡ Less
   unfolding total_cmp

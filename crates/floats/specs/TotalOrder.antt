@@ -1,4 +1,4 @@
--- total_order of IEEE 754-2019 (SCOPE 1.3), section 5.10, on the 64-bit patterns of binary64, and the key of a pattern: a number, its position in this order.
+-- totalOrder of IEEE 754-2019 (SCOPE 1.3), section 5.10, on the 64-bit patterns of binary64, and the key of a pattern: a number, its position in this order.
 use Rattle.std.specs.Prelude.{ℕ, ◌+◌, ◌-◌, ◌%◌, Bool, true, false, cond, not, ◌&&◌, ◌==◌, from_bits, nat_le, nat_lt, to_bits, Float}
 use Rattle.std.specs.Float.{binary64}
 use Rattle.std.specs.Float.Ieee.{nan_bits, lt}
@@ -30,11 +30,11 @@ positive_nans_in_order a b = cond (quiet a) (cond (quiet b) (nat_le (payload a) 
 unfoldable pub nans_in_order : ℕ → ℕ → Bool
 nans_in_order a b = cond (sign_set a) (cond (sign_set b) (positive_nans_in_order b a) true) (cond (sign_set b) false (positive_nans_in_order a b))
 
--- total_order(x, y): d) 1) a NaN with the sign set is before every number, and d) 2) every number before a NaN with the sign clear
+-- totalOrder(x, y): d) 1) a NaN with the sign set is before every number, and d) 2) every number before a NaN with the sign clear
 unfoldable pub total_order : ℕ → ℕ → Bool
 total_order a b = cond (nan_bits binary64 a) (cond (nan_bits binary64 b) (nans_in_order a b) (sign_set a)) (cond (nan_bits binary64 b) (not (sign_set b)) (numbers_in_order a b))
 
--- the position of a pattern, a number: the order of these numbers is total_order (`key-order` in proofs/TotalOrder.antt)
+-- the position of a pattern, a number: the order of these numbers is totalOrder (`key-order` in proofs/TotalOrder.antt)
 unfoldable pub key : ℕ → ℕ
 key b = cond (nat_lt b 0x8000_0000_0000_0000) (b + 0x8000_0000_0000_0000) (0xffff_ffff_ffff_ffff - b)
 

@@ -1,4 +1,5 @@
 // The joiner's call: pieces in a table, in order, counted, and then written.
+#![tactic(auto)]
 pub mod columns;
 mod table;
 mod write;

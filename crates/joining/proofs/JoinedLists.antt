@@ -167,7 +167,7 @@ parted (a ∷ l) p n = (λ b m e. let q = all_mem Canonical l p.1 b m in key_bel
 pub apart : (l : List Segment) → All FitSegment l → Pairwise (λ a b. net_line_of a ≡ net_line_of b → lt a.end b.start ≡ true) (joined l)
 apart l f = parted (joined l) (joined_canonical l f) (joined_normal l)
 
--- ==== "ordered by net, horizontal first, then fixed, start and end by total_order"
+-- ==== "ordered by net, horizontal first, then fixed, start and end by totalOrder"
 apart-order : (a b : Segment) → Canonical a → Apart a b → is_in_order a b ≡ true
 unfolding piece_row
 apart-order a b p n = elim (lead (line_row a) (line_row b) (key_of a.start ∷ []) (key_of b.start ∷ []) refl (apart-starts a b p n)) [

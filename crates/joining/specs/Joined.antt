@@ -11,7 +11,7 @@ use Rattle.drawing.specs.Entries.{Segment}
 unfoldable pub canonical_zeros : Segment → Segment
 canonical_zeros s = record { net = s.net; orientation = s.orientation; fixed = canonical_zero s.fixed; start = canonical_zero s.start; end = canonical_zero s.end }
 
--- SCOPE 16.4: "ordered by net, horizontal first, then fixed, start and end by total_order"; the orientation byte of a horizontal segment is 1
+-- SCOPE 16.4: "ordered by net, horizontal first, then fixed, start and end by totalOrder"; the orientation byte of a horizontal segment is 1
 abbrev pub line_row : Segment → List ℕ
 line_row s = s.net ∷ (1 - s.orientation) ∷ key_of s.fixed ∷ []
 

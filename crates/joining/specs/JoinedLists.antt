@@ -27,7 +27,7 @@ pub record JoinedLists : Type 1 where
   pub apart : (l : List Segment) → All FitSegment l → Pairwise (λ a b. net_line_of a ≡ net_line_of b → lt a.end b.start ≡ true) (joined l)
   -- SCOPE 16.4: "each written with start below end"
   pub rises : (l : List Segment) → All FitSegment l → All (λ s. lt s.start s.end ≡ true) (joined l)
-  -- SCOPE 16.4: "ordered by net, horizontal first, then fixed, start and end by total_order"
+  -- SCOPE 16.4: "ordered by net, horizontal first, then fixed, start and end by totalOrder"
   pub in_order : (l : List Segment) → All FitSegment l → Pairwise (λ a b. is_in_order a b ≡ true) (joined l)
   -- SCOPE 16.4: "with zeros made +0"
   pub zeros : (l : List Segment) → All FitSegment l → All NoMinusZero (joined l)

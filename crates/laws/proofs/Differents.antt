@@ -158,6 +158,7 @@ distinct_mem z (x ∷ l) m = go (differs x l) m (distinct_mem z l)
 
 pub mem_distinct : (z : ℕ) (l : List ℕ) → Mem z l → Mem z (distinct l)
 unfolding distinct
+mem_distinct z [] m = elim m [ ]
 mem_distinct z (x ∷ l) m = go (differs x l) refl m (mem_distinct z l)
   where
     next : (l : List ℕ) → differs x l ≡ false → z ≡ x → Mem z l
@@ -186,6 +187,7 @@ distinct-rising [] s = tt
 distinct-rising (x ∷ l) s = go (differs x l) refl (distinct-rising l s.1)
   where
     under : (l : List ℕ) → Sorted leb (x ∷ l) → differs x l ≡ true → (z : ℕ) → Mem z l → x < z
+    under [] s e z m = elim m [ ]
     under (y ∷ l) s e z m =
         let h = leb-true x y (s.0 y (inl refl)) in
         let n = eqb-false x y (not-true (eqb x y) e) in

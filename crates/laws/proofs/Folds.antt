@@ -145,5 +145,6 @@ module _ {A : Type 0} where
 
   pub at_most_greatest : (f : A → ℕ) (l : List A) (x : A) → Mem x l → f x ≤ fold max 0 f l
   unfolding fold
+  at_most_greatest f [] x x3 = elim x3 [ ]
   at_most_greatest f (y ∷ l) x (inl e) = let h = ap f e in omega arith
   at_most_greatest f (y ∷ l) x (inr m) = let h = at_most_greatest f l x m in omega arith

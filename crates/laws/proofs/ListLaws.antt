@@ -21,6 +21,7 @@ map_same f g (x ∷ l) h = λ i. h x (inl refl) i ∷ map_same f g l (λ y m. h 
 module _ {A : Type 0} where
   -- ---- what holds of each entry
   pub all_mem : (P : A → Type 0) (l : List A) → All P l → (x : A) → Mem x l → P x
+  all_mem P [] h x x4 = elim x4 [ ]
   all_mem P (y ∷ l) h x (inl e) = subst P (sym e) h.0
   all_mem P (y ∷ l) h x (inr m) = all_mem P l h.1 x m
 
@@ -51,6 +52,7 @@ module _ {A : Type 0} where
   mem_append x (y ∷ l) r (inr m) = elim (mem_append x l r m) [ inl a ↦ inl (inr a) | inr b ↦ inr b ]
 
   pub append_left : (x : A) (l r : List A) → Mem x l → Mem x (l ++ r)
+  append_left x [] r x'' = elim x'' [ ]
   append_left x (y ∷ l) r (inl e) = inl e
   append_left x (y ∷ l) r (inr m) = inr (append_left x l r m)
 
@@ -90,6 +92,7 @@ module _ {A : Type 0} where
 
   pub mem_some : (p : A → Bool) (x : A) (l : List A) → Mem x l → p x ≡ true → some_of p l ≡ true
   unfolding some_of
+  mem_some p x [] x3 t = elim x3 [ ]
   mem_some p x (y ∷ l) (inl e) t = or_left (p y) (some_of p l) (ap p (sym e) ∙ t)
   mem_some p x (y ∷ l) (inr m) t = or_right (p y) (some_of p l) (mem_some p x l m t)
 
@@ -116,6 +119,7 @@ module _ {A : Type 0} (p : A → Bool) (l : List A) (i : ℕ) where
 module _ {A C : Type 0} (p : A → Bool) (h : A → C) where
   pub mem_chosen : (z : C) (l : List A) → Mem z (chosen p h l) → (x : A) × Mem x l × (p x ≡ true) × (z ≡ h x)
   unfolding chosen
+  mem_chosen z [] m = elim m [ ]
   mem_chosen z (y ∷ l) m = go (p y) refl m (mem_chosen z l)
     where
       go : (b : Bool) → p y ≡ b → Mem z (put b (h y) (chosen p h l)) → (Mem z (chosen p h l) → (x : A) × Mem x l × (p x ≡ true) × (z ≡ h x)) → (x : A) × Mem x (y ∷ l) × (p x ≡ true) × (z ≡ h x)
@@ -125,6 +129,7 @@ module _ {A C : Type 0} (p : A → Bool) (h : A → C) where
 
   pub chosen_mem : (x : A) (l : List A) → Mem x l → p x ≡ true → Mem (h x) (chosen p h l)
   unfolding chosen
+  chosen_mem x [] m t = elim m [ ]
   chosen_mem x (y ∷ l) m t = go (p y) refl m (λ n. chosen_mem x l n t)
     where
       go : (b : Bool) → p y ≡ b → Mem x (y ∷ l) → (Mem x l → Mem (h x) (chosen p h l)) → Mem (h x) (put b (h y) (chosen p h l))
@@ -153,21 +158,25 @@ module _ {A B : Type 0} (f : A → B) where
   mem_map (x ∷ l) y (inr m) = let r = mem_map l y m in (r.0, inr r.1, r.2)
 
   pub map_mem : (l : List A) (x : A) → Mem x l → Mem (f x) (map f l)
+  map_mem [] x x3 = elim x3 [ ]
   map_mem (y ∷ l) x (inl e) = inl (ap f e)
   map_mem (y ∷ l) x (inr m) = inr (map_mem l x m)
 
 -- ---- all pairs
 module _ {A B : Type 0} where
   mem_beside : (z : A × B) (x : A) (m : List B) → Mem z (beside x m) → (z.0 ≡ x) × Mem z.1 m
+  mem_beside z x [] x'' = elim x'' [ ]
   mem_beside z x (y ∷ m) (inl e) = (ap (λ (w : A × B). w.0) e, inl (ap (λ (w : A × B). w.1) e))
   mem_beside z x (y ∷ m) (inr k) = let r = mem_beside z x m k in (r.0, inr r.1)
 
   beside_mem : (x z : A) (y : B) (m : List B) → x ≡ z → Mem y m → Mem {A = A × B} (x, y) (beside z m)
+  beside_mem x z y [] e x3 = elim x3 [ ]
   beside_mem x z y (w ∷ m) e (inl g) = inl (λ i. (e i, g i))
   beside_mem x z y (w ∷ m) e (inr k) = inr (beside_mem x z y m e k)
 
   pub mem_cross : (z : A × B) (l : List A) (m : List B) → Mem z (cross l m) → Mem z.0 l × Mem z.1 m
   unfolding cross
+  mem_cross z [] m k = elim k [ ]
   mem_cross z (x ∷ l) m k = elim (mem_append z (beside x m) (cross l m) k) [
     | inl a ↦ let r = mem_beside z x m a in (inl r.0, r.1)
     | inr b ↦ let r = mem_cross z l m b in (inr r.0, r.1)
@@ -185,6 +194,7 @@ module _ {A B : Type 0} where
 module _ {A : Type 0} where
   pub mem_pairs : (z : A × A) (l : List A) → Mem z (pairs l) → Mem z.0 l × Mem z.1 l
   unfolding pairs
+  mem_pairs z [] k = elim k [ ]
   mem_pairs z (x ∷ l) k = elim (mem_append z (beside x l) (pairs l) k) [
     | inl a ↦ let r = mem_beside z x l a in (inl r.0, inr r.1)
     | inr b ↦ let r = mem_pairs z l b in (inr r.0, inr r.1)
@@ -193,6 +203,7 @@ module _ {A : Type 0} where
   -- two different entries are a pair, in one order or the other
   pub pairs_mem : (x y : A) (l : List A) → Mem x l → Mem y l → (x ≡ y → ⊥) → Mem {A = A × A} (x, y) (pairs l) ⊎ Mem {A = A × A} (y, x) (pairs l)
   unfolding pairs
+  pairs_mem x y [] x4 _ n = elim x4 [ ]
   pairs_mem x y (z ∷ l) (inl e) (inl g) n = absurd (n (e ∙ sym g))
   pairs_mem x y (z ∷ l) (inl e) (inr k) n = inl (append_left (x, y) (beside z l) (pairs l) (beside_mem x z y l e k))
   pairs_mem x y (z ∷ l) (inr k) (inl g) n = inr (append_left (y, x) (beside z l) (pairs l) (beside_mem y z x l g k))

@@ -18,6 +18,7 @@ module _ {A : Type 0} where
 
   -- and each entry is at some index
   pub mem_at : (x : A) (l : List A) (d : A) → Mem x l → (i : ℕ) × (i < length l) × (x ≡ get_or l i d)
+  mem_at x [] d x'' = elim x'' [ ]
   mem_at x (y ∷ l) d (inl e) = (0, omega arith, e)
   mem_at x (y ∷ l) d (inr m) = let g = mem_at x l d m in (suc g.0, omega (arith, g.1), g.2)
 

@@ -1,6 +1,7 @@
 // Replays a stored sample from standard input: drawing files, each with the sheet that the Rust gives for it. Writes how many of these sheets equal the library's, and how many do not.
 //
 // A record is the length of a drawing file, the file, the length of its sheet and the sheet; a length has 32 bits, big-endian. Where a part is incomplete or does not fit its buffer, nothing after it can be read as records, so the record counts as differing and the run ends.
+#![tactic(auto)]
 ghost use Rattle.std.specs.Prelude.{◌≡◌, true};
 ghost use Rattle.printing.specs.Sheet as Sheet;
 ghost use Rattle.replay.specs.Inner.Parts.{Within};

@@ -18,7 +18,7 @@ start_of s = canonical_zero s.start
 unfoldable pub end_of : Segment → Float
 end_of s = canonical_zero s.end
 
--- a segment's net, and its coordinates by their positions in total_order, `line` being that of the fixed one; `float_at` gives the coordinate at a position
+-- a segment's net, and its coordinates by their positions in totalOrder, `line` being that of the fixed one; `float_at` gives the coordinate at a position
 pub record Row : Type 0 where
   pub net : ℕ
   pub line : ℕ

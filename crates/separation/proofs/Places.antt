@@ -1,4 +1,4 @@
--- Lines are keys of finite floats, in total_order: their gaps are good, +0 on one line and nonzero on two, and a nearer pair of lines has no larger gap. Assumes nothing.
+-- Lines are keys of finite floats, in totalOrder: their gaps are good, +0 on one line and nonzero on two, and a nearer pair of lines has no larger gap. Assumes nothing.
 use mathlib.Core.Path.{◌≡◌, sym, ap, ◌∙◌, subst}
 use mathlib.Core.Logic.{inl, inr}
 use mathlib.Core.Bool.{true, not}

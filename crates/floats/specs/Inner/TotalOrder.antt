@@ -4,6 +4,6 @@ use Rattle.floats.specs.declared.total_order.Ordering.{Ordering}
 use Rattle.floats.specs.declared.total_order.Ordering.TheVariants.{Less, Equal, Greater}
 use Rattle.floats.specs.TotalOrder.{total_order}
 
--- two patterns compared: less where total_order(b, a) does not hold, equal where total_order holds both ways
+-- two patterns compared: less where totalOrder(b, a) does not hold, equal where totalOrder holds both ways
 unfoldable pub total_cmp : ℕ → ℕ → Ordering
 total_cmp a b = cond (total_order b a) (cond (total_order a b) Equal Greater) Less
