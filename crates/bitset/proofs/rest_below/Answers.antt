@@ -1,0 +1,13 @@
+-- `bitset::rest_below` meets its contract. Assumes nothing.
+use borrow.Author.Rules.{rules}
+use Rattle.bitset.proofs.Rests.{cut_beyond, cut_word, cut_some}
+use Rattle.bitset.proofs.rest_below.Goals as goal
+
+pub returns-then-words-at : goal.returns-then-words-at
+returns-then-words-at c = cut_beyond c.args.words.now c.args.to c.if-words-at.true
+
+-- NEED rem-result : tie.Need-nonzero-rem-result
+rem-result c = cut_some _
+
+pub returns : goal.returns
+returns c = cut_word _ _
