@@ -5,7 +5,7 @@ ghost use Rattle.std.specs.Prelude.{◌≡◌, ◌+◌, ◌/◌, ◌^◌, ◌≤
 ghost use Rattle.bitset.specs.Inner.Members.{member, inserted, removed, rest_below, last_with};
 
 // The greatest member of a range, with the rest below it (see `rest_below`), or that the range has none.
-#[derive(Drop)]
+#[derive(Clone, Copy)]
 pub enum Last {
     Found(usize, u64),
     Empty,

@@ -6,7 +6,7 @@ ghost use Rattle.boxes.specs.Boxes as Boxes;
 use drawing::ends_in_order;
 use floats::{greater, lesser};
 
-#[derive(Drop)]
+#[derive(Clone, Copy)]
 pub struct Aabb {
     pub left: f64,
     pub top: f64,

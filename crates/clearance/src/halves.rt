@@ -3,7 +3,7 @@ ghost use Rattle.std.specs.Prelude.{◌≡◌};
 ghost use Rattle.clearance.specs.Inner.State.{nearer_first};
 
 // A part of the tree: its first leaf, its number of leaves, and the distance of its box from the segment's.
-#[derive(Drop)]
+#[derive(Clone, Copy)]
 pub struct Subtree {
     pub first: usize,
     pub count: usize,
@@ -11,7 +11,7 @@ pub struct Subtree {
 }
 
 // The two halves of a part, in the order in which they are walked.
-#[derive(Drop)]
+#[derive(Clone, Copy)]
 pub struct Halves {
     pub nearer: Subtree,
     pub farther: Subtree,

@@ -2,14 +2,14 @@
 use drawing::{Gap, Refusal};
 
 // The Rust's report, with the visits used (SCOPE 4.1).
-#[derive(Drop)]
+#[derive(Clone, Copy)]
 pub struct EdgeNodeClearance {
     pub minimum_clearance: Gap,
     pub violations: usize,
     pub visits: usize,
 }
 
-#[derive(Drop)]
+#[derive(Clone, Copy)]
 pub enum ClearanceAnswer {
     Report(EdgeNodeClearance),
     Refused(Refusal),

@@ -10,7 +10,7 @@ use drawing::{least_with, no_gap};
 use std::num::wrapping_add_usize;
 
 // The figures so far, and the remaining visits. The least distance is a NaN where there is none yet.
-#[derive(Drop)]
+#[derive(Clone, Copy)]
 pub struct Walking {
     pub violations: usize,
     pub least: f64,
@@ -18,7 +18,7 @@ pub struct Walking {
 }
 
 // The walk stops where a visit is due and none remains.
-#[derive(Drop)]
+#[derive(Clone, Copy)]
 pub enum Walked {
     Spent,
     Went(Walking),

@@ -127,7 +127,7 @@ fn visit_leaves(
 }
 
 // The outcome of the step at a part: the walk stops, or the part is done, or its halves are to be walked.
-#[derive(Drop)]
+#[derive(Clone, Copy)]
 enum Step {
     Stopped,
     Done(Walking),

@@ -2,7 +2,7 @@
 use drawing::Gap;
 
 // The figures of one orientation or of both, and the remaining visits.
-#[derive(Drop)]
+#[derive(Clone, Copy)]
 pub struct Found {
     pub congested_length: f64,
     pub pair_overlap_length: f64,
@@ -12,7 +12,7 @@ pub struct Found {
 }
 
 // What the sweep found, or that the allowance is spent.
-#[derive(Drop)]
+#[derive(Clone, Copy)]
 pub enum Swept {
     Went(Found),
     Spent,

@@ -5,7 +5,7 @@ ghost use Rattle.congestion.specs.Ratio as Ratio;
 use drawing::{Gap, Refusal};
 
 // The lengths of all wires and of those close to other nets, and the peak (SCOPE 3.11, 3.12, 3.13, 3.14).
-#[derive(Drop)]
+#[derive(Clone, Copy)]
 pub struct ParallelCongestion {
     pub total_length: f64,
     pub congested_length: f64,
@@ -44,7 +44,7 @@ fn clamp(x: f64, low: f64, high: f64) -> f64
 }
 
 // The figures with the least nonzero gap of a close pair of different nets, and the visits that the sweep took.
-#[derive(Drop)]
+#[derive(Clone, Copy)]
 pub struct CongestionReport {
     pub congestion: ParallelCongestion,
     pub minimum_positive: Gap,
@@ -52,7 +52,7 @@ pub struct CongestionReport {
 }
 
 // What a congestion call answers: its report, or the refusal.
-#[derive(Drop)]
+#[derive(Clone, Copy)]
 pub enum CongestionAnswer {
     Report(CongestionReport),
     Refused(Refusal),

@@ -9,7 +9,7 @@ use floats::{absolute, float_of_key, lesser};
 
 // How many of the wires met are of another net; how many of these become congested or cease to be; the greatest count among them; the least gap so far; the remaining visits.
 // The least gap is a NaN where there is none yet (`no_gap`). These figures are copied at each visit: with an enum, whose copies wait for the stores that made it, they took two thirds of the loop's time.
-#[derive(Drop)]
+#[derive(Clone, Copy)]
 pub(crate) struct Meeting {
     pub neighbors: usize,
     pub changed: usize,
@@ -19,7 +19,7 @@ pub(crate) struct Meeting {
 }
 
 // The meeting, or that the allowance is spent: a visit is due and none remains.
-#[derive(Drop)]
+#[derive(Clone, Copy)]
 pub(crate) enum Met {
     Went(Meeting),
     Spent,

@@ -9,7 +9,7 @@ use bitset::{insert, remove};
 use floats::float_of_key;
 
 // The Rust's variables, and the remaining visits. The least gap is a NaN where there is none yet.
-#[derive(Drop)]
+#[derive(Clone, Copy)]
 pub(crate) struct Sweeping {
     pub congested_active: usize,
     pub congested_length: f64,
@@ -22,7 +22,7 @@ pub(crate) struct Sweeping {
 }
 
 // The state after an event, or that the allowance is spent.
-#[derive(Drop)]
+#[derive(Clone, Copy)]
 pub(crate) enum Handled {
     Went(Sweeping),
     Spent,

@@ -4,7 +4,7 @@ ghost use Rattle.drawing.specs.Entries as Entries;
 
 use floats::{greater, lesser};
 
-#[derive(Drop)]
+#[derive(Clone, Copy)]
 pub struct Ends {
     pub start: f64,
     pub end: f64,

@@ -6,7 +6,7 @@ ghost use Rattle.drawing.specs.Inner.LeastFloats as LeastFloats;
 
 use floats::lesser;
 
-#[derive(Drop)]
+#[derive(Clone, Copy)]
 pub enum Gap {
     Absent,
     Present(f64),

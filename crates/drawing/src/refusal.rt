@@ -2,7 +2,7 @@
 ghost use Rattle.std.specs.Prelude.{◌≡◌};
 ghost use Rattle.drawing.specs.Refusals as Refusals;
 
-#[derive(Drop)]
+#[derive(Clone, Copy)]
 pub enum Refusal {
     MalformedFile,
     ColumnsDiffer,
@@ -15,7 +15,7 @@ pub enum Refusal {
 }
 
 // What the checks of a call return before any work starts.
-#[derive(Drop)]
+#[derive(Clone, Copy)]
 pub enum Check {
     Passed,
     Refused(Refusal),

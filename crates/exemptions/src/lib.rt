@@ -12,7 +12,7 @@ use sorting::sort_indices;
 pub const HALF: u64 = 4294967296;
 
 // The indices of one net's exemptions: from `from` on, and before `to`.
-#[derive(Drop)]
+#[derive(Clone, Copy)]
 pub struct Range {
     pub from: usize,
     pub to: usize,

@@ -2,7 +2,7 @@
 use drawing::Refusal;
 
 // The counts of the three lists, and the settings.
-#[derive(Drop)]
+#[derive(Clone, Copy)]
 pub struct Header {
     pub segments: usize,
     pub nodes: usize,
@@ -14,7 +14,7 @@ pub struct Header {
     pub congestion: usize,
 }
 
-#[derive(Drop)]
+#[derive(Clone, Copy)]
 pub enum Reading {
     Read(Header),
     Refused(Refusal),

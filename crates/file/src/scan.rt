@@ -13,7 +13,7 @@ use drawing::Refusal;
 use floats::float_of_bits;
 
 // What is found about one list: its number of entries, none of them missing, or why the file is refused.
-#[derive(Drop)]
+#[derive(Clone, Copy)]
 enum ListCount {
     Entries(usize),
     Refused(Refusal),

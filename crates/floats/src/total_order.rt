@@ -5,7 +5,7 @@ ghost use Rattle.floats.specs.Inner.TotalOrder as InnerTotalOrder;
 
 use crate::patterns::{bits_of, float_of_bits};
 
-#[derive(Drop)]
+#[derive(Clone, Copy)]
 pub enum Ordering {
     Less,
     Equal,

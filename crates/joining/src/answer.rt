@@ -2,7 +2,7 @@
 use drawing::Refusal;
 
 // How many pieces were written and how many went away, or why nothing was written.
-#[derive(Drop)]
+#[derive(Clone, Copy)]
 pub enum JoinAnswer {
     Joined(usize, usize),
     Refused(Refusal),

@@ -7,7 +7,7 @@ ghost use Rattle.joining.specs.Inner.Pieces.{piece_of, touches_piece, next_piece
 use drawing::ends_in_order;
 use floats::{canonical_zero, key_of};
 
-#[derive(Drop)]
+#[derive(Clone, Copy)]
 pub struct Piece {
     pub net_and_orientation: u64,
     pub fixed: u64,

@@ -5,7 +5,7 @@ ghost use Rattle.key_ranges.specs.Inner.Reach.{Ascending, Passed, LowerBound, In
 use floats::{float_of_key, key_of};
 
 // The indices from `from` on, and before `to`.
-#[derive(Drop)]
+#[derive(Clone, Copy)]
 pub struct Range {
     pub from: usize,
     pub to: usize,

@@ -5,7 +5,7 @@ ghost use Rattle.lines.specs.Orientation.{orientation_byte};
 ghost use Rattle.lines.specs.Inner.Lines.{entry_of, unpack_count};
 
 // A segment in the form that the columns have.
-#[derive(Drop)]
+#[derive(Clone, Copy)]
 pub struct Line {
     pub net: u32,
     pub orientation: u8,

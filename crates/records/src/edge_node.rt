@@ -16,7 +16,7 @@ use lines::{Line, orientation_byte, unpack_count};
 
 // A straight wire segment, as clearance takes it.
 #[repr(C)]
-#[derive(Drop)]
+#[derive(Clone, Copy)]
 pub struct EdgeNodeSegment {
     pub net: u32,
     pub horizontal: bool,

@@ -19,7 +19,7 @@ use separation_lines::separation_of_lines;
 
 // A straight wire segment, as separation and congestion take it.
 #[repr(C)]
-#[derive(Drop)]
+#[derive(Clone, Copy)]
 pub struct ParallelSegment {
     pub net: u32,
     pub horizontal: bool,

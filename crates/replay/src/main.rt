@@ -9,7 +9,7 @@ ghost use Rattle.replay.specs.Inner.Parts.{Within};
 use libc::{STDIN_FILENO, STDOUT_FILENO};
 
 // What is read where a part may begin: a part of this number of bytes, at the front of its buffer; one that is incomplete or does not fit; or the end of the input.
-#[derive(Drop)]
+#[derive(Clone, Copy)]
 enum Part {
     Whole(usize),
     Broken,
@@ -17,7 +17,7 @@ enum Part {
 }
 
 // The outcome of a record.
-#[derive(Drop)]
+#[derive(Clone, Copy)]
 enum Outcome {
     Agrees,
     Differs,
@@ -25,7 +25,7 @@ enum Outcome {
     End,
 }
 
-#[derive(Drop)]
+#[derive(Clone, Copy)]
 struct Tally {
     agree: u64,
     differ: u64,

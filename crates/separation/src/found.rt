@@ -6,7 +6,7 @@ ghost use Rattle.separation.specs.Inner.States.{found_by};
 use drawing::{Gap, minimum_option};
 
 // The figures of one orientation or of both, and the remaining visits.
-#[derive(Drop)]
+#[derive(Clone, Copy)]
 pub struct Found {
     pub minimum: Gap,
     pub minimum_positive: Gap,
@@ -14,7 +14,7 @@ pub struct Found {
 }
 
 // What the sweep found, or that the allowance is spent.
-#[derive(Drop)]
+#[derive(Clone, Copy)]
 pub enum Swept {
     Went(Found),
     Spent,

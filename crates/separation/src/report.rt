@@ -2,7 +2,7 @@
 use drawing::{Gap, Refusal};
 
 // The Rust's record, with the visits that the walk used.
-#[derive(Drop)]
+#[derive(Clone, Copy)]
 pub struct ParallelSeparation {
     pub minimum: Gap,
     pub minimum_positive: Gap,
@@ -10,7 +10,7 @@ pub struct ParallelSeparation {
 }
 
 // The report, or the refusal.
-#[derive(Drop)]
+#[derive(Clone, Copy)]
 pub enum SeparationAnswer {
     Report(ParallelSeparation),
     Refused(Refusal),

@@ -10,7 +10,7 @@ use drawing::{gap_of_float, least_with, no_gap};
 use floats::absolute;
 
 // The figures so far, and the remaining visits. Each least gap is a NaN where there is none yet.
-#[derive(Drop)]
+#[derive(Clone, Copy)]
 pub struct Sweeping {
     pub minimum: f64,
     pub minimum_positive: f64,
@@ -18,7 +18,7 @@ pub struct Sweeping {
 }
 
 // The state after an event, or that the allowance is spent.
-#[derive(Drop)]
+#[derive(Clone, Copy)]
 pub enum Handled {
     Went(Sweeping),
     Spent,

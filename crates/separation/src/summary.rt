@@ -3,7 +3,7 @@ ghost use Rattle.std.specs.Prelude.{◌≡◌, ◌||◌, ℕ};
 ghost use Rattle.separation.specs.Inner.Summaries.{summary_has_other, summary_of_word};
 
 // No net, one, or at least two different ones. The Rust stores two of them; it does not matter which, since of two different nets at least one is not the excluded net.
-#[derive(Drop)]
+#[derive(Clone, Copy)]
 pub enum NetSummary {
     Nothing,
     One(u32),

@@ -16,7 +16,7 @@ use drawing::{Check, Gap, Refusal};
 use exemptions::{Range, gather, is_exempt, net_range};
 
 // Positions of a segment and of a node in the given lists.
-#[derive(Drop)]
+#[derive(Clone, Copy)]
 pub enum TightPair {
     Pair(usize, usize),
     Absent,
@@ -24,7 +24,7 @@ pub enum TightPair {
 }
 
 // The least distance so far, and the positions of the first pair at that distance.
-#[derive(Drop)]
+#[derive(Clone, Copy)]
 struct Best {
     least: Gap,
     segment: usize,

@@ -1,0 +1,14 @@
+-- `file::fill::fill_bytes` meets its contract: after i turns the first i bytes of the column are written. Assumes nothing.
+use Rattle.file.specs.Reading.{big_endian}
+use lib.ListN.{take}
+use Rattle.file.proofs.ColumnsFilled.{Filled, filled_none, filled_next, filled_all, byte_is}
+use borrow.Author.Rules.{rules}
+use native.Mathlib.Omega.{arith}
+use Prim.Native.Nat.{◌+◌, ◌*◌, ◌-◌}
+use Rattle.file.proofs.fill.fill_bytes.Given as goal
+
+abbrev pub invariant-loop-i : goal.invariant-loop-i
+invariant-loop-i l = Filled (λ l. big_endian 0 (take 1 l)) l.initial.out l.n l.bytes l.at l.width l.out l.i
+
+abbrev pub decreases-loop-i : goal.decreases-loop-i
+decreases-loop-i l = l.n - l.i

@@ -1,0 +1,12 @@
+-- `rows::rows::spread_column` meets its contract: after j turns the first j words of the column are written. Assumes nothing.
+use borrow.Author.Rules.{rules}
+use Prim.Native.Nat.{◌-◌}
+use native.Mathlib.Omega.{arith}
+use Rattle.rows.proofs.SpreadTables.{Spreading, spread_start, spread_next, spread_end}
+use Rattle.rows.proofs.rows.spread_column.Given as goal
+
+abbrev pub invariant-loop-j : goal.invariant-loop-j
+invariant-loop-j l = Spreading l.n l.from l.table l.word l.to l.initial.s l.s l.j
+
+abbrev pub decreases-loop-j : goal.decreases-loop-j
+decreases-loop-j l = l.n - l.j
