@@ -20,6 +20,7 @@ use Rattle.drawing.proofs.ListOrders.{nodes-in_order-perm}
 use Rattle.boxes.specs.declared.aabb.Aabb.{Aabb}
 use Rattle.clearance.specs.Tree.{IndexedNode, indexed, indexed_row, indexed_in_order, horizontal_wider, hull, build, tree_of}
 use Rattle.drawing.proofs.Fit.{FitNode}
+use Rattle.boxes.specs.Boxes.{union}
 use Rattle.boxes.specs.Inner.Fitting.{Span, Inside}
 use Rattle.boxes.proofs.BoxLaws.{at, low-at, high-at, Alike}
 use Rattle.boxes.proofs.Spans.{Whole, whole-node, whole-union, width_good, height_good}
@@ -48,7 +49,7 @@ wider_alike b c p q h =
 hull-whole : (b : Aabb) (l : List IndexedNode) → Whole b → All WholeIndexed l → Whole (hull b l)
 unfolding hull
 hull-whole b [] p h = p
-hull-whole b (n ∷ l) p h = hull-whole _ l (whole-union b n.bounds p h.0) h.1
+hull-whole b (n ∷ l) p h = hull-whole (union b n.bounds) l (whole-union b n.bounds p h.0) h.1
 
 fits_of : (l : List IndexedNode) → All WholeIndexed l → All FitIndexed l
 fits_of l h = all_map (λ n w. w.fit) l h
