@@ -89,12 +89,14 @@ first_one q p l r h (inl e) = e
 first_one q p l r h (inr n) = absurd (omega (arith, r.0 p n))
 
 pub index-lt : (ls : List ℕ) (p : ℕ) → Mem p ls → index ls p < length ls
+index-lt [] p m = elim m [ ]
 index-lt (q ∷ l) p m = elim (le_or_lt p q) [
   | inl h ↦ omega (arith, index_here q p l h)
   | inr h ↦ omega (arith, index-past q p l h, index-lt l p (later q p l h m))
 ]
 
 pub at-index : (ls : List ℕ) (p : ℕ) → Rising ls → Mem p ls → get_or ls (index ls p) 0 ≡ p
+at-index [] p r m = elim m [ ]
 at-index (q ∷ l) p r m = elim (le_or_lt p q) [
   | inl h ↦ rw (index_here q p l h) (sym (first_one q p l r h m))
   | inr h ↦ rw (index-past q p l h) (at-index l p r.1 (later q p l h m))
@@ -102,6 +104,7 @@ at-index (q ∷ l) p r m = elim (le_or_lt p q) [
 
 -- a value below another one has an index below the other's
 pub index_strict : (ls : List ℕ) (p t : ℕ) → Rising ls → Mem p ls → p < t → index ls p < index ls t
+index_strict [] p t r m k = elim m [ ]
 index_strict (q ∷ l) p t r m k = elim (le_or_lt p q) [
   | inl h ↦ let e = first_one q p l r h m in omega (arith, index_here q p l h, index-past q t l (omega arith))
   | inr h ↦ omega (arith, index-past q p l h, index-past q t l (omega arith), index_strict l p t r.1 (later q p l h m) k)

@@ -39,6 +39,7 @@ record Inserts (s t : TwoNets) (m : ℕ) : Type 0 where
 
 inserted : (a b : Option ℕ) (m : ℕ) → Apart a b → Inserts (pair a b) (insert (pair a b) m) m
 unfolding insert has_other
+inserted none (some b) m h = elim h [ ]
 inserted none none m h = record { apart = tt; decides = λ n. sym (or_false (other_than n m)) }
 inserted (some a) none m h = elim (decide (eqb a m)) [
   | inl t ↦ let e = eqb-true a m t in rw t (record { apart = tt; decides = λ n. rw (← e) (twice (other_than n a)) })

@@ -22,8 +22,8 @@ pub enum Swept {
 
 // The lesser of each figure, with the remaining visits of the second sweep.
 pub fn combined(across: Found, down: Found) -> Found
-    ensures result_value { found_by result ≡ lesser_figures (found_by across) (found_by down) }
-    ensures remaining_value { result.remaining ≡ down.remaining }
+    ensures figures { found_by result ≡ lesser_figures (found_by across) (found_by down) }
+    ensures remaining { result.remaining ≡ down.remaining }
 {
     let one = across.minimum;
     let other = down.minimum;

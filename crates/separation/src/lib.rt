@@ -1,5 +1,6 @@
 // The least separation of parallel wires of different nets: what is reported, and the functions on single values, each total: on summaries of nets, on the figures so far, on the allowance; and the checks of a call. The definitions are in specs/; the call is in separation_call.
 #![tactic(auto)]
+
 pub mod allowance;
 pub mod answer;
 pub mod checks;

@@ -37,8 +37,8 @@ pub fn at_start(allowance: usize) -> Sweeping
 
 // Another net on the segment's own line makes the least gap 0. `remaining` is the number of visits that remain after `has_other_at`.
 pub fn with_own_line(own: bool, remaining: usize, state: Sweeping) -> Sweeping
-    ensures result_value { met_by result ≡ own_line own (met_by state) }
-    ensures remaining_value { result.remaining ≡ remaining }
+    ensures figures { met_by result ≡ own_line own (met_by state) }
+    ensures remaining { result.remaining ≡ remaining }
 {
     let nonzero = state.minimum_positive;
     if own {
