@@ -90,6 +90,7 @@ module _ (s : Segment) (f : FitSegment s) where
   all-equal (suc n) = (f, all-equal n)
 
   each_is : (n : ℕ) (x : Segment) → Mem x (replicate n s) → x ≡ s
+  each_is zero x x3 = elim x3 [ ]
   each_is (suc n) x (inl e) = e
   each_is (suc n) x (inr m) = each_is n x m
 

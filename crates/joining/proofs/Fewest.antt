@@ -33,6 +33,7 @@ pub record Without {B : Type 0} (P : B → Type 0) (m : List B) : Type 1 where
   pub all : (Q : B → Type 0) → Some Q rest → Some Q m
 
 without : {B : Type 0} (P : B → Type 0) (m : List B) → Some P m → Without P m
+without {B = B} P [] x' = elim x' [ ]
 without P (y ∷ m) (inl h) = record { one = y; has = h; rest = m; fewer = refl; others = λ Q s. s; first = λ Q q. inl q; all = λ Q s. inr s }
 without P (y ∷ m) (inr h) = go (without P m h)
   where

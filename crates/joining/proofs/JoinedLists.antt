@@ -89,10 +89,12 @@ joined_normal l = pieces_normal (ready l) (ready-starts l)
 module _ (L : NumberLine) (t : NetLine) (p : L.Point) where
   pieces_into : (l : List Segment) → All Canonical l → Sorted starts l → Some (Over L t p) l → Some (Over L t p) (pieces l)
   unfolding pieces
+  pieces_into [] a s o = elim o [ ]
   pieces_into (x ∷ l) a s o = join_into L t p x l a s o
 
   pieces_out : (l : List Segment) → All Canonical l → Some (Over L t p) (pieces l) → Some (Over L t p) l
   unfolding pieces
+  pieces_out [] a o = elim o [ ]
   pieces_out (x ∷ l) a o = join_out L t p x l a o
 
   pub covers-joined : (l : List Segment) → All FitSegment l → Covers L l t p → Some (Over L t p) (joined l)

@@ -23,10 +23,12 @@ Some P (x ∷ l) = P x ⊎ Some P l
 
 module _ {A : Type 0} (P : A → Type 0) where
   pub mem_some : (x : A) (l : List A) → Mem x l → P x → Some P l
+  mem_some x [] x3 h = elim x3 [ ]
   mem_some x (y ∷ l) (inl e) h = inl (subst P e h)
   mem_some x (y ∷ l) (inr m) h = inr (mem_some x l m h)
 
   pub some_mem : (l : List A) → Some P l → (x : A) × Mem x l × P x
+  some_mem [] x' = elim x' [ ]
   some_mem (y ∷ l) (inl h) = (y, inl refl, h)
   some_mem (y ∷ l) (inr h) = let r = some_mem l h in (r.0, inr r.1, r.2)
 
@@ -100,9 +102,11 @@ module _ (L : NumberLine) where
         }
 
     pub to_canonical : (l : List Segment) → All FitSegment l → Some (Over t p) l → Some (Over t p) (map canonical_zeros l)
+    to_canonical [] a x'' = elim x'' [ ]
     to_canonical (s ∷ l) a (inl o) = inl (into_canonical s a.0 o)
     to_canonical (s ∷ l) a (inr h) = inr (to_canonical l a.1 h)
 
     pub from_canonical : (l : List Segment) → All FitSegment l → Some (Over t p) (map canonical_zeros l) → Some (Over t p) l
+    from_canonical [] a x'' = elim x'' [ ]
     from_canonical (s ∷ l) a (inl o) = inl (out_of_canonical s a.0 o)
     from_canonical (s ∷ l) a (inr h) = inr (from_canonical l a.1 h)

@@ -1,4 +1,4 @@
-// Pieces as four words that are compared as numbers: net and orientation in one, and the keys of fixed, start and end, whose order is total_order.
+// Pieces as four words that are compared as numbers: net and orientation in one, and the keys of fixed, start and end, whose order is totalOrder.
 ghost use Rattle.std.specs.Prelude.{cond, ◌≡◌, ◌+◌, ◌-◌, ◌*◌, ltb};
 ghost use Rattle.drawing.specs.Entries.{as_taken};
 ghost use Rattle.joining.specs.Joined.{canonical_zeros};
