@@ -30,6 +30,7 @@ pub record Numbered (i : Item) (n : ℕ) (l : List Wire) : Type 0 where
   pub wire∈ : Mem i.wire l
 
 pub of-numbered : (i : Item) (n : ℕ) (l : List Wire) → Mem i (numbered n l) → Numbered i n l
+of-numbered i n [] x' = elim x' [ ]
 of-numbered i n (s ∷ l) (inl p) = let q : i.index ≡ n = ap (λ (z : Item). z.index) p in record { least = le_of_eq (sym q); below = omega arith; wire∈ = inl (ap (λ (z : Item). z.wire) p) }
 of-numbered i n (s ∷ l) (inr m) = let h = of-numbered i (suc n) l m in record { least = omega (arith, h.least); below = omega (arith, h.below); wire∈ = inr h.wire∈ }
 
@@ -51,10 +52,12 @@ fit-numbered l v = record {
 
 -- ---- its events
 has_start : (l : List Item) (i : Item) → Mem i l → Mem (event false i) (wire_events l)
+has_start [] i x' = elim x' [ ]
 has_start (x ∷ l) i (inl p) = inr (inl (ap (event false) p))
 has_start (x ∷ l) i (inr m) = inr (inr (has_start l i m))
 
 has_end : (l : List Item) (i : Item) → Mem i l → Mem (event true i) (wire_events l)
+has_end [] i x' = elim x' [ ]
 has_end (x ∷ l) i (inl p) = inl (ap (event true) p)
 has_end (x ∷ l) i (inr m) = inr (inr (has_end l i m))
 
@@ -69,6 +72,7 @@ fold-events {◌⊕◌ = ◌⊕◌} {u = u} L f l = fold-perm L f (in_order-perm
 
 module _ (c : ℕ) (l : List Item) (fit : Fit l) where
   first-least : (q : List WireEvent) → Pairwise (λ x y. key x < key y) q → ((e : WireEvent) → Mem e q → Mem e.item l) → (e : WireEvent) → Mem e q → first_at q ≤ at e
+  first-least [] u h e m = elim m [ ]
   first-least (x ∷ q) u h e m = at-order x e (fit.small e.item (h e m)) (head_first x e q u m)
 
   listed : (e : WireEvent) → Mem e (wire_events l) → Mem e (is_in_order (wire_events l))

@@ -25,7 +25,7 @@ use Rattle.congestion.proofs.CellLaws.{covers-from, covers-to, is_covered, lengt
 use Rattle.congestion.proofs.Sets.{neighbors_in, congested_in, pairs_in, congested-same, pairs-same, none-congested, none_paired}
 use Rattle.congestion.proofs.Tracking.{facing, facing_sym, facing_irr, eqb_turn}
 use Rattle.congestion.proofs.Moments.{Fit, start_key, end_key, active_at, off_before, on-before}
-use Rattle.congestion.proofs.Passing.{on, run_sum, run_cost, run_least}
+use Rattle.congestion.proofs.Passing.{on, congested-stepped, overlap-stepped, run_sum, run_cost, run_least}
 use Rattle.congestion.proofs.Peaks.{tops, run_peak}
 use Rattle.congestion.proofs.Beginning.{Sound, wires-of, of-numbered, fit-numbered, fold-events, pending, tracks, from_first, at_bound}
 use Rattle.congestion.proofs.Meetings.{ends_once, starts_once}
@@ -127,7 +127,7 @@ module _ (c : ℕ) (L : List Wire) (sound : Sound L) (alike : (s t : Wire) → M
   pub congested-is : (sweep c L).value.congested_length ≡ congested c L
   unfolding sweep congested
   congested-is =
-      run_sum c l fit (congested_in (facing c) l) (congested-same (facing c) l) (none-congested (facing c) l) (λ st. st.congested_length) (λ st. st.congested_active) (λ b s st. elim b [ true ↦ refl | false ↦ refl ]) (λ t st tr. tr.active-is) hi 0 (is_in_order (wire_events l)) (begin l) (pending c l fit) (tracks c l fit) (at_bound c l fit hi ended)
+      run_sum c l fit (congested_in (facing c) l) (congested-same (facing c) l) (none-congested (facing c) l) (λ st. st.congested_length) (λ st. st.congested_active) (congested-stepped c) (λ t st tr. tr.active-is) hi 0 (is_in_order (wire_events l)) (begin l) (pending c l fit) (tracks c l fit) (at_bound c l fit hi ended)
       ∙ plus.idl _
       ∙ sym (fold-fold plus (λ i k. bit (on k i && not (eqb (neighbors_in (facing c) l (on k) i) 0))) l (cells_from lo (hi - lo)))
       ∙ fold_same plus (λ i. fold ◌+◌ 0 (λ k. bit (on k i && not (eqb (neighbors_in (facing c) l (on k) i) 0))) (cells_from lo (hi - lo))) (λ i. stretches c L i.wire) l
@@ -193,7 +193,7 @@ module _ (c : ℕ) (L : List Wire) (sound : Sound L) (alike : (s t : Wire) → M
   pub overlap-is : (sweep c L).value.pair_overlap_length ≡ pair_overlap c L
   unfolding sweep pair_overlap close_other_pairs
   overlap-is =
-      run_sum c l fit (pairs_in (facing c) l) (pairs-same (facing c) l) (none_paired (facing c) l) (λ st. st.pair_overlap_length) (λ st. st.close_pairs) (λ b s st. elim b [ true ↦ refl | false ↦ refl ]) (λ t st tr. tr.pairs_are) hi 0 (is_in_order (wire_events l)) (begin l) (pending c l fit) (tracks c l fit) (at_bound c l fit hi ended)
+      run_sum c l fit (pairs_in (facing c) l) (pairs-same (facing c) l) (none_paired (facing c) l) (λ st. st.pair_overlap_length) (λ st. st.close_pairs) (overlap-stepped c) (λ t st tr. tr.pairs_are) hi 0 (is_in_order (wire_events l)) (begin l) (pending c l fit) (tracks c l fit) (at_bound c l fit hi ended)
       ∙ plus.idl _
       ∙ sym (fold-fold plus (λ p k. bit (on k p.0 && (on k p.1 && facing c p.0 p.1))) (pairs l) (cells_from lo (hi - lo)))
       ∙ fold_same plus (λ p. sum (λ k. bit (on k p.0 && (on k p.1 && facing c p.0 p.1))) (cells_from lo (hi - lo))) (λ p. cond (close_other c p.0.wire p.1.wire) (overlap p.0.wire p.1.wire) 0) (pairs l)

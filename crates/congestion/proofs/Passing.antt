@@ -13,7 +13,7 @@ use Rattle.laws.specs.Least.{lesser}
 use Rattle.laws.specs.Charged.{runs}
 use Rattle.laws.proofs.Folds.{plus, idr, fold-append}
 use Rattle.congestion.specs.Cells.{cells_from, covers}
-use Rattle.congestion.specs.Walk.{Item, State, WireEvent, at, in_range, visited, neighbor, gap, step}
+use Rattle.congestion.specs.Walk.{Item, State, WireEvent, at, in_range, visited, neighbor, gap, least_here, step}
 use Rattle.congestion.proofs.FoldLaws.{fewest, sum_const}
 use Rattle.congestion.proofs.CellLaws.{length-cells, cells_at, cells_same, cells-unit}
 use Rattle.congestion.proofs.Tracking.{facing, Tracks, tracks_same, over_rows}
@@ -25,6 +25,23 @@ run c q st = (runs (step c) st q).value
 -- the items over a cell
 abbrev pub on : ℕ → Item → Bool
 on k i = covers k i.wire
+
+-- ---- what one event does to a state, for an end and a start alike
+pub congested-stepped : (c : ℕ) (b : Bool) (i : Item) (st : State) → (step c st (event b i)).value.congested_length ≡ st.congested_length + st.congested_active * (at (event b i) - st.previous)
+congested-stepped c true i st = refl
+congested-stepped c false i st = refl
+
+pub overlap-stepped : (c : ℕ) (b : Bool) (i : Item) (st : State) → (step c st (event b i)).value.pair_overlap_length ≡ st.pair_overlap_length + st.close_pairs * (at (event b i) - st.previous)
+overlap-stepped c true i st = refl
+overlap-stepped c false i st = refl
+
+pub previous-stepped : (c : ℕ) (b : Bool) (i : Item) (st : State) → (step c st (event b i)).value.previous ≡ at (event b i)
+previous-stepped c true i st = refl
+previous-stepped c false i st = refl
+
+pub least-stepped : (c : ℕ) (b : Bool) (i : Item) (st : State) → (step c st (event b i)).value.minimum_positive ≡ lesser ltb st.minimum_positive (least_here c i st)
+least-stepped c true i st = refl
+least-stepped c false i st = refl
 
 module _ (c : ℕ) (l : List Item) (fit : Fit l) where
   -- ---- the induction over the remaining events

@@ -13,7 +13,7 @@ use lib.ListN.{length, length-map}
 use lib.Ieee.{Float, binary64, add, sub, mul, lt, of_int}
 use Rattle.laws.specs.Lists.{Mem, chosen, pairs}
 use Rattle.laws.specs.Charged.{runs}
-use Rattle.laws.specs.Least.{lesser, least}
+use Rattle.laws.specs.Least.{lesser}
 use Rattle.laws.proofs.ListLaws.{mem_map}
 use Rattle.laws.proofs.Folds.{fold_same, count-at_most}
 use Rattle.floats.specs.Values.{plus_zero, gap_of}
@@ -29,7 +29,7 @@ use Rattle.congestion.proofs.Sets.{neighbors_in}
 use Rattle.congestion.proofs.FoldLaws.{fewest}
 use Rattle.congestion.proofs.Tracking.{facing, row_in, Tracks}
 use Rattle.congestion.proofs.Moments.{Fit, Pending, event, active_at, item∈}
-use Rattle.congestion.proofs.Passing.{run, sweep_ind}
+use Rattle.congestion.proofs.Passing.{run, congested-stepped, overlap-stepped, previous-stepped, least-stepped, sweep_ind}
 use Rattle.congestion.proofs.Fitness.{Stands, zero_stands}
 use Rattle.congestion.proofs.EventOrder.{in_list}
 use Rattle.congestion.proofs.Beginning.{Sound, wires-of, fit-numbered, pending, tracks}
@@ -82,10 +82,10 @@ module _ (c : ℕ) where
   sum_grows acc h (e ∷ q) st = le_trans (h e.ends e.item st) (sum_grows acc h q (step c st e).value)
 
   pub congested_grows : (q : List WireEvent) (st : State) → st.congested_length ≤ (run c q st).congested_length
-  congested_grows = sum_grows (λ st. st.congested_length) (λ b i st. elim b [ true ↦ omega arith | false ↦ omega arith ])
+  congested_grows = sum_grows (λ st. st.congested_length) (λ b i st. omega (arith, congested-stepped c b i st))
 
   pub overlap_grows : (q : List WireEvent) (st : State) → st.pair_overlap_length ≤ (run c q st).pair_overlap_length
-  overlap_grows = sum_grows (λ st. st.pair_overlap_length) (λ b i st. elim b [ true ↦ omega arith | false ↦ omega arith ])
+  overlap_grows = sum_grows (λ st. st.pair_overlap_length) (λ b i st. omega (arith, overlap-stepped c b i st))
 
 module _ (c : ℕ) (l : List Item) (fit : Fit l) (few : length l ≤ 4096) (x : Coordinates) (stands : (i : Item) → Mem i l → ItemStands x i) where
   -- ---- the least gap to a neighbor
@@ -121,10 +121,10 @@ module _ (c : ℕ) (l : List Item) (fit : Fit l) (few : length l ≤ 4096) (x : 
         let e = event_stands x b s (stands s s∈) in
         let n = pe.past (event b s) (inl refl) in
         let d = at (event b s) - st.previous in
-        let f : (step c st (event b s)).value.congested_length ≡ st.congested_length + st.congested_active * d = elim b [ true ↦ refl | false ↦ refl ] in
-        let g : (step c st (event b s)).value.pair_overlap_length ≡ st.pair_overlap_length + st.close_pairs * d = elim b [ true ↦ refl | false ↦ refl ] in
-        let p : (step c st (event b s)).value.previous ≡ at (event b s) = elim b [ true ↦ refl | false ↦ refl ] in
-        let o : (step c st (event b s)).value.minimum_positive ≡ lesser ltb st.minimum_positive (least_here c s st) = elim b [ true ↦ refl | false ↦ refl ] in
+        let f : (step c st (event b s)).value.congested_length ≡ st.congested_length + st.congested_active * d = congested-stepped c b s st in
+        let g : (step c st (event b s)).value.pair_overlap_length ≡ st.pair_overlap_length + st.close_pairs * d = overlap-stepped c b s st in
+        let p : (step c st (event b s)).value.previous ≡ at (event b s) = previous-stepped c b s st in
+        let o : (step c st (event b s)).value.minimum_positive ≡ lesser ltb st.minimum_positive (least_here c s st) = least-stepped c b s st in
         record {
           congested = ap (λ (z : Float). add binary64 z (mul binary64 (of_int binary64 (pos st.congested_active)) (sub binary64 (coordinate x (event b s)) a.previous))) m.congested ∙ one-step st.congested_length st.congested_active (coordinate x (event b s)) a.previous (at (event b s)) st.previous (step c st (event b s)).value.congested_length e m.last n (active-few c l few t st tr) (le_of_eq (sym f)) h ∙ ap of_units (sym f);
           overlap = ap (λ (z : Float). add binary64 z (mul binary64 (of_int binary64 (pos st.close_pairs)) (sub binary64 (coordinate x (event b s)) a.previous))) m.overlap ∙ one-step st.pair_overlap_length st.close_pairs (coordinate x (event b s)) a.previous (at (event b s)) st.previous (step c st (event b s)).value.pair_overlap_length e m.last n (pairs-few c l few t st tr) (le_of_eq (sym g)) k ∙ ap of_units (sym g);

@@ -59,6 +59,9 @@ none-near c e l s t m n = ap (λ (b : Bool). ((beq s.horizontal t.horizontal && 
 
 -- a list with no two wires
 pub alone : (c : ℕ) (l : List Wire) → length l < 2 → (s t : Wire) → Mem s l → Mem t l → close_other c s t ≡ false
+alone c [] h s t m n = elim m [ ]
+alone c (x ∷ []) h s t (inl e) (inr n) = elim n [ ]
+alone c (x ∷ []) h s t (inr m) n = elim m [ ]
 alone c (x ∷ []) h s t (inl e) (inl g) = ap (λ (b : Bool). close c s t && not b) (eq-eqb s.net t.net (ap (λ (w : Wire). w.net) (e ∙ sym g))) ∙ and_comm (close c s t) false
 alone c (x ∷ y ∷ l) h s t m n = absurd (omega arith)
 
