@@ -1,5 +1,6 @@
 // Exemptions (SCOPE 2.3) for fast search. Each is packed into one word, the net in the upper half; the words are in ascending order in a slice that the caller lends, so those of one net are consecutive and are found by halving.
 #![tactic(auto)]
+
 ghost use Rattle.std.specs.Prelude.{◌≡◌, List, ℕ, ◌≤◌, length};
 ghost use Rattle.drawing.specs.Entries.{Exemption, exemption_columns};
 ghost use Rattle.drawing.specs.Inner.Lengths.{ExemptionsAgree};

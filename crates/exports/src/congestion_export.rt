@@ -54,8 +54,7 @@ pub(crate) fn write_congestion(answer: CongestionAnswer, out: &mut [u64; 7]) -> 
 }
 
 // The density profile: all figures, within an allowance.
-#[unsafe(no_mangle)]
-pub extern "C" fn readability_density_profile(
+pub fn readability_density_profile(
     net: &[u32],
     orientation: &[u8],
     fixed: &[f64],
@@ -66,14 +65,14 @@ pub extern "C" fn readability_density_profile(
     scratch: &mut [u64],
     out: &mut [u64; 7],
 ) -> u32
-    ensures* { λ r. ⌜ (
+    ensures {
         let lent = segment_columns net.now orientation.now fixed.now start.now end.now in
         let words = length scratch.old in
-        let result = result_of (density_answer lent cutoff allowance words) in
-        (r ≡ result.0)
-        × (out.new ≡ congestion_words result.1)
+        let told = result_of (density_answer lent cutoff allowance words) in
+        (result ≡ told.0)
+        × (out.new ≡ congestion_words told.1)
         × (scratch.new ≡ scratch_after (first_of (congestion_conditions lent cutoff words)) scratch.old)
-        ) ⌝ }
+    }
 {
     let answer = measure_parallel_density_profile_bounded(
         net,
@@ -89,8 +88,7 @@ pub extern "C" fn readability_density_profile(
 }
 
 // The congestion profile: the same with pair overlap and peak zero (SCOPE 6.2).
-#[unsafe(no_mangle)]
-pub extern "C" fn readability_congestion_profile(
+pub fn readability_congestion_profile(
     net: &[u32],
     orientation: &[u8],
     fixed: &[f64],
@@ -101,14 +99,14 @@ pub extern "C" fn readability_congestion_profile(
     scratch: &mut [u64],
     out: &mut [u64; 7],
 ) -> u32
-    ensures* { λ r. ⌜ (
+    ensures {
         let lent = segment_columns net.now orientation.now fixed.now start.now end.now in
         let words = length scratch.old in
-        let result = result_of (profile_answer lent cutoff allowance words) in
-        (r ≡ result.0)
-        × (out.new ≡ congestion_words result.1)
+        let told = result_of (profile_answer lent cutoff allowance words) in
+        (result ≡ told.0)
+        × (out.new ≡ congestion_words told.1)
         × (scratch.new ≡ scratch_after (first_of (congestion_conditions lent cutoff words)) scratch.old)
-        ) ⌝ }
+    }
 {
     let answer = measure_parallel_congestion_profile_bounded(
         net,
@@ -124,8 +122,7 @@ pub extern "C" fn readability_congestion_profile(
 }
 
 // All figures, without an allowance.
-#[unsafe(no_mangle)]
-pub extern "C" fn readability_congestion(
+pub fn readability_congestion(
     net: &[u32],
     orientation: &[u8],
     fixed: &[f64],
@@ -135,22 +132,21 @@ pub extern "C" fn readability_congestion(
     scratch: &mut [u64],
     out: &mut [u64; 7],
 ) -> u32
-    ensures* { λ r. ⌜ (
+    ensures {
         let lent = segment_columns net.now orientation.now fixed.now start.now end.now in
         let words = length scratch.old in
-        let result = result_of (congestion_answer lent cutoff words) in
-        (r ≡ result.0)
-        × (out.new ≡ congestion_words result.1)
+        let told = result_of (congestion_answer lent cutoff words) in
+        (result ≡ told.0)
+        × (out.new ≡ congestion_words told.1)
         × (scratch.new ≡ scratch_after (first_of (congestion_conditions lent cutoff words)) scratch.old)
-        ) ⌝ }
+    }
 {
     let answer = measure_parallel_congestion(net, orientation, fixed, start, end, cutoff, scratch);
     write_congestion(answer, out)
 }
 
 // The ratio (SCOPE 3.17) does not depend on the two figures that are set to zero here.
-#[unsafe(no_mangle)]
-pub extern "C" fn readability_ratio(total: f64, congested: f64) -> f64
+pub fn readability_ratio(total: f64, congested: f64) -> f64
     ensures { result ≡ Ratio.ratio total congested }
 {
     let lengths = ParallelCongestion {

@@ -48,8 +48,7 @@ pub(crate) fn write_separation(answer: SeparationAnswer, out: &mut [u64; 5]) -> 
     separation_status(answer)
 }
 
-#[unsafe(no_mangle)]
-pub extern "C" fn readability_separation(
+pub fn readability_separation(
     net: &[u32],
     orientation: &[u8],
     fixed: &[f64],
@@ -59,14 +58,14 @@ pub extern "C" fn readability_separation(
     scratch: &mut [u64],
     out: &mut [u64; 5],
 ) -> u32
-    ensures* { λ r. ⌜ (
+    ensures {
         let lent = segment_columns net.now orientation.now fixed.now start.now end.now in
         let words = length scratch.old in
-        let result = result_of (separation_answer lent allowance words) in
-        (r ≡ result.0)
-        × (out.new ≡ separation_words result.1)
+        let told = result_of (separation_answer lent allowance words) in
+        (result ≡ told.0)
+        × (out.new ≡ separation_words told.1)
         × (scratch.new ≡ scratch_after (first_of (separation_conditions lent words)) scratch.old)
-        ) ⌝ }
+    }
 {
     let answer = measure_parallel_separation_bounded(
         net,

@@ -29,8 +29,7 @@ fn tight_pair_words(answer: TightPair) -> [u64; 3]
     }
 }
 
-#[unsafe(no_mangle)]
-pub extern "C" fn readability_tight_pair(
+pub fn readability_tight_pair(
     net: &[u32],
     orientation: &[u8],
     fixed: &[f64],

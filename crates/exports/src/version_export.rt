@@ -2,8 +2,7 @@
 ghost use Rattle.std.specs.Prelude.{◌≡◌};
 ghost use Rattle.version.specs.Version.{version};
 
-#[unsafe(no_mangle)]
-pub extern "C" fn readability_version_0_3() -> u32
+pub fn readability_version_0_3() -> u32
     ensures { result ≡ version }
 {
     version::number()

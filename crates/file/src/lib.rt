@@ -1,5 +1,6 @@
 // The drawing file: reading its bytes into columns. SCOPE 10.
 #![tactic(auto)]
+
 mod bytes;
 mod fill;
 pub mod read;

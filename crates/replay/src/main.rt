@@ -2,11 +2,13 @@
 //
 // A record is the length of a drawing file, the file, the length of its sheet and the sheet; a length has 32 bits, big-endian. Where a part is incomplete or does not fit its buffer, nothing after it can be read as records, so the record counts as differing and the run ends.
 #![tactic(auto)]
-ghost use Rattle.std.specs.Prelude.{◌≡◌, true};
+ghost use Rattle.std.specs.Prelude.{◌≡◌, true, IfOk};
 ghost use Rattle.printing.specs.Sheet as Sheet;
 ghost use Rattle.replay.specs.Inner.Parts.{Within};
 
-use libc::{STDIN_FILENO, STDOUT_FILENO};
+use std::io::{self, Read};
+
+use input::read_full;
 
 // What is read where a part may begin: a part of this number of bytes, at the front of its buffer; one that is incomplete or does not fit; or the end of the input.
 #[derive(Clone, Copy)]
@@ -37,32 +39,32 @@ fn length_of(a: u8, b: u8, c: u8, d: u8) -> usize {
 }
 
 // Reads a part of that length.
-fn read_whole(length: usize, buffer: &mut [u8]) -> Part
-    ensures { Within result buffer.new }
+fn read_whole<R: Read>(input: &mut R, length: usize, buffer: &mut [u8]) -> io::Result<Part>
+    ensures { IfOk result (λ part. Within part buffer.new) }
 {
     if buffer.len() < length {
-        return Part::Broken;
+        return Ok(Part::Broken);
     }
-    let n = io::read_full(STDIN_FILENO, &mut buffer[..length]);
+    let n = read_full(input, &mut buffer[..length])?;
     if n < length {
-        return Part::Broken;
+        return Ok(Part::Broken);
     }
-    Part::Whole(length)
+    Ok(Part::Whole(length))
 }
 
-fn read_part(buffer: &mut [u8]) -> Part
-    ensures { Within result buffer.new }
+fn read_part<R: Read>(input: &mut R, buffer: &mut [u8]) -> io::Result<Part>
+    ensures { IfOk result (λ part. Within part buffer.new) }
 {
     let mut bytes = [0u8; 4];
-    let n = io::read_full(STDIN_FILENO, &mut bytes);
+    let n = read_full(input, &mut bytes)?;
     if n == 0 {
-        return Part::End;
+        return Ok(Part::End);
     }
     if n < 4 {
-        return Part::Broken;
+        return Ok(Part::Broken);
     }
     let length = length_of(bytes[0], bytes[1], bytes[2], bytes[3]);
-    read_whole(length, buffer)
+    read_whole(input, length, buffer)
 }
 
 // Whether a file's sheet is the expected one.
@@ -71,44 +73,44 @@ fn agrees(bytes: &[u8], expected: &[u8]) -> bool
 {
     let mut text = [0u8; 256];
     let length = printing::sheet(bytes, &mut text);
-    check::same(&text[..length], expected)
+    &text[..length] == expected
 }
 
 // The rest of a record whose file was read.
-fn replay_file(bytes: &[u8]) -> Outcome {
+fn replay_file<R: Read>(input: &mut R, bytes: &[u8]) -> io::Result<Outcome> {
     let mut expected = [0u8; 256];
-    let part = read_part(&mut expected);
+    let part = read_part(input, &mut expected)?;
     match part {
         Part::Whole(n) => {
             if agrees(bytes, &expected[..n]) {
-                Outcome::Agrees
+                Ok(Outcome::Agrees)
             } else {
-                Outcome::Differs
+                Ok(Outcome::Differs)
             }
         }
-        Part::Broken => Outcome::Broken,
-        Part::End => Outcome::Broken,
+        Part::Broken => Ok(Outcome::Broken),
+        Part::End => Ok(Outcome::Broken),
     }
 }
 
 // The longest file that a sample holds has some 9,800 bytes.
-fn replay_record() -> Outcome {
+fn replay_record<R: Read>(input: &mut R) -> io::Result<Outcome> {
     let mut bytes = [0u8; 16384];
-    let part = read_part(&mut bytes);
+    let part = read_part(input, &mut bytes)?;
     match part {
-        Part::Whole(n) => replay_file(&bytes[..n]),
-        Part::Broken => Outcome::Broken,
-        Part::End => Outcome::End,
+        Part::Whole(n) => replay_file(input, &bytes[..n]),
+        Part::Broken => Ok(Outcome::Broken),
+        Part::End => Ok(Outcome::End),
     }
 }
 
 // A proved loop has to end, and nothing says that the input does: the loop counts its turns down from a number that no run uses up.
-fn replay() -> Tally {
+fn replay<R: Read>(input: &mut R) -> io::Result<Tally> {
     let mut agree: u64 = 0;
     let mut differ: u64 = 0;
     let mut left: u64 = 18446744073709551615;
     while left > 0 {
-        let outcome = replay_record();
+        let outcome = replay_record(input)?;
         match outcome {
             Outcome::Agrees => {
                 agree += 1;
@@ -117,30 +119,29 @@ fn replay() -> Tally {
                 differ += 1;
             }
             Outcome::Broken => {
-                return Tally {
+                return Ok(Tally {
                     agree: agree,
                     differ: differ + 1,
-                };
+                });
             }
             Outcome::End => {
-                return Tally {
+                return Ok(Tally {
                     agree: agree,
                     differ: differ,
-                };
+                });
             }
         }
         left -= 1;
     }
-    Tally {
+    Ok(Tally {
         agree: agree,
         differ: differ,
-    }
+    })
 }
 
-fn main() {
-    let tally = replay();
-    io::print_decimal(STDOUT_FILENO, tally.agree);
-    io::write_all(STDOUT_FILENO, b" agree, ");
-    io::print_decimal(STDOUT_FILENO, tally.differ);
-    io::write_all(STDOUT_FILENO, b" differ\n");
+fn main(rt: HostRuntime) -> io::Result<()> {
+    let tally = replay(&mut rt.stdin())?;
+    let agree = tally.agree;
+    let differ = tally.differ;
+    println!(rt; "{agree} agree, {differ} differ")
 }

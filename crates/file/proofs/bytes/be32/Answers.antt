@@ -2,7 +2,6 @@
 use mathlib.Core.Path.{ap, ◌∙◌}
 use Rattle.file.specs.Reading.{big_endian}
 use Rattle.file.proofs.BigEndian.{four}
-use borrow.Author.Rules.{rules}
 use Rattle.file.proofs.bytes.be32.Goals as goal
 
 pub returns : goal.returns

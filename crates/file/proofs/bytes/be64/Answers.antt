@@ -1,7 +1,6 @@
 -- `file::bytes::be64` meets its contract: eight bytes are two numbers of four. Assumes nothing.
 use mathlib.Core.Path.{sym}
 use Rattle.file.proofs.BigEndian.{eight}
-use borrow.Author.Rules.{rules}
 use Rattle.file.proofs.bytes.be64.Goals as goal
 
 pub returns : goal.returns

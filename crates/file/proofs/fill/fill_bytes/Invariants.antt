@@ -1,10 +1,8 @@
 -- `file::fill::fill_bytes` meets its contract: after i turns the first i bytes of the column are written. Assumes nothing.
 use Rattle.file.specs.Reading.{big_endian}
 use lib.ListN.{take}
-use Rattle.file.proofs.ColumnsFilled.{Filled, filled_none, filled_next, filled_all, byte_is}
-use borrow.Author.Rules.{rules}
-use native.Mathlib.Omega.{arith}
-use Prim.Native.Nat.{◌+◌, ◌*◌, ◌-◌}
+use Rattle.file.proofs.ColumnsFilled.{Filled}
+use Prim.Native.Nat.{◌-◌}
 use Rattle.file.proofs.fill.fill_bytes.Given as goal
 
 abbrev pub invariant-loop-i : goal.invariant-loop-i

@@ -3,10 +3,8 @@ use mathlib.Core.Path.{ap, ◌∙◌}
 use lib.Ieee.{binary64, of_bits}
 use Rattle.file.specs.Reading.{big_endian}
 use lib.ListN.{take}
-use Rattle.file.proofs.ColumnsFilled.{Filled, filled_none, filled_next, filled_all}
-use borrow.Author.Rules.{rules}
+use Rattle.file.proofs.ColumnsFilled.{filled_none, filled_next, filled_all}
 use native.Mathlib.Omega.{arith}
-use Prim.Native.Nat.{◌-◌}
 use Rattle.file.proofs.fill.fill_floats.Goals as goal
 
 pub loop-i-init : goal.loop-i-init

@@ -1,11 +1,8 @@
 -- `file::fill::fill_floats` meets its contract: after i turns the first i floats of the column are written. Assumes nothing.
-use mathlib.Core.Path.{ap, ◌∙◌}
 use lib.Ieee.{binary64, of_bits}
 use Rattle.file.specs.Reading.{big_endian}
 use lib.ListN.{take}
-use Rattle.file.proofs.ColumnsFilled.{Filled, filled_none, filled_next, filled_all}
-use borrow.Author.Rules.{rules}
-use native.Mathlib.Omega.{arith}
+use Rattle.file.proofs.ColumnsFilled.{Filled}
 use Prim.Native.Nat.{◌-◌}
 use Rattle.file.proofs.fill.fill_floats.Given as goal
 

@@ -1,10 +1,8 @@
 -- `file::fill::fill_numbers` meets its contract: after i turns the first i numbers of the column are written. Assumes nothing.
 use Rattle.file.specs.Reading.{big_endian}
 use lib.ListN.{take}
-use Rattle.file.proofs.ColumnsFilled.{Filled, filled_none, filled_next, filled_all}
-use borrow.Author.Rules.{rules}
+use Rattle.file.proofs.ColumnsFilled.{filled_none, filled_next, filled_all}
 use native.Mathlib.Omega.{arith}
-use Prim.Native.Nat.{◌-◌}
 use Rattle.file.proofs.fill.fill_numbers.Goals as goal
 
 pub loop-i-init : goal.loop-i-init

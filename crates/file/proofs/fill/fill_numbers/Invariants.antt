@@ -1,9 +1,7 @@
 -- `file::fill::fill_numbers` meets its contract: after i turns the first i numbers of the column are written. Assumes nothing.
 use Rattle.file.specs.Reading.{big_endian}
 use lib.ListN.{take}
-use Rattle.file.proofs.ColumnsFilled.{Filled, filled_none, filled_next, filled_all}
-use borrow.Author.Rules.{rules}
-use native.Mathlib.Omega.{arith}
+use Rattle.file.proofs.ColumnsFilled.{Filled}
 use Prim.Native.Nat.{◌-◌}
 use Rattle.file.proofs.fill.fill_numbers.Given as goal
 

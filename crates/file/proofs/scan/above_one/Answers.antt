@@ -1,8 +1,6 @@
 -- `file::scan::above_one` meets its contract: after i turns the first i bytes are not above 1. Assumes nothing.
-use Rattle.file.proofs.ColumnsFilled.{Passed, passed_none, passed_hit, passed_next, passed_all}
-use borrow.Author.Rules.{rules}
+use Rattle.file.proofs.ColumnsFilled.{passed_none, passed_hit, passed_next, passed_all}
 use native.Mathlib.Omega.{arith}
-use Prim.Native.Nat.{◌-◌}
 use Rattle.file.proofs.scan.above_one.Goals as goal
 
 pub loop-i-init : goal.loop-i-init

@@ -1,7 +1,5 @@
 -- `file::scan::above_one` meets its contract: after i turns the first i bytes are not above 1. Assumes nothing.
-use Rattle.file.proofs.ColumnsFilled.{Passed, passed_none, passed_hit, passed_next, passed_all}
-use borrow.Author.Rules.{rules}
-use native.Mathlib.Omega.{arith}
+use Rattle.file.proofs.ColumnsFilled.{Passed}
 use Prim.Native.Nat.{◌-◌}
 use Rattle.file.proofs.scan.above_one.Given as goal
 

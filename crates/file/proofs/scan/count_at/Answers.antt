@@ -2,7 +2,6 @@
 use native.Mathlib.Nat.{le_trans}
 use native.Mathlib.Omega.{arith}
 use Rattle.file.proofs.FixedLists.{count-short, count-many, count_missing, count-there, product}
-use borrow.Author.Rules.{rules}
 use Rattle.file.proofs.scan.count_at.Goals as goal
 
 pub returns-then-left-lt4 : goal.returns-then-left-lt4

@@ -5,7 +5,6 @@ use lib.ListN.{drop}
 use Rattle.file.proofs.FixedLists.{refused-same, count_wrong, count-right}
 use Rattle.file.proofs.FixedParts.{fixed-segment}
 use Rattle.file.proofs.ReadingParts.{counted_of, orientation-room, orientation_as}
-use borrow.Author.Rules.{rules}
 use Rattle.file.proofs.scan.count_segments.Goals as goal
 
 pub returns-in_default : goal.returns-in_default

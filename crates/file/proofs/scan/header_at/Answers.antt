@@ -1,7 +1,6 @@
 -- `file::scan::header_at` meets its contract. Assumes nothing.
 use mathlib.Core.Path.{ap, ◌∙◌}
 use lib.Ieee.{binary64, of_bits}
-use borrow.Author.Rules.{rules}
 use Rattle.file.proofs.scan.header_at.Goals as goal
 
 pub returns : goal.returns
