@@ -282,7 +282,7 @@ module _ (ex : List Exemption) (ss : List Segment) (ns : List Node) (b : Best) (
         segment = q.segment;
         node = q.node;
         segment-at = ap (get_elem? ss) (sym u) ∙ q.segment-at;
-        node_found = ap (get_elem? ns) (sym v) ∙ q.node_found;
+        node_at = ap (get_elem? ns) (sym v) ∙ q.node_found;
         free = q.free;
         least = ap Present (sym q.far) ∙ sym h ∙ p.least;
       }

@@ -1,5 +1,6 @@
 // The tight pair (SCOPE 12): a segment and a node, not exempt, whose distance is the least clearance.
 #![tactic(auto)]
+
 ghost use Rattle.std.specs.Prelude.{◌≡◌, List, ℕ, length};
 ghost use Rattle.drawing.specs.Entries.{Exemption, segment_columns, node_columns, exemption_columns, segments, nodes};
 ghost use Rattle.drawing.specs.Inner.Lengths.{SegmentsAgree, NodesAgree};
