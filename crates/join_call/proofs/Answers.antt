@@ -9,7 +9,7 @@ use lib.Dec.{ltb}
 use lib.Ieee.{nan}
 use lib.ListN.{length, get_or, drop, length-map}
 use borrow.Author.Tests.{ltb-false, le-ltb}
-use Rattle.laws.specs.Lists.{Mem, All, some_of, put}
+use Rattle.laws.specs.Lists.{Mem, All, put}
 use Rattle.laws.specs.Sort.{sort_by}
 use Rattle.laws.proofs.ListLaws.{all_mem, none-all, all_none}
 use Rattle.laws.proofs.Tests.{decide, cond_true, cond_false}

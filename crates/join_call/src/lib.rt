@@ -1,5 +1,6 @@
 // The joiner's call: pieces in a table, in order, counted, and then written.
 #![tactic(auto)]
+
 pub mod columns;
 mod table;
 mod write;

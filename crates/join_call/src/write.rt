@@ -42,8 +42,8 @@ fn close_piece(
     x: Piece,
 ) -> usize
     requires { Room (at + 1) (segment_columns net.old orientation.old fixed.old start.old end.old) }
-    ensures value { result ≡ at + begun c x }
-    ensures end_after { segment_columns net.new orientation.new fixed.new start.new end.new ≡ cond (touches_piece c x) (segment_columns net.old orientation.old fixed.old start.old end.old) (put_piece (segment_columns net.old orientation.old fixed.old start.old end.old) at c) }
+    ensures count { result ≡ at + begun c x }
+    ensures columns_after { segment_columns net.new orientation.new fixed.new start.new end.new ≡ cond (touches_piece c x) (segment_columns net.old orientation.old fixed.old start.old end.old) (put_piece (segment_columns net.old orientation.old fixed.old start.old end.old) at c) }
 {
     if touches(c, x) {
         return at;
@@ -63,8 +63,8 @@ pub(crate) fn write_pieces(
     end: &mut [f64],
 ) -> usize
     requires { Tabled n a.now × Room (length (joined_pieces (entries_from n a.now 0 n))) (segment_columns net.old orientation.old fixed.old start.old end.old) }
-    ensures value { result ≡ length (joined_pieces (entries_from n a.now 0 n)) }
-    ensures end_after { segment_columns net.new orientation.new fixed.new start.new end.new ≡ written_pieces (joined_pieces (entries_from n a.now 0 n)) (segment_columns net.old orientation.old fixed.old start.old end.old) }
+    ensures count { result ≡ length (joined_pieces (entries_from n a.now 0 n)) }
+    ensures columns_after { segment_columns net.new orientation.new fixed.new start.new end.new ≡ written_pieces (joined_pieces (entries_from n a.now 0 n)) (segment_columns net.old orientation.old fixed.old start.old end.old) }
 {
     if n == 0 {
         return 0;

@@ -1,9 +1,9 @@
 -- The table of n pieces in a slice of words: n indices, and behind them the pieces, four words each.
-use Rattle.std.specs.Prelude.{◌≡◌, Bool, not, ◌&&◌, cond, List, [], ◌∷◌, map, ℕ, zero, suc, ◌+◌, ◌-◌, ◌*◌, ◌/◌, ◌%◌, ◌≤◌, ◌<◌, leb, ltb, eqb, length, get_or, set, take, drop}
-use Rattle.laws.specs.Lists.{All, put, bit}
+use Rattle.std.specs.Prelude.{◌≡◌, List, [], ◌∷◌, map, ℕ, zero, suc, ◌+◌, ◌-◌, ◌*◌, ◌/◌, ◌%◌, ◌≤◌, ◌<◌, length, get_or, set, take, drop}
+use Rattle.laws.specs.Lists.{All}
 use Rattle.laws.specs.Sort.{sort_by}
-use Rattle.floats.specs.TotalOrder.{key_of, float_at}
-use Rattle.drawing.specs.Entries.{Segment, SegmentColumns, segments}
+use Rattle.floats.specs.TotalOrder.{float_at}
+use Rattle.drawing.specs.Entries.{SegmentColumns, segments}
 use Rattle.drawing.specs.Inner.Entries.{segment_at}
 use Rattle.drawing.specs.Inner.Lengths.{SegmentsAgree}
 use Rattle.drawing.specs.Held.{FitSegment}
