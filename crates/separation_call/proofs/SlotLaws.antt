@@ -43,6 +43,7 @@ index_at (q ∷ l) (suc k) p b f h = index-past q p l (f 0 (omega arith)) ∙ ap
 
 -- the value is there
 index-value : (l : List ℕ) (p : ℕ) → Sorted leb l → Mem p l → get_or l (index l p) 0 ≡ p
+index-value [] p s m = elim m [ ]
 index-value (q ∷ l) p s m = elim (le_or_lt p q) [
   | inl h ↦ rw (index_here q p l h) (first h m)
   | inr h ↦ rw (index-past q p l h) (index-value l p s.1 (later h m))

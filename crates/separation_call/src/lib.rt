@@ -1,5 +1,6 @@
 // The separation call: the sweep over the segments of one orientation, with the tree of the active nets in the scratch, and the measure by columns.
 #![tactic(auto)]
+
 mod along;
 mod line_numbers;
 pub mod measure;

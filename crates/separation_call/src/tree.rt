@@ -12,8 +12,8 @@ use separation::{Charge, NetSummary, OtherNet, Search, merged_word, summary_of_w
 
 // The least power of two that is not below the count: its exponent, the levels of the tree, is the number of binary digits of the count minus one (SCOPE 15.4).
 pub(crate) fn leaf_count(coordinate_count: usize) -> usize
-    requires le_coordinate_count { 1 ≤ coordinate_count }
-    requires coordinate_count_bound { coordinate_count ≤ 4096 }
+    requires at_least_one { 1 ≤ coordinate_count }
+    requires at_most_4096 { coordinate_count ≤ 4096 }
     ensures { result ≡ 2 ^ levels coordinate_count }
 {
     let last = (coordinate_count - 1) as u64;
@@ -161,8 +161,8 @@ pub(crate) fn set(
 ) -> Charge
     requires leaves { Leaves tree.old leaves }
     requires index_lt_leaves { index < leaves }
-    ensures by_index { (H : ℕ) → leaves ≡ 2 ^ H → result ≡ charge_of (within remaining (set_run H)) }
-    ensures by_index_2 { (H m : ℕ) → leaves ≡ 2 ^ H → result ≡ Charge.Paid m → Renewed tree.old tree.new H index summary }
+    ensures charged { (H : ℕ) → leaves ≡ 2 ^ H → result ≡ charge_of (within remaining (set_run H)) }
+    ensures renewed { (H m : ℕ) → leaves ≡ 2 ^ H → result ≡ Charge.Paid m → Renewed tree.old tree.new H index summary }
 {
     if remaining == 0 {
         return Charge::Spent;
