@@ -32,6 +32,7 @@ use Rattle.congestion.specs.Inner.Keys.{Key, Representable}
 use Rattle.density_call.specs.Inner.Tables.{item_at, event_at, Tabled, wire_state_from, wire_states_from, Stored}
 use Rattle.density_call.specs.Inner.Meeting.{visits_of, least_float, Meetable, CountsOnly, Meets}
 use Rattle.density_call.specs.Inner.Sweeping.{passed_to, started_by, ended_by, activated, deactivated, Follows, Ending, Due, AtEvent, Onward, Steps, Handles}
+use Rattle.congestion.proofs.Passing.{congested-stepped, overlap-stepped}
 use Rattle.congestion.proofs.Moments.{event}
 use Rattle.congestion.proofs.Fitness.{Stands}
 use Rattle.congestion.proofs.LeastGap.{held-lesser, held-fold, held-gap}
@@ -72,10 +73,10 @@ module _ (c : ℕ) (st : State) (state : Sweeping) (f : Follows state st) (b : B
       ∙ ap of_units (sym e)
 
   congested_passed : (passed_to state (float_at word)).congested_length ≡ of_units (step c st (event b i)).value.congested_length
-  congested_passed = grown st.congested_active (λ t. t.congested_length) state.congested_length state.congested_active f.congested f.active due.active (elim b [ true ↦ refl | false ↦ refl ]) due.congested
+  congested_passed = grown st.congested_active (λ t. t.congested_length) state.congested_length state.congested_active f.congested f.active due.active (congested-stepped c b i st) due.congested
 
   overlap_passed : (passed_to state (float_at word)).pair_overlap_length ≡ of_units (step c st (event b i)).value.pair_overlap_length
-  overlap_passed = grown st.close_pairs (λ t. t.pair_overlap_length) state.pair_overlap_length state.close_pairs f.overlap f.pairs due.pairs (elim b [ true ↦ refl | false ↦ refl ]) due.overlap
+  overlap_passed = grown st.close_pairs (λ t. t.pair_overlap_length) state.pair_overlap_length state.close_pairs f.overlap f.pairs due.pairs (overlap-stepped c b i st) due.overlap
 
 -- ---- the least gap here is one that a float can hold
 module _ (c : ℕ) (L : List Wire) (s w : List ℕ) (st : State) (tabled : Tabled c L s) (rows : st.wires ≡ wire_states_from L w) where

@@ -1,5 +1,6 @@
 // The sweep over the wires of each orientation, and the density profile: the call that measures. What it answers is defined in `congestion`.
 #![tactic(auto)]
+
 mod along;
 mod counts;
 pub mod measure;

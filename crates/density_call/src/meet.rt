@@ -47,7 +47,7 @@ fn count_if(count: usize, counts: bool) -> usize
 // A neighbor's count after the event: it rises by one at a start and falls by one at an end.
 fn count_after(starts: bool, count: u64) -> u64
     requires count_bound { count ≤ 4096 }
-    requires le_count { starts ≡ false → 1 ≤ count }
+    requires positive_at_end { starts ≡ false → 1 ≤ count }
     ensures { result ≡ count_after starts count }
 {
     if starts { count + 1 } else { count - 1 }
@@ -76,7 +76,7 @@ fn highest_after(starts: bool, highest: usize, after: u64) -> usize
 fn meet_neighbor(s: &mut [u64], at: usize, starts: bool, gap: f64, meeting: Meeting) -> Meeting
     requires { Countable s.old at starts meeting }
     ensures value { result ≡ with_neighbor starts (get_or s.old at 0) gap meeting }
-    ensures s_after { s.new ≡ set s.old at (count_after starts (get_or s.old at 0)) }
+    ensures count_stored { s.new ≡ set s.old at (count_after starts (get_or s.old at 0)) }
 {
     let count = s[at];
     let after = count_after(starts, count);

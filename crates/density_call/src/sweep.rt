@@ -53,8 +53,8 @@ fn congested(neighbors: usize) -> usize
 
 // A start: the wire itself may be congested, and so may be neighbors that were not.
 fn with_start(state: Sweeping, meeting: Meeting) -> Sweeping
-    requires changed_bound { state.congested_active + meeting.changed + 1 < 2 ^ 64 }
-    requires neighbors_bound { state.close_pairs + meeting.neighbors < 2 ^ 64 }
+    requires active_fits { state.congested_active + meeting.changed + 1 < 2 ^ 64 }
+    requires pairs_fit { state.close_pairs + meeting.neighbors < 2 ^ 64 }
     ensures { result ≡ started_by state meeting }
 {
     let neighbors = meeting.neighbors;
@@ -75,8 +75,8 @@ fn with_start(state: Sweeping, meeting: Meeting) -> Sweeping
 
 // An end of a wire whose own count is `count`: it is no longer congested, nor are neighbors that had only this one.
 fn with_end(state: Sweeping, count: usize, meeting: Meeting) -> Sweeping
-    requires changed_bound { bit (not (eqb «count» 0)) + meeting.changed ≤ state.congested_active }
-    requires neighbors_bound { meeting.neighbors ≤ state.close_pairs }
+    requires active_suffices { bit (not (eqb «count» 0)) + meeting.changed ≤ state.congested_active }
+    requires pairs_suffice { meeting.neighbors ≤ state.close_pairs }
     ensures { result ≡ ended_by state «count» meeting }
 {
     let own = congested(count);
@@ -96,7 +96,7 @@ fn with_end(state: Sweeping, count: usize, meeting: Meeting) -> Sweeping
 fn activate(s: &mut [u64], n: usize, j: usize, neighbors: usize)
     requires j_lt_n { j < n }
     requires n_bound { n ≤ 4096 }
-    requires n_in_bounds { 10 * n ≤ length s.old }
+    requires columns_fit { 10 * n ≤ length s.old }
     ensures { s.new ≡ activated n j neighbors s.old }
 {
     s[8 * n + j] = neighbors as u64;
@@ -107,7 +107,7 @@ fn activate(s: &mut [u64], n: usize, j: usize, neighbors: usize)
 fn deactivate(s: &mut [u64], n: usize, j: usize)
     requires j_lt_n { j < n }
     requires n_bound { n ≤ 4096 }
-    requires n_in_bounds { 10 * n ≤ length s.old }
+    requires columns_fit { 10 * n ≤ length s.old }
     ensures { s.new ≡ deactivated n j s.old }
 {
     s[8 * n + j] = 0;
