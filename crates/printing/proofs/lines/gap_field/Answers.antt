@@ -1,0 +1,6 @@
+-- `printing::lines::gap_field` meets its contract: a space, and the field after it. Assumes nothing.
+use Rattle.text.proofs.TextPuts.{put_both}
+use Rattle.printing.proofs.lines.gap_field.Goals as goal
+
+pub returns : goal.returns
+returns c = put_both c.put_byte-next.ensures c.put_gap.ensures

@@ -1,0 +1,14 @@
+-- `printing::lines::put_gap` meets its contract: case by case. Assumes nothing.
+use mathlib.Core.Path.{sym, ap}
+use native.Mathlib.Omega.{arith}
+use Rattle.printing.specs.Fields.{gap_text, none_text}
+use Rattle.text.proofs.TextPuts.{put-within, put_same}
+use Rattle.printing.proofs.lines.put_gap.Goals as goal
+
+pub returns-in-Absent : goal.returns-in-Absent
+unfolding gap_text none_text
+returns-in-Absent c = put_same (sym (ap gap_text c.in-Absent.is)) (put-within (omega arith) c.put_word.ensures)
+
+pub returns-in-Present : goal.returns-in-Present
+unfolding gap_text
+returns-in-Present c = put_same (sym (ap gap_text c.in-Present.is)) c.put_float.ensures
