@@ -1,5 +1,6 @@
 // Separation of a list of segments, each one a `Line` (SCOPE 2.6, 15.9): they are copied into columns, and the call by columns does all else, its refusals included.
 #![tactic(auto)]
+
 ghost use Rattle.std.specs.Prelude.{◌≡◌, map, length, take};
 ghost use Rattle.drawing.specs.declared.refusal.Check.TheVariants.{Passed};
 ghost use Rattle.drawing.specs.Refusals.{first_of, scratch_after};
