@@ -30,7 +30,7 @@ pub record Numbered (i : Item) (n : ℕ) (l : List Wire) : Type 0 where
   pub wire∈ : Mem i.wire l
 
 pub of-numbered : (i : Item) (n : ℕ) (l : List Wire) → Mem i (numbered n l) → Numbered i n l
-of-numbered i n [] x' = elim x' [ ]
+of-numbered i n [] m = elim m [ ]
 of-numbered i n (s ∷ l) (inl p) = let q : i.index ≡ n = ap (λ (z : Item). z.index) p in record { least = le_of_eq (sym q); below = omega arith; wire∈ = inl (ap (λ (z : Item). z.wire) p) }
 of-numbered i n (s ∷ l) (inr m) = let h = of-numbered i (suc n) l m in record { least = omega (arith, h.least); below = omega (arith, h.below); wire∈ = inr h.wire∈ }
 
@@ -52,12 +52,12 @@ fit-numbered l v = record {
 
 -- ---- its events
 has_start : (l : List Item) (i : Item) → Mem i l → Mem (event false i) (wire_events l)
-has_start [] i x' = elim x' [ ]
+has_start [] i m = elim m [ ]
 has_start (x ∷ l) i (inl p) = inr (inl (ap (event false) p))
 has_start (x ∷ l) i (inr m) = inr (inr (has_start l i m))
 
 has_end : (l : List Item) (i : Item) → Mem i l → Mem (event true i) (wire_events l)
-has_end [] i x' = elim x' [ ]
+has_end [] i m = elim m [ ]
 has_end (x ∷ l) i (inl p) = inl (ap (event true) p)
 has_end (x ∷ l) i (inr m) = inr (inr (has_end l i m))
 

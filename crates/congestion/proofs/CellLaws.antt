@@ -25,7 +25,7 @@ is_covered k s p q = and_i (leb s.start k) (ltb k s.end) (le→leb s.start k p) 
 -- ---- a run of cells
 pub mem_cells : (k a n : ℕ) → Mem k (cells_from a n) → (a ≤ k) × (k < a + n)
 unfolding cells_from
-mem_cells k a zero x' = elim x' [ ]
+mem_cells k a zero m = elim m [ ]
 mem_cells k a (suc n) (inl e) = (omega arith, omega arith)
 mem_cells k a (suc n) (inr m) = let h = mem_cells k (suc a) n m in (omega (arith, h.0), omega (arith, h.1))
 

@@ -59,7 +59,7 @@ key-order x y hx hy = row_number (at x) (kind x) x.item.index (at y) (kind y) y.
 
 -- ---- no two events have one key
 pub events-inside : (l : List Item) (e : WireEvent) → Mem e (wire_events l) → Mem e.item l
-events-inside [] e x' = elim x' [ ]
+events-inside [] e m = elim m [ ]
 events-inside (i ∷ l) e (inl p) = inl (ap (λ (z : WireEvent). z.item) p)
 events-inside (i ∷ l) e (inr (inl p)) = inl (ap (λ (z : WireEvent). z.item) p)
 events-inside (i ∷ l) e (inr (inr m)) = inr (events-inside l e m)

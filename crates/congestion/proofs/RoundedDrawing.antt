@@ -1,7 +1,7 @@
 -- The Rust's float sums of a whole drawing are the floats of the figures over all pairs. Assumes nothing.
 use mathlib.Core.Path.{◌≡◌, refl, sym, ap, ap₂, ◌∙◌, subst}
 use mathlib.Core.Logic.{inl, inr}
-use mathlib.Core.List.{List, ◌∷◌, map}
+use mathlib.Core.List.{List, [], ◌∷◌, map}
 use mathlib.Core.Option.{Option, none}
 use mathlib.Core.Bool.{Bool, true, false, beq}
 use Prim.Native.Nat.{ℕ, suc, ◌+◌, ◌^◌, ◌<◌}
@@ -50,7 +50,7 @@ record Behind (n : ℕ) (l : List Segment) (i : Item) : Type 0 where
   read : (f : Segment → Float) → get_or (map f l) place plus_zero ≡ f segment
 
 behind : (n : ℕ) (l : List Segment) (i : Item) → Mem i (numbered n (map wire_of l)) → Behind n l i
-behind n mathlib.Core.List.[] i x' = elim x' [ ]
+behind n [] i m = elim m [ ]
 behind n (s ∷ l) i (inl e) = let h : i.index ≡ n = ap (λ (z : Item). z.index) e in record { place = 0; segment = s; index_is = omega arith; listed = inl refl; wire-is = ap (λ (z : Item). z.wire) e; read = λ f. refl }
 behind n (s ∷ l) i (inr m) = let b = behind (suc n) l i m in record { place = suc b.place; segment = b.segment; index_is = let e = b.index_is in omega arith; listed = inr b.listed; wire-is = b.wire-is; read = b.read }
 

@@ -59,7 +59,7 @@ back_units n h = let e = unit-of_units n h in omega arith
 
 part-of-sum : (n : ℕ) (l : List ℕ) → Mem n l → n ≤ sum (λ k. k) l
 unfolding fold
-part-of-sum n [] x' = elim x' [ ]
+part-of-sum n [] m = elim m [ ]
 part-of-sum n (k ∷ l) (inl e) = omega arith
 part-of-sum n (k ∷ l) (inr m) = let h = part-of-sum n l m in omega arith
 

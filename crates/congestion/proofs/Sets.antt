@@ -1,7 +1,7 @@
 -- What one item more does to the counts over a set of items. The counts of the sweep are these, of the active set. Assumes nothing.
 use mathlib.Core.Path.{◌≡◌, refl, sym, ap, ap₂, ◌∙◌, subst}
 use mathlib.Core.Logic.{inl, inr}
-use mathlib.Core.List.{List, ◌∷◌}
+use mathlib.Core.List.{List, [], ◌∷◌}
 use mathlib.Core.Bool.{Bool, true, false, not, ◌&&◌, ◌||◌, cond}
 use Prim.Native.Nat.{ℕ, ◌+◌, ◌≤◌, ◌<◌}
 use native.Mathlib.Omega.{arith}
@@ -25,7 +25,7 @@ not_same : (i j : Item) → (i.index ≡ j.index → ⊥) → same i j ≡ false
 not_same i j h = ne_eqb i.index j.index h
 
 pub same-is : (l : List Item) → Rising l → (i j : Item) → Mem i l → Mem j l → i.index ≡ j.index → i ≡ j
-same-is mathlib.Core.List.[] r i j x4 _ e = elim x4 [ ]
+same-is [] r i j m _ e = elim m [ ]
 same-is (x ∷ l) r i j (inl p) (inl q) e = p ∙ sym q
 same-is (x ∷ l) r i j (inl p) (inr n) e = let h : i.index ≡ x.index = ap (λ (z : Item). z.index) p in absurd (omega (arith, r.0 j n))
 same-is (x ∷ l) r i j (inr m) (inl q) e = let h : j.index ≡ x.index = ap (λ (z : Item). z.index) q in absurd (omega (arith, r.0 i m))
@@ -34,7 +34,7 @@ same-is (x ∷ l) r i j (inr m) (inr n) e = same-is l r.1 i j m n e
 -- one entry is picked out of a fold
 pub pick : {M : Type 0} {◌⊕◌ : M → M → M} {u : M} (L : Monoid ◌⊕◌ u) (g : Item → M) (l : List Item) → Rising l → (s : Item) → Mem s l → fold ◌⊕◌ u (λ x. cond (same s x) (g x) u) l ≡ g s
 unfolding fold
-pick {M = M} {◌⊕◌ = ◌⊕◌} {u = u} L g mathlib.Core.List.[] r s x'' = elim x'' [ ]
+pick L g [] r s m = elim m [ ]
 pick {◌⊕◌ = ◌⊕◌} {u = u} L g (x ∷ l) r s (inl e) =
     let h : s.index ≡ x.index = ap (λ (z : Item). z.index) e in
     ap₂ ◌⊕◌ (ap (λ (b : Bool). cond b (g x) u) (is_true (same s x) (is_same s x e)) ∙ ap g (sym e)) (fold-unit L (λ y. cond (same s y) (g y) u) l (λ y m. ap (λ (b : Bool). cond b (g y) u) (not_same s y (λ q. omega (arith, r.0 y m)))))

@@ -46,7 +46,7 @@ count-one p (suc n) j h = fold-append plus (λ i. bit (eqb j i && p i)) (up_to n
 
 -- two functions that agree along a list agree on its entries
 along : {A B : Type 0} (f g : A → B) (l : List A) → map f l ≡ map g l → (x : A) → Mem x l → f x ≡ g x
-along {A = A} {B = B} f g [] e x x4 = elim x4 [ ]
+along f g [] e x m = elim m [ ]
 along f g (y ∷ l) e x (inl q) = let h : f y ≡ g y = cc in ap f q ∙ h ∙ sym (ap g q)
 along f g (y ∷ l) e x (inr m) = let h : map f l ≡ map g l = cc in along f g l h x m
 
