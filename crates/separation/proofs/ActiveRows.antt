@@ -15,7 +15,7 @@ use Rattle.separation.specs.Walk.{same, remove}
 -- ---- counting
 pub mem_count : {A : Type 0} (p : A → Bool) (x : A) (l : List A) → Mem x l → p x ≡ true → 0 < count p l
 unfolding fold
-mem_count {A = A} p x [] x3 t = elim x3 [ ]
+mem_count {A = A} p x [] m t = elim m [ ]
 mem_count p x (y ∷ l) (inl e) t = omega (arith, ap bit (sym (ap p e) ∙ t))
 mem_count p x (y ∷ l) (inr m) t = omega (arith, mem_count p x l m t)
 

@@ -256,7 +256,7 @@ from_mem k (r ∷ l) e (inr (inr m)) = inr (from_mem (suc k) l e m)
 
 mem_from : (k : ℕ) (l : List Row) (r : Row) → Mem r l → StartsIn r (events_from k l)
 unfolding events_from
-mem_from k [] r x' = elim x' [ ]
+mem_from k [] r m = elim m [ ]
 mem_from k (x ∷ l) r (inl e) = (k, inr (inl (ap (λ (z : Row). starts k z) e)))
 mem_from k (x ∷ l) r (inr m) = let g = mem_from (suc k) l r m in (g.0, inr (inr g.1))
 

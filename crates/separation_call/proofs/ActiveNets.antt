@@ -82,7 +82,7 @@ module _ (net : ℕ) where
 
   without_one : (l : List ℕ) → Different l → Mem net l → (length l ≡ length (keep (other_than net) l) + 1) × (sum (λ m. m) l ≡ sum (λ m. m) (keep (other_than net) l) + net)
   unfolding chosen fold
-  without_one [] d x'' = elim x'' [ ]
+  without_one [] d m = elim m [ ]
   without_one (m ∷ l) d (inl e) =
       let f = without_none l (λ k. d.0 (subst (λ (z : ℕ). Mem z l) e k)) in
       rw (eq-eqb m net (sym e), f) (omega arith, omega (arith, e))
@@ -102,7 +102,7 @@ mem_length m (k ∷ l) h = omega arith
 
 mem_sum : (m : ℕ) (l : List ℕ) → Mem m l → m ≤ sum (λ z. z) l
 unfolding fold
-mem_sum m [] x' = elim x' [ ]
+mem_sum m [] h = elim h [ ]
 mem_sum m (k ∷ l) (inl e) = omega (arith, e)
 mem_sum m (k ∷ l) (inr h) = let r = mem_sum m l h in omega arith
 
