@@ -90,8 +90,8 @@ pub(crate) fn renew_marks(
     ids: &[u64],
     m: usize,
 ) -> usize
-    requires marks_len { (length marks.old ≡ 64) × Rising packed.now k × (0 < k → Rising ids.now m) }
-    requires used_bound { used ≤ 64 }
+    requires marks_and_order { (length marks.old ≡ 64) × Rising packed.now k × (0 < k → Rising ids.now m) }
+    requires used_at_most { used ≤ 64 }
     ensures { (result ≤ 64) × ((ex : List Exemption) (groups w : List ℕ) → Holds packed.now ex → length ex ≡ k → (0 < k → Grouped ids.now groups w m) → MarksOfWord (take used marks.old) groups w ex marked → MarksOf (take result marks.new) groups w ex net) }
 {
     if marked == net as u64 {

@@ -63,7 +63,7 @@ fn visit_leaf(
 // The halves of the n leaves from leaf i on, for a segment with the given box: the nearer half first, the left one on a tie.
 fn halve(words: &[u64], i: usize, n: usize, bounds: Aabb) -> Halves
     requires part { Part words.now i n }
-    requires lt_n { 1 < n }
+    requires two_or_more { 1 < n }
     requires nested { Nested (stored_tree n words.now i n) }
     ensures { Halved words.now i n bounds result }
 {
@@ -82,7 +82,7 @@ const EDGE_TEST_LEAVES: usize = 8;
 fn part_below(words: &[u64], i: usize, n: usize, lower: f64, bounds: Aabb, threshold: f64) -> bool
     requires part { Part words.now i n }
     requires near { Near lower bounds words.now i n }
-    requires fit_box { FitBox bounds × Nested (stored_tree n words.now i n) }
+    requires fit_and_nested { FitBox bounds × Nested (stored_tree n words.now i n) }
     ensures { result ≡ true → (k : ℕ) → n ≤ k → TreeBelow bounds threshold (stored_tree k words.now i n) }
 {
     if n < EDGE_TEST_LEAVES {

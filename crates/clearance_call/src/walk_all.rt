@@ -34,7 +34,7 @@ fn walk_segment(
     requires part { Part tree.now 0 m × (m ≤ 4096) }
     requires net_marks { NetMarks marks.now groups.now tree.now }
     requires remaining_bound { state.violations + state.remaining < 2 ^ 64 }
-    requires fit_box { FitBox (segment_box (as_taken (record { net = net; orientation = orientation; fixed = fixed; start = start; end = end }))) × Nested (stored_tree m tree.now 0 m) }
+    requires fit_and_nested { FitBox (segment_box (as_taken (record { net = net; orientation = orientation; fixed = fixed; start = start; end = end }))) × Nested (stored_tree m tree.now 0 m) }
     ensures { (ex : List Exemption) → MarksOf marks.now groups.now tree.now ex net → outcome_of result ≡ within state.remaining (walk ex threshold (as_taken (record { net = net; orientation = orientation; fixed = fixed; start = start; end = end })) (stored_tree m tree.now 0 m) (so_far state)) }
 {
     let bounds = Aabb::from_segment(orientation == 1, fixed, start, end);
@@ -68,7 +68,7 @@ pub(crate) fn walk_all(
 ) -> Walked
     requires part { Part tree.now 0 m × (m ≤ 4096) }
     requires segment_places { SegmentPlaces order.now (segment_columns net.now orientation.now fixed.now start.now end.now) }
-    requires holds_count { HoldsCount packed.now k × (0 < k → Grouped ids.now groups.now tree.now m) × (length tree.now ≤ 9 * length groups.now) }
+    requires held_and_grouped { HoldsCount packed.now k × (0 < k → Grouped ids.now groups.now tree.now m) × (length tree.now ≤ 9 * length groups.now) }
     requires nested { Nested (stored_tree m tree.now 0 m) }
     ensures { (ex : List Exemption) → Holds packed.now ex → length ex ≡ k → outcome_of result ≡ within allowance (all_walks ex (λ _. threshold) tree.now m order.now (segment_columns net.now orientation.now fixed.now start.now end.now)) }
 {

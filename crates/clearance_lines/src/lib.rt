@@ -1,5 +1,6 @@
 // Clearance of a list of lines, the segments of an entry by records (SCOPE 2.6, 15.9): its columns are filled, and the call by columns does the rest, its refusals included.
 #![tactic(auto)]
+
 ghost use Rattle.std.specs.Prelude.{◌≡◌, map, length, take};
 ghost use Rattle.drawing.specs.declared.refusal.Check.TheVariants.{Passed};
 ghost use Rattle.drawing.specs.Refusals.{first_of, scratch_after};

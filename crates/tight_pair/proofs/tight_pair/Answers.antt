@@ -21,12 +21,12 @@ returns c =
     let agree = pair-exemptions s n e passed in
     answered s n e passed
     (record {
-      fixed = c.shared_slice_known-3-1.given;
-      start = c.shared_slice_known-4-1.given;
-      end = c.shared_slice_known-5-1.given;
-      x = c.shared_slice_known-7-1.given;
-      y = c.shared_slice_known-8-1.given;
-      width = c.shared_slice_known-9-1.given;
-      height = c.shared_slice_known-10-1.given;
+      fixed = c.type_inv.fixed;
+      start = c.type_inv.start;
+      end = c.type_inv.end;
+      x = c.type_inv.x;
+      y = c.type_inv.y;
+      width = c.type_inv.width;
+      height = c.type_inv.height;
     })
     _ _ (c.gather.ensures agree.0 agree.1) _ c.look_at_segments-best.ensures _ c.pair_of.ensures

@@ -101,7 +101,7 @@ walk_all-requires c =
     let kept = c.prepare_nodes.auto.s in
     let prepared = c.prepare_nodes.ensures in
     let some : 1 ≤ length n.id = omega (arith, c.if-m-eq0.false) in
-    record { part = (tree-part s n (exemption_columns _ _) _ z _ _ refl ordered last kept some, z.few-nodes); segment_places = in_turns s n (exemption_columns _ _) _ z _ _ refl ordered last kept fit.segments-fit; holds_count = (held_of (exemption_columns _ _) _ _ (c.gather.ensures z.exemptions z.few-exemptions), leaves_grouped s n (exemption_columns _ _) _ z _ _ refl ordered last kept _ prepared.grouped, groups_long s n (exemption_columns _ _) _ z _ _ refl ordered last kept); nested = tree-nested s n (exemption_columns _ _) _ z _ _ refl ordered last kept fit.nodes-fit prepared.tree_stored some }
+    record { part = (tree-part s n (exemption_columns _ _) _ z _ _ refl ordered last kept some, z.few-nodes); segment_places = in_turns s n (exemption_columns _ _) _ z _ _ refl ordered last kept fit.segments-fit; held_and_grouped = (held_of (exemption_columns _ _) _ _ (c.gather.ensures z.exemptions z.few-exemptions), leaves_grouped s n (exemption_columns _ _) _ z _ _ refl ordered last kept _ prepared.grouped, groups_long s n (exemption_columns _ _) _ z _ _ refl ordered last kept); nested = tree-nested s n (exemption_columns _ _) _ z _ _ refl ordered last kept fit.nodes-fit prepared.tree_stored some }
 
 pub shape_of-scratch : goal.shape_of-scratch
 shape_of-scratch c = let z = sizes (segment_columns _ _ _ _ _) (node_columns _ _ _ _ _) (exemption_columns _ _) _ _ c.requires in all-long (segment_columns _ _ _ _ _) (node_columns _ _ _ _ _) (exemption_columns _ _) _ z _ _ refl c.order_segments.ensures c.prepare_nodes.new.s c.prepare_nodes.auto.s

@@ -17,7 +17,7 @@ pub returns-then-n-eq1 : goal.returns-then-n-eq1
 returns-then-n-eq1 c ex net l = steps-visited _ _ _ _ _ _ _ _ _ c.step_of.ensures (walks_leaf _ _ c.requires.walkable (sym (c.clearance_subtree_can_contribute.ensures (near_good _ _ _ _ _ c.requires.walkable.near).num.1) ∙ c.if-not-clearance_subtree_can_contribute.false) c.if-n-eq1.true net _ (by_mark _ _ _ ex net l _ (omega (arith, c.requires.walkable.part.inside, c.if-n-eq1.true)) _ _ _ _ _ c.visit_leaf.ensures))
 
 pub part_below-requires : goal.part_below-requires
-part_below-requires c = let ready = c.requires.walkable in record { part = ready.part; near = ready.near; fit_box = (ready.fit, ready.nested) }
+part_below-requires c = let ready = c.requires.walkable in record { part = ready.part; near = ready.near; fit_and_nested = (ready.fit, ready.nested) }
 
 pub visit_leaves-requires : goal.visit_leaves-requires
 visit_leaves-requires c = let a = c.requires in record { part = a.walkable.part; net_marks = a.net_marks; remaining_bound = a.walkable.room; nested = a.walkable.nested }
@@ -26,7 +26,7 @@ pub returns-then-part_below : goal.returns-then-part_below
 returns-then-part_below c ex net l = steps-visited _ _ _ _ _ _ _ _ _ c.step_of-then-part_below.ensures (walks_unpruned ex _ _ _ _ _ net _ _ (search rules) (c.part_below.ensures c.if-part_below.true) (c.visit_leaves.ensures ex net l))
 
 pub halve-requires : goal.halve-requires
-halve-requires c = let ready = c.requires.walkable in record { part = ready.part; lt_n = omega (arith, ready.part.some, c.if-n-eq1.false); nested = ready.nested }
+halve-requires c = let ready = c.requires.walkable in record { part = ready.part; two_or_more = omega (arith, ready.part.some, c.if-n-eq1.false); nested = ready.nested }
 
 pub returns : goal.returns
 returns c ex net l = (c.halve.ensures, sym (c.clearance_subtree_can_contribute.ensures (near_good _ _ _ _ _ c.requires.walkable.near).num.1) ∙ c.if-not-clearance_subtree_can_contribute.false, omega (arith, c.requires.walkable.part.some, c.if-n-eq1.false))

@@ -13,4 +13,4 @@ returns-then-not-lower-threshold c e = clash false e refl
 
 pub returns : goal.returns
 returns c e =
-    tree-below _ _ _ _ _ _ _ (search rules) c.requires.near c.requires.fit_box.0 c.requires.fit_box.1 c.bounds_of.ensures c.if-not-lower-threshold.false (sym c.edges_below.ensures ∙ e)
+    tree-below _ _ _ _ _ _ _ (search rules) c.requires.near c.requires.fit_and_nested.0 c.requires.fit_and_nested.1 c.bounds_of.ensures c.if-not-lower-threshold.false (sym c.edges_below.ensures ∙ e)

@@ -22,9 +22,9 @@ bounds-net-i c = turn_small _ (segment_columns _ _ _ _ _) c.loop-q.invariant.tur
 
 pub renew_marks-used-requires : goal.renew_marks-used-requires
 renew_marks-used-requires c =
-    let held = c.requires.holds_count in
+    let held = c.requires.held_and_grouped in
     let u = c.loop-q.invariant in
-    record { marks_len = (u.long, rising-of _ _ held.0, λ h. (held.1 h).rising); used_bound = u.low }
+    record { marks_and_order = (u.long, rising-of _ _ held.0, λ h. (held.1 h).rising); used_at_most = u.low }
 
 pub overflow_cast-marked : goal.overflow_cast-marked
 overflow_cast-marked c = record { fits = omega (arith, (c.type_inv.order (get_or c.args.order.now c.loop-q.q 0)).fits) }
@@ -56,24 +56,24 @@ slice_bounds-walk_segment-end c = let renewed = c.renew_marks-used in omega (ari
 pub walk_segment-walked-requires : goal.walk_segment-walked-requires
 walk_segment-walked-requires c =
     let pre = c.requires in
-    let held = pre.holds_count.0 in
+    let held = pre.held_and_grouped.0 in
     let u = c.loop-q.invariant in
     let h = turn_small _ (segment_columns _ _ _ _ _) u.turns _ c.loop-q-test.true in
     let renewed = c.renew_marks-used in
-    let marked = renewed.ensures.1 held.ex _ _ held.holds held.count pre.holds_count.1 (u.stand held.ex held.holds held.count) in
-    record { part = pre.part; net_marks = record { ex = held.ex; net = _; marked = marks_lent renewed.new.marks renewed.result _ _ _ _ marked; room = pre.holds_count.2 }; remaining_bound = u.room; fit_box = (u.turns.fit _ h, pre.nested) }
+    let marked = renewed.ensures.1 held.ex _ _ held.holds held.count pre.held_and_grouped.1 (u.stand held.ex held.holds held.count) in
+    record { part = pre.part; net_marks = record { ex = held.ex; net = _; marked = marks_lent renewed.new.marks renewed.result _ _ _ _ marked; room = pre.held_and_grouped.2 }; remaining_bound = u.room; fit_and_nested = (u.turns.fit _ h, pre.nested) }
 
 pub returns-in_default : goal.returns-in_default
 returns-in_default c =
     let renewed = c.renew_marks-used in
-    turned_stopped _ _ _ _ _ _ _ (segment_columns _ _ _ _ _) _ _ _ _ _ _ c.loop-q.invariant c.loop-q-test.true _ (λ ex a b. c.walk_segment-walked.ensures ex (marks_lent renewed.new.marks renewed.result _ _ _ _ (renewed.ensures.1 ex _ _ a b c.requires.holds_count.1 (c.loop-q.invariant.stand ex a b)))) c.in_default.is
+    turned_stopped _ _ _ _ _ _ _ (segment_columns _ _ _ _ _) _ _ _ _ _ _ c.loop-q.invariant c.loop-q-test.true _ (λ ex a b. c.walk_segment-walked.ensures ex (marks_lent renewed.new.marks renewed.result _ _ _ _ (renewed.ensures.1 ex _ _ a b c.requires.held_and_grouped.1 (c.loop-q.invariant.stand ex a b)))) c.in_default.is
 
 pub loop-q-preserved : goal.loop-q-preserved
 loop-q-preserved c =
     let pre = c.requires in
     let u = c.loop-q.invariant in
     let renewed = c.renew_marks-used in
-    turned_next _ _ _ _ _ _ _ (segment_columns _ _ _ _ _) _ _ _ _ _ _ u c.loop-q-test.true _ (λ ex a b. c.walk_segment-walked.ensures ex (marks_lent renewed.new.marks renewed.result _ _ _ _ (renewed.ensures.1 ex _ _ a b c.requires.holds_count.1 (c.loop-q.invariant.stand ex a b)))) pre.holds_count.0 _ _ _ (renewed.auto.marks ∙ u.long) renewed.ensures.0 (λ ex a b. renewed.ensures.1 ex _ _ a b pre.holds_count.1 (u.stand ex a b)) _ c.in-Went.is
+    turned_next _ _ _ _ _ _ _ (segment_columns _ _ _ _ _) _ _ _ _ _ _ u c.loop-q-test.true _ (λ ex a b. c.walk_segment-walked.ensures ex (marks_lent renewed.new.marks renewed.result _ _ _ _ (renewed.ensures.1 ex _ _ a b c.requires.held_and_grouped.1 (c.loop-q.invariant.stand ex a b)))) pre.held_and_grouped.0 _ _ _ (renewed.auto.marks ∙ u.long) renewed.ensures.0 (λ ex a b. renewed.ensures.1 ex _ _ a b pre.held_and_grouped.1 (u.stand ex a b)) _ c.in-Went.is
 
 pub returns : goal.returns
 returns c = turned_all _ _ _ _ _ _ _ (segment_columns _ _ _ _ _) _ _ _ _ _ _ c.loop-q.invariant c.loop-q-test.false

@@ -10,7 +10,7 @@ unfolding segment_box
 visit_segment_candidates-requires c =
     let a = c.args in
     let s : Segment = as_taken (record { net = a.net; orientation = a.orientation; fixed = a.fixed; start = a.start; end = a.end }) in
-    record { walkable = (walkable_whole s _ _ _ _ _ _ c.requires.part.0 c.from_segment-bounds.ensures c.bounds_of.ensures c.distance.ensures c.requires.remaining_bound c.requires.fit_box.0 c.requires.fit_box.1, c.requires.part.1); net_marks = c.requires.net_marks }
+    record { walkable = (walkable_whole s _ _ _ _ _ _ c.requires.part.0 c.from_segment-bounds.ensures c.bounds_of.ensures c.distance.ensures c.requires.remaining_bound c.requires.fit_and_nested.0 c.requires.fit_and_nested.1, c.requires.part.1); net_marks = c.requires.net_marks }
 
 pub returns : goal.returns
 unfolding segment_box
