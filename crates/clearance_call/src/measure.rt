@@ -87,14 +87,14 @@ pub fn measure_edge_node_clearance_bounded(
     allowance: usize,
     scratch: &mut [u64],
 ) -> ClearanceAnswer
-    ensures { let lentSegments = segment_columns net.now orientation.now fixed.now start.now end.now in
-        let lentNodes = node_columns id.now x.now y.now width.now height.now in
-        let lentExemptions = exemption_columns exempt_net.now exempt_node.now in
+    ensures { let lent_segments = segment_columns net.now orientation.now fixed.now start.now end.now in
+        let lent_nodes = node_columns id.now x.now y.now width.now height.now in
+        let lent_exemptions = exemption_columns exempt_net.now exempt_node.now in
         let words = length scratch.old in
-        let refusal = first_of (clearance_conditions lentSegments lentNodes lentExemptions threshold words) in
-        (result ≡ clearance_answer lentSegments lentNodes lentExemptions threshold allowance words)
+        let refusal = first_of (clearance_conditions lent_segments lent_nodes lent_exemptions threshold words) in
+        (result ≡ clearance_answer lent_segments lent_nodes lent_exemptions threshold allowance words)
         × (scratch.new ≡ scratch_after refusal scratch.old)
-        × (refusal ≡ Passed → SegmentsHeld lentSegments × NodesHeld lentNodes × Binary64 threshold) }
+        × (refusal ≡ Passed → SegmentsHeld lent_segments × NodesHeld lent_nodes × Binary64 threshold) }
 {
     let words = scratch.len();
     let check = check_clearance(

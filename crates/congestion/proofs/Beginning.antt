@@ -13,7 +13,7 @@ use Rattle.laws.specs.Lists.{Mem, fold, Pairwise}
 use Rattle.laws.proofs.Perms.{perm_sym, perm_mem}
 use Rattle.laws.proofs.Folds.{Monoid, fold-perm}
 use Rattle.congestion.specs.Wires.{Wire}
-use Rattle.congestion.specs.Walk.{Item, WireEvent, numbered, at, wire_events, is_in_order, first_at, begin}
+use Rattle.congestion.specs.Walk.{Item, WireEvent, numbered, at, wire_events, in_order, first_at, begin}
 use Rattle.congestion.proofs.Sets.{Rising, neighbors_in, congested-same, pairs-same, none-congested, none_paired}
 use Rattle.congestion.proofs.Tracking.{facing, row, row_in, Tracks}
 use Rattle.congestion.proofs.Moments.{Fit, Pending, event, start_key, end_key, key, active_at, at-order, head_first}
@@ -62,7 +62,7 @@ has_end (x ∷ l) i (inl p) = inl (ap (event true) p)
 has_end (x ∷ l) i (inr m) = inr (inr (has_end l i m))
 
 -- a fold over the events in order is one over the items
-pub fold-events : {M : Type 0} {◌⊕◌ : M → M → M} {u : M} (L : Monoid ◌⊕◌ u) (f : WireEvent → M) (l : List Item) → fold ◌⊕◌ u f (is_in_order (wire_events l)) ≡ fold ◌⊕◌ u (λ i. ◌⊕◌ (f (event true i)) (f (event false i))) l
+pub fold-events : {M : Type 0} {◌⊕◌ : M → M → M} {u : M} (L : Monoid ◌⊕◌ u) (f : WireEvent → M) (l : List Item) → fold ◌⊕◌ u f (in_order (wire_events l)) ≡ fold ◌⊕◌ u (λ i. ◌⊕◌ (f (event true i)) (f (event false i))) l
 unfolding fold
 fold-events {◌⊕◌ = ◌⊕◌} {u = u} L f l = fold-perm L f (in_order-perm (wire_events l)) ∙ go l
   where
@@ -75,14 +75,14 @@ module _ (c : ℕ) (l : List Item) (fit : Fit l) where
   first-least [] u h e m = elim m [ ]
   first-least (x ∷ q) u h e m = at-order x e (fit.small e.item (h e m)) (head_first x e q u m)
 
-  listed : (e : WireEvent) → Mem e (wire_events l) → Mem e (is_in_order (wire_events l))
+  listed : (e : WireEvent) → Mem e (wire_events l) → Mem e (in_order (wire_events l))
   listed e m = perm_mem e (perm_sym (in_order-perm (wire_events l))) m
 
-  pub pending : Pending l 0 (begin l).previous (is_in_order (wire_events l))
+  pub pending : Pending l 0 (begin l).previous (in_order (wire_events l))
   pending = record {
     rising = rising-events l fit;
     from = λ e m. zero-le;
-    past = first-least (is_in_order (wire_events l)) (rising-events l fit) (in_list l fit);
+    past = first-least (in_order (wire_events l)) (rising-events l fit) (in_list l fit);
     inside = in_list l fit;
     starts = λ i m. inr (listed (event false i) (has_start l i m));
     stops = λ i m. inr (listed (event true i) (has_end l i m));
@@ -108,7 +108,7 @@ module _ (c : ℕ) (l : List Item) (fit : Fit l) where
   pub from_first : (i : Item) → Mem i l → (begin l).previous ≤ i.wire.start
   from_first i m = pending.past (event false i) (listed (event false i) (has_start l i m))
 
-  pub at_bound : (hi : ℕ) → ((i : Item) → Mem i l → i.wire.end ≤ hi) → (e : WireEvent) → Mem e (is_in_order (wire_events l)) → at e ≤ hi
+  pub at_bound : (hi : ℕ) → ((i : Item) → Mem i l → i.wire.end ≤ hi) → (e : WireEvent) → Mem e (in_order (wire_events l)) → at e ≤ hi
   at_bound hi h e m = go e.ends e.item (in_list l fit e m)
     where
       go : (b : Bool) (i : Item) → Mem i l → at (event b i) ≤ hi

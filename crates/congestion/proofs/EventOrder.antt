@@ -16,7 +16,7 @@ use Rattle.laws.proofs.Tests.{le_or_lt}
 use Rattle.laws.proofs.Perms.{perm_sym, perm_mem, perm_pairwise}
 use Rattle.laws.proofs.RowLaws.{row_less, row_more, row_next, by_rows}
 use Rattle.laws.proofs.Sorting.{sort_perm, sort_sorted}
-use Rattle.congestion.specs.Walk.{Item, WireEvent, at, event_row, wire_events, is_in_order}
+use Rattle.congestion.specs.Walk.{Item, WireEvent, at, event_row, wire_events, in_order}
 use Rattle.congestion.proofs.Moments.{Fit, event, key, starts-differ, ends-differ, kinds_differ}
 
 -- ---- "(coordinate, 0 for an end and 1 for a start, index)" as one number
@@ -82,12 +82,12 @@ distinct (i ∷ l) f = (ends-first, (later false, distinct l (record { rise = f.
     ends-first y (inr m) e = later true y m e
 
 -- ---- so they come in rising order
-pub in_order-perm : (l : List WireEvent) → Perm (is_in_order l) l
-unfolding is_in_order
+pub in_order-perm : (l : List WireEvent) → Perm (in_order l) l
+unfolding in_order
 in_order-perm l = sort_perm (λ a b. row_le (event_row a) (event_row b)) l
 
-pub in_order-sorted : (l : List WireEvent) → Sorted (λ a b. row_le (event_row a) (event_row b)) (is_in_order l)
-unfolding is_in_order
+pub in_order-sorted : (l : List WireEvent) → Sorted (λ a b. row_le (event_row a) (event_row b)) (in_order l)
+unfolding in_order
 in_order-sorted l = sort_sorted (λ a b. row_le (event_row a) (event_row b)) (by_rows event_row) l
 
 rising-of : (q : List WireEvent) → ((e : WireEvent) → Mem e q → e.item.index < 4096) → Sorted (λ a b. row_le (event_row a) (event_row b)) q → Pairwise (λ x y. key x ≡ key y → ⊥) q → Pairwise (λ x y. key x < key y) q
@@ -101,8 +101,8 @@ rising-of (x ∷ q) s o d = (
     strict a b h k = omega arith
 
 module _ (l : List Item) (fit : Fit l) where
-  pub in_list : (e : WireEvent) → Mem e (is_in_order (wire_events l)) → Mem e.item l
+  pub in_list : (e : WireEvent) → Mem e (in_order (wire_events l)) → Mem e.item l
   in_list e m = events-inside l e (perm_mem e (in_order-perm (wire_events l)) m)
 
-  pub rising-events : Pairwise (λ x y. key x < key y) (is_in_order (wire_events l))
-  rising-events = rising-of (is_in_order (wire_events l)) (λ e m. fit.small e.item (in_list e m)) (in_order-sorted (wire_events l)) (perm_pairwise (λ x y h e. h (sym e)) (perm_sym (in_order-perm (wire_events l))) (distinct l fit))
+  pub rising-events : Pairwise (λ x y. key x < key y) (in_order (wire_events l))
+  rising-events = rising-of (in_order (wire_events l)) (λ e m. fit.small e.item (in_list e m)) (in_order-sorted (wire_events l)) (perm_pairwise (λ x y h e. h (sym e)) (perm_sym (in_order-perm (wire_events l))) (distinct l fit))

@@ -18,7 +18,7 @@ use Rattle.laws.proofs.Folds.{Monoid, plus, greatest, idr, exchange, fold_same, 
 use Rattle.congestion.specs.Wires.{Wire}
 use Rattle.congestion.specs.Cells.{cells_from, cells, covers}
 use Rattle.congestion.specs.Figures.{apart, near, overlaps, overlap, close, other, close_other, stretches, congested, close_other_pairs, pair_overlap, neighbors_on, peak}
-use Rattle.congestion.specs.Walk.{Item, numbered, wire_events, is_in_order, in_range, gap_unless_zero, gap, begin, sweep}
+use Rattle.congestion.specs.Walk.{Item, numbered, wire_events, in_order, in_range, gap_unless_zero, gap, begin, sweep}
 use Rattle.congestion.proofs.UnitVisits.{close_pairs}
 use Rattle.congestion.proofs.FoldLaws.{fewest, lesser-same, fold-chosen, sum_const, some-count}
 use Rattle.congestion.proofs.CellLaws.{covers-from, covers-to, is_covered, length-cells, cells-unit, cells-within}
@@ -127,7 +127,7 @@ module _ (c : ℕ) (L : List Wire) (sound : Sound L) (alike : (s t : Wire) → M
   pub congested-is : (sweep c L).value.congested_length ≡ congested c L
   unfolding sweep congested
   congested-is =
-      run_sum c l fit (congested_in (facing c) l) (congested-same (facing c) l) (none-congested (facing c) l) (λ st. st.congested_length) (λ st. st.congested_active) (congested-stepped c) (λ t st tr. tr.active-is) hi 0 (is_in_order (wire_events l)) (begin l) (pending c l fit) (tracks c l fit) (at_bound c l fit hi ended)
+      run_sum c l fit (congested_in (facing c) l) (congested-same (facing c) l) (none-congested (facing c) l) (λ st. st.congested_length) (λ st. st.congested_active) (congested-stepped c) (λ t st tr. tr.active-is) hi 0 (in_order (wire_events l)) (begin l) (pending c l fit) (tracks c l fit) (at_bound c l fit hi ended)
       ∙ plus.idl _
       ∙ sym (fold-fold plus (λ i k. bit (on k i && not (eqb (neighbors_in (facing c) l (on k) i) 0))) l (cells_from lo (hi - lo)))
       ∙ fold_same plus (λ i. fold ◌+◌ 0 (λ k. bit (on k i && not (eqb (neighbors_in (facing c) l (on k) i) 0))) (cells_from lo (hi - lo))) (λ i. stretches c L i.wire) l
@@ -145,7 +145,7 @@ module _ (c : ℕ) (L : List Wire) (sound : Sound L) (alike : (s t : Wire) → M
   pub peak-is : (sweep c L).value.peak_close_neighbors ≡ peak c L
   unfolding sweep peak
   peak-is =
-      run_peak c l fit hi ended 0 (is_in_order (wire_events l)) (begin l) (pending c l fit) (tracks c l fit)
+      run_peak c l fit hi ended 0 (in_order (wire_events l)) (begin l) (pending c l fit) (tracks c l fit)
       ∙ greatest.idl _
       ∙ tops_are (neighbors_in (facing c) l) (neighbors_on c L) neighbors-on-is
 
@@ -193,7 +193,7 @@ module _ (c : ℕ) (L : List Wire) (sound : Sound L) (alike : (s t : Wire) → M
   pub overlap-is : (sweep c L).value.pair_overlap_length ≡ pair_overlap c L
   unfolding sweep pair_overlap close_other_pairs
   overlap-is =
-      run_sum c l fit (pairs_in (facing c) l) (pairs-same (facing c) l) (none_paired (facing c) l) (λ st. st.pair_overlap_length) (λ st. st.close_pairs) (overlap-stepped c) (λ t st tr. tr.pairs_are) hi 0 (is_in_order (wire_events l)) (begin l) (pending c l fit) (tracks c l fit) (at_bound c l fit hi ended)
+      run_sum c l fit (pairs_in (facing c) l) (pairs-same (facing c) l) (none_paired (facing c) l) (λ st. st.pair_overlap_length) (λ st. st.close_pairs) (overlap-stepped c) (λ t st tr. tr.pairs_are) hi 0 (in_order (wire_events l)) (begin l) (pending c l fit) (tracks c l fit) (at_bound c l fit hi ended)
       ∙ plus.idl _
       ∙ sym (fold-fold plus (λ p k. bit (on k p.0 && (on k p.1 && facing c p.0 p.1))) (pairs l) (cells_from lo (hi - lo)))
       ∙ fold_same plus (λ p. sum (λ k. bit (on k p.0 && (on k p.1 && facing c p.0 p.1))) (cells_from lo (hi - lo))) (λ p. cond (close_other c p.0.wire p.1.wire) (overlap p.0.wire p.1.wire) 0) (pairs l)
@@ -213,7 +213,7 @@ module _ (c : ℕ) (L : List Wire) (sound : Sound L) (alike : (s t : Wire) → M
   at-events : {M : Type 0} {◌⊕◌ : M → M → M} {u : M} (W : Monoid ◌⊕◌ u) (f : ℕ → Item → Item → M) (own : M) (g : Item × Item → M)
       → ((i : Item) → Mem i l → ◌⊕◌ (f (end_key i) i i) (f (start_key i) i i) ≡ own)
       → ((i j : Item) → Mem i l → Mem j l → i.index < j.index → ◌⊕◌ (◌⊕◌ (f (end_key i) i j) (f (start_key i) i j)) (◌⊕◌ (f (end_key j) j i) (f (start_key j) j i)) ≡ g (i, j))
-      → fold ◌⊕◌ u (λ e. fold ◌⊕◌ u (f (cond e.ends (end_key e.item) (start_key e.item)) e.item) l) (is_in_order (wire_events l)) ≡ ◌⊕◌ (fold ◌⊕◌ u (λ i. own) l) (fold ◌⊕◌ u g (pairs l))
+      → fold ◌⊕◌ u (λ e. fold ◌⊕◌ u (f (cond e.ends (end_key e.item) (start_key e.item)) e.item) l) (in_order (wire_events l)) ≡ ◌⊕◌ (fold ◌⊕◌ u (λ i. own) l) (fold ◌⊕◌ u g (pairs l))
   at-events {◌⊕◌ = ◌⊕◌} {u = u} W f own g h k =
       fold-events W (λ e. fold ◌⊕◌ u (f (cond e.ends (end_key e.item) (start_key e.item)) e.item) l) l
       ∙ fold_same W (λ i. ◌⊕◌ (fold ◌⊕◌ u (f (end_key i) i) l) (fold ◌⊕◌ u (f (start_key i) i) l)) (λ i. fold ◌⊕◌ u (λ j. ◌⊕◌ (f (end_key i) i j) (f (start_key i) i j)) l) l (λ i m. sym (fold_both W (f (end_key i) i) (f (start_key i) i) l))
@@ -229,7 +229,7 @@ module _ (c : ℕ) (L : List Wire) (sound : Sound L) (alike : (s t : Wire) → M
   pub cost-is : 0 < c → (sweep c L).cost ≡ length L + 2 * close_pairs c L
   unfolding sweep close_pairs
   cost-is pos =
-      run_cost c l fit 0 (is_in_order (wire_events l)) (begin l) (pending c l fit) (tracks c l fit)
+      run_cost c l fit 0 (in_order (wire_events l)) (begin l) (pending c l fit) (tracks c l fit)
       ∙ at-events plus (λ t i j. bit (active_at t j && in_range c i.wire j.wire)) 1 (λ p. bit (close c p.0.wire p.1.wire) + bit (close c p.0.wire p.1.wire)) own pair
       ∙ ap₂ ◌+◌ (sym (fold-numbered plus (λ s. 1) L) ∙ sum_const 1 L ∙ mul-one (length L))
       (fold_both plus (λ p. bit (close c p.0.wire p.1.wire)) (λ p. bit (close c p.0.wire p.1.wire)) (pairs l)
@@ -259,7 +259,7 @@ module _ (c : ℕ) (L : List Wire) (sound : Sound L) (alike : (s t : Wire) → M
   pub least-is : (sweep c L).value.minimum_positive ≡ least_units c L
   unfolding sweep lesser
   least-is =
-      run_least c l fit 0 (is_in_order (wire_events l)) (begin l) (pending c l fit) (tracks c l fit)
+      run_least c l fit 0 (in_order (wire_events l)) (begin l) (pending c l fit) (tracks c l fit)
       ∙ at-events fewest (λ t i j. cond (active_at t j && facing c i j) (gap i.wire j.wire) none) none (λ p. cond (close_other c p.0.wire p.1.wire) (gap p.0.wire p.1.wire) none) own pair
       ∙ ap (λ (z : Option ℕ). lesser ltb z (fold (lesser ltb) none (λ p. cond (close_other c p.0.wire p.1.wire) (gap p.0.wire p.1.wire) none) (pairs l))) (fold-unit fewest (λ (i : Item). none) l (λ i m. refl))
       ∙ sym (pairs-numbered fewest (λ p. cond (close_other c p.0 p.1) (gap p.0 p.1) none) L)

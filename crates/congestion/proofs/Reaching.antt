@@ -7,7 +7,7 @@ use native.Mathlib.Omega.{arith}
 use lib.Dec.{T, eqb}
 use Rattle.laws.specs.Lists.{Mem, bit, count}
 use Rattle.laws.proofs.Tests.{is_true}
-use Rattle.congestion.specs.Walk.{Item, WireEvent, State, wire_events, is_in_order, neighbor, neighbors, was_congested, step, begin}
+use Rattle.congestion.specs.Walk.{Item, WireEvent, State, wire_events, in_order, neighbor, neighbors, was_congested, step, begin}
 use Rattle.congestion.proofs.Sets.{neighbors_in}
 use Rattle.congestion.proofs.Tracking.{facing, Tracks, tracks_same, grows, active-before, pairs-before}
 use Rattle.congestion.proofs.Moments.{Fit, Pending, event, end_key, key, active_at, unchanged, next, item∈, off_after, end_drops, step_tracks}
@@ -20,7 +20,7 @@ pub record Reached (c : ℕ) (l : List Item) (q : List WireEvent) (st : State) :
   pub state : Tracks c l (active_at threshold) st
 
 module _ (c : ℕ) (l : List Item) (fit : Fit l) where
-  pub at_first : Reached c l (is_in_order (wire_events l)) (begin l)
+  pub at_first : Reached c l (in_order (wire_events l)) (begin l)
   at_first = record { threshold = 0; left = pending c l fit; state = tracks c l fit }
 
   pub one_more : (e : WireEvent) (q : List WireEvent) (st : State) → Reached c l (e ∷ q) st → Reached c l q (step c st e).value

@@ -22,7 +22,7 @@ use Rattle.floats.proofs.Units.{accumulate}
 use Rattle.congestion.specs.Wires.{Wire}
 use Rattle.drawing.specs.Gaps.{least_gap, lesser_gap}
 use Rattle.congestion.specs.Figures.{apart, congested, pair_overlap}
-use Rattle.congestion.specs.Walk.{Item, WireState, WireEvent, State, numbered, at, wire_events, is_in_order, neighbor, gap, least_here, step, first_at, begin, sweep, gap_of_units}
+use Rattle.congestion.specs.Walk.{Item, WireState, WireEvent, State, numbered, at, wire_events, in_order, neighbor, gap, least_here, step, first_at, begin, sweep, gap_of_units}
 use Rattle.congestion.specs.Inner.Keys.{Representable}
 use Rattle.congestion.specs.RoundedSweep.{Coordinates, coordinate, Amounts, rounded_step, rounded_run, first_amounts}
 use Rattle.congestion.proofs.Sets.{neighbors_in}
@@ -149,8 +149,8 @@ module _ (c : ℕ) (L : List Wire) (sound : Sound L) (small : Small L) (alike : 
   fit : Fit (numbered 0 L)
   fit = fit-numbered L sound
 
-  first_matches : Matches (begin l) (first_amounts x (is_in_order (wire_events l)))
-  first_matches = go (is_in_order (wire_events l)) (in_list l fit)
+  first_matches : Matches (begin l) (first_amounts x (in_order (wire_events l)))
+  first_matches = go (in_order (wire_events l)) (in_list l fit)
     where
       go : (q : List WireEvent) → ((e : WireEvent) → Mem e q → Mem e.item l) → Matches (record { wires = (begin l).wires; congested_active = 0; close_pairs = 0; previous = first_at q; congested_length = 0; pair_overlap_length = 0; peak_close_neighbors = 0; minimum_positive = none }) (first_amounts x q)
       go [] h = record { congested = sym zero_units; overlap = sym zero_units; last = zero_stands; least = refl; held = tt }
@@ -160,7 +160,7 @@ module _ (c : ℕ) (L : List Wire) (sound : Sound L) (small : Small L) (alike : 
   few_items = let e = length-map l (λ (i : Item). i.wire) in let k = ap length (wires-of 0 L) in let h = sound.few in omega arith
 
   abbrev pub amounts : Amounts
-  amounts = rounded_run c x (begin l) (first_amounts x (is_in_order (wire_events l))) (is_in_order (wire_events l))
+  amounts = rounded_run c x (begin l) (first_amounts x (in_order (wire_events l))) (in_order (wire_events l))
 
   pub amounts_exact : (amounts.congested_length ≡ of_units (congested c L)) × (amounts.pair_overlap_length ≡ of_units (pair_overlap c L)) × (amounts.minimum_positive ≡ gap_of_units (least_units c L))
   unfolding sweep
@@ -168,5 +168,5 @@ module _ (c : ℕ) (L : List Wire) (sound : Sound L) (small : Small L) (alike : 
       let a = congested-is c L sound alike in
       let b = overlap-is c L sound alike in
       let g = least-is c L sound alike in
-      let m = run_matches c l fit few_items x stands 0 (is_in_order (wire_events l)) (begin l) (pending c l fit) (tracks c l fit) (first_amounts x (is_in_order (wire_events l))) first_matches (lt_of_le_of_lt (le_of_eq a) (congested-small c L sound small)) (lt_of_le_of_lt (le_of_eq b) (overlap-small c L sound small)) in
+      let m = run_matches c l fit few_items x stands 0 (in_order (wire_events l)) (begin l) (pending c l fit) (tracks c l fit) (first_amounts x (in_order (wire_events l))) first_matches (lt_of_le_of_lt (le_of_eq a) (congested-small c L sound small)) (lt_of_le_of_lt (le_of_eq b) (overlap-small c L sound small)) in
       (m.congested ∙ ap of_units a, m.overlap ∙ ap of_units b, m.least ∙ ap gap_of_units g)

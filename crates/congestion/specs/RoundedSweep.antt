@@ -10,7 +10,7 @@ use Rattle.drawing.specs.Gaps.{least_gap, lesser_gap}
 use Rattle.drawing.specs.declared.gap.Gap.{Gap}
 use Rattle.drawing.specs.declared.gap.Gap.TheVariants.{Absent}
 use Rattle.congestion.specs.Wires.{wire_of}
-use Rattle.congestion.specs.Walk.{Item, numbered, WireEvent, wire_events, is_in_order, State, neighbor, step, begin}
+use Rattle.congestion.specs.Walk.{Item, numbered, WireEvent, wire_events, in_order, State, neighbor, step, begin}
 
 -- the floats of each item's coordinates
 pub record Coordinates : Type 0 where
@@ -59,7 +59,7 @@ coordinates_of l = record {
 unfoldable pub rounded_oriented : ℕ → List Segment → Amounts
 rounded_oriented c l =
     let i = numbered 0 (map wire_of l) in
-    let q = is_in_order (wire_events i) in
+    let q = in_order (wire_events i) in
     rounded_run c (coordinates_of l) (begin i) (first_amounts (coordinates_of l) q) q
 
 abbrev pub only_of : Bool → List Segment → List Segment

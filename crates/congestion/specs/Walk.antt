@@ -44,8 +44,8 @@ wire_events [] = []
 wire_events (i ∷ l) = record { ends = true; item = i } ∷ record { ends = false; item = i } ∷ wire_events l
 
 -- `events.sort_unstable()`
-unfoldable pub is_in_order : List WireEvent → List WireEvent
-is_in_order l = sort_by (λ a b. row_le (event_row a) (event_row b)) l
+unfoldable pub in_order : List WireEvent → List WireEvent
+in_order l = sort_by (λ a b. row_le (event_row a) (event_row b)) l
 
 -- what the sweep stores for one wire: whether it is active, and its `close_neighbor_counts`
 pub record WireState : Type 0 where
@@ -152,11 +152,11 @@ first_at (e ∷ l) = at e
 
 -- before the first event: nothing is active, and `previous` is the first coordinate
 abbrev pub begin : List Item → State
-begin l = record { wires = map (λ i. record { item = i; active = false; neighbors = 0 }) l; congested_active = 0; close_pairs = 0; previous = first_at (is_in_order (wire_events l)); congested_length = 0; pair_overlap_length = 0; peak_close_neighbors = 0; minimum_positive = none }
+begin l = record { wires = map (λ i. record { item = i; active = false; neighbors = 0 }) l; congested_active = 0; close_pairs = 0; previous = first_at (in_order (wire_events l)); congested_length = 0; pair_overlap_length = 0; peak_close_neighbors = 0; minimum_positive = none }
 
 -- `congested_length_for_orientation`
 unfoldable pub sweep : ℕ → List Wire → Charged State
-sweep c l = let i = numbered 0 l in runs (step c) (begin i) (is_in_order (wire_events i))
+sweep c l = let i = numbered 0 l in runs (step c) (begin i) (in_order (wire_events i))
 
 -- SCOPE 5.12: the same `if oriented.len() >= 2`: else nothing is done
 unfoldable pub along : ℕ → List Wire → Charged State

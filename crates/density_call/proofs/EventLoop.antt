@@ -30,7 +30,7 @@ use Rattle.density_call.specs.declared.sweep.Handled.{Handled}
 use Rattle.density_call.specs.declared.sweep.Handled.TheVariants.{Went, Spent}
 use Rattle.congestion.specs.declared.found.Swept.TheVariants.{Went as Done, Spent as Over}
 use Rattle.congestion.specs.Wires.{Wire}
-use Rattle.congestion.specs.Walk.{Item, WireEvent, State, numbered, at, wire_events, is_in_order, step, first_at, begin, sweep}
+use Rattle.congestion.specs.Walk.{Item, WireEvent, State, numbered, at, wire_events, in_order, step, first_at, begin, sweep}
 use Rattle.congestion.specs.Inner.Keys.{Key}
 use Rattle.density_call.specs.Inner.Tables.{no_wire, item_at, event_at, Tabled, wire_state_from, wire_states_from, Stored}
 use Rattle.density_call.specs.Inner.Sweeping.{Follows, AtEvent, Steps, Handles, AtFirst, swept_of}
@@ -116,7 +116,7 @@ module _ (s₀ : List ℕ) (n allowance : ℕ) (a : AtFirst s₀ n) where
   items = numbered 0 a.L
 
   abbrev order : List WireEvent
-  order = is_in_order (wire_events items)
+  order = in_order (wire_events items)
 
   abbrev all : Charged State
   all = sweep a.c a.L

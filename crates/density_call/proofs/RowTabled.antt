@@ -31,7 +31,7 @@ use Rattle.rows.specs.Inner.Tables.{no_row, row_from, event_from, column}
 use Rattle.rows.proofs.SpreadTables.{Spread}
 use Rattle.rows.proofs.ColumnParts.{get_d_map, column-at}
 use Rattle.congestion.specs.Wires.{Wire}
-use Rattle.congestion.specs.Walk.{WireEvent, numbered, wire_events, is_in_order, event_row}
+use Rattle.congestion.specs.Walk.{WireEvent, numbered, wire_events, in_order, event_row}
 use Rattle.congestion.specs.Inner.Keys.{Key}
 use Rattle.density_call.specs.Inner.Tables.{no_wire, item_at, event_at, Ranged, Tabled}
 use Rattle.density_call.specs.Inner.Measuring.{wire_of_row, Coordinate, Proper}
@@ -136,8 +136,8 @@ module _ (h : Bool) where
   event-row k (r ∷ l) e (inr (inl p)) = inl (ap row_in p)
   event-row k (r ∷ l) e (inr (inr m)) = inr (event-row (suc k) l e m)
 
-  pub events-in_order : (l : List Row) → ((r : Row) → Mem r l → Proper r) → map event_of (rows.events l) ≡ is_in_order (wire_events (numbered 0 (map (wire_of_row h) l)))
-  unfolding rows.events is_in_order
+  pub events-in_order : (l : List Row) → ((r : Row) → Mem r l → Proper r) → map event_of (rows.events l) ≡ in_order (wire_events (numbered 0 (map (wire_of_row h) l)))
+  unfolding rows.events in_order
   events-in_order l fit =
       sort_map events_in_order (λ a b. row_le (event_row a) (event_row b)) event_of (events_from 0 l) (λ d e m n. same-order d e (fit (row_in d) (event-row 0 l d m)) (fit (row_in e) (event-row 0 l e n)))
       ∙ ap (sort_by (λ a b. row_le (event_row a) (event_row b))) (events-map 0 l)

@@ -173,7 +173,7 @@ module _ (words : List ℕ) (k : ℕ) (s : SegmentColumns) (ns : List Node) wher
 record Placed (ex : List Exemption) (ss : List Segment) (ns : List Node) (i j : ℕ) (d : Float) : Type 0 where
   segment : Segment
   node : Node
-  segment-at : get_elem? ss i ≡ some segment
+  segment_found : get_elem? ss i ≡ some segment
   node_found : get_elem? ns j ≡ some node
   free : exempt ex segment.net node.id ≡ false
   far : d ≡ distance (segment_box segment) (node_box node)
@@ -243,7 +243,7 @@ module _ (ex : List Exemption) (ss : List Segment) (ns : List Node) where
         let d = distance (segment_box s) (node_box n) in
         let at = drop_head ns j n rest e in
         let good_d : Good d = distance_good (segment_box s) (node_box n) (fit-segment s fit) (fit-node n h.0) in
-        let q : x ≡ false → Placed ex ss ns i j d = λ f. record { segment = s; node = n; segment-at = si; node_found = at.0; free = f; far = refl } in
+        let q : x ≡ false → Placed ex ss ns i j d = λ f. record { segment = s; node = n; segment_found = si; node_found = at.0; free = f; far = refl } in
         subst (λ (l : List Float). Looked ex ss ns l (in_turn (node_step ex s.net (segment_box s) i) (suc j) rest (best_with x d i j b)))
         (append_assoc seen (put (not x) d []) (distances_of ex s (map indexed rest)) ∙ ap (λ (l : List Float). seen ++ l) (put-before (not x) d (distances_of ex s (map indexed rest))))
         (nodes_looked rest (suc j) at.1 h.1 (seen ++ put (not x) d []) (all_append Good seen (put (not x) d []) good (all-put (not x) d good_d)) (best_with x d i j b) (one_more x d i j good_d q seen good b p))
@@ -281,7 +281,7 @@ module _ (ex : List Exemption) (ss : List Segment) (ns : List Node) (b : Best) (
       record {
         segment = q.segment;
         node = q.node;
-        segment-at = ap (get_elem? ss) (sym u) ∙ q.segment-at;
+        segment_at = ap (get_elem? ss) (sym u) ∙ q.segment_found;
         node_at = ap (get_elem? ns) (sym v) ∙ q.node_found;
         free = q.free;
         least = ap Present (sym q.far) ∙ sym h ∙ p.least;

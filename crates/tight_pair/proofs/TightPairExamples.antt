@@ -64,9 +64,9 @@ pub pair_examples : PairExamples
 unfolding of_bits to_bits add sub lt some_of chosen cross lesser least greater_of lesser_of segments segments_of nodes_of exemptions_of gap_from least_gap number_of first_of differ too_many unfit_fields unfit_segment unfit_extent unfit_box unfit_node segments_differ nodes_differ exemptions_differ list_conditions entry_conditions tight_pair_conditions from_node from_segment node_box segment_box axis_gap distance exempt distances pair_if_any tight_pair_answer result_of
 pair_examples = record {
   d = λ i j. refl;
-  d-tight = record { segment = _; node = _; segment-at = refl; node_at = refl; free = refl; least = refl };
+  d-tight = record { segment = _; node = _; segment_at = refl; node_at = refl; free = refl; least = refl };
   d_reversed = λ i j. refl;
-  d_reversed_tight = record { segment = _; node = _; segment-at = refl; node_at = refl; free = refl; least = refl };
+  d_reversed_tight = record { segment = _; node = _; segment_at = refl; node_at = refl; free = refl; least = refl };
   no_nodes_absent = λ pair. refl;
   all-exempt_absent = λ pair. refl;
   columns_differ = λ pair. refl;
@@ -86,9 +86,9 @@ only-tight : (i j : ℕ) → Tight (exemptions d-exemptions) (segments d-segment
 unfolding greater_of lesser_of segments segments_of nodes_of exemptions_of exempt some_of
 only-tight zero zero t = refl
 only-tight zero (suc j) t = let z : ◌≡◌ {A = ℕ} 0 1 = cc t.node_at in absurd (omega arith)
-only-tight (suc zero) zero t = clash _ (sym (λ i. exempt (exemptions d-exemptions) (ap net-of t.segment-at i) (ap id-of t.node_at i))) t.free
+only-tight (suc zero) zero t = clash _ (sym (λ i. exempt (exemptions d-exemptions) (ap net-of t.segment_at i) (ap id-of t.node_at i))) t.free
 only-tight (suc zero) (suc j) t = let z : ◌≡◌ {A = ℕ} 0 1 = cc t.node_at in absurd (omega arith)
-only-tight (suc (suc i)) j t = let z : ◌≡◌ {A = ℕ} 0 1 = cc t.segment-at in absurd (omega arith)
+only-tight (suc (suc i)) j t = let z : ◌≡◌ {A = ℕ} 0 1 = cc t.segment_at in absurd (omega arith)
 
 -- so a call for D answers segment 0 and node 0
 pub d-answers : (r : TightPair) → Answered d-segments d-nodes d-exemptions r → r ≡ Pair 0 0

@@ -17,7 +17,7 @@ use Rattle.clearance.specs.Figures.{exempt, distances}
 pub record Tight (ex : List Exemption) (ss : List Segment) (ns : List Node) (i j : ℕ) : Type 0 where
   pub segment : Segment
   pub node : Node
-  pub segment-at : get_elem? ss i ≡ some segment
+  pub segment_at : get_elem? ss i ≡ some segment
   pub node_at : get_elem? ns j ≡ some node
   pub free : exempt ex segment.net node.id ≡ false
   pub least : Present (distance (segment_box segment) (node_box node)) ≡ least_gap (distances ex ss ns)

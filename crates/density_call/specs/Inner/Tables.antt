@@ -7,7 +7,7 @@ use Rattle.laws.specs.Lists.{All}
 use Rattle.sorting.specs.Inner.Sorted.{up_to}
 use Rattle.bitset.specs.Inner.Members.{member}
 use Rattle.congestion.specs.Wires.{Wire}
-use Rattle.congestion.specs.Walk.{Item, WireEvent, WireState, State, numbered, wire_events, is_in_order, in_range}
+use Rattle.congestion.specs.Walk.{Item, WireEvent, WireState, State, numbered, wire_events, in_order, in_range}
 use Rattle.congestion.specs.Inner.Keys.{Key}
 
 -- the wire at an index, and the event of a number
@@ -28,7 +28,7 @@ pub record Ranged (c : ℕ) (L : List Wire) (s : List ℕ) : Type 0 where
 -- the tables as the sweep reads them, for a cutoff of c 64ths
 pub record Tabled (c : ℕ) (L : List Wire) (s : List ℕ) : Type 0 where
   pub small : All (λ e. e < 2 * length L) (take (2 * length L) s)
-  pub ordered : map (event_at L) (take (2 * length L) s) ≡ is_in_order (wire_events (numbered 0 L))
+  pub ordered : map (event_at L) (take (2 * length L) s) ≡ in_order (wire_events (numbered 0 L))
   pub ends : (j : ℕ) → j < length L → Key (get_or s (2 * length L + j) 0) (item_at L j).wire.end
   pub starts : (j : ℕ) → j < length L → Key (get_or s (3 * length L + j) 0) (item_at L j).wire.start
   pub fixed : (j : ℕ) → j < length L → Key (get_or s (4 * length L + j) 0) (item_at L j).wire.fixed
