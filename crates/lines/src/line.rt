@@ -39,8 +39,8 @@ pub fn unpack(
     end: &mut [f64; 4097],
 ) -> usize
     ensures upper_bound { result ≤ 4097 }
-    ensures net_len_unchanged { (length net.new ≡ length net.old) × (length orientation.new ≡ length orientation.old) × (length fixed.new ≡ length fixed.old) × (length start.new ≡ length start.old) × (length end.new ≡ length end.old) }
-    ensures end_after { length net.old ≡ 4097 → length orientation.old ≡ 4097 → length fixed.old ≡ 4097 → length start.old ≡ 4097 → length end.old ≡ 4097 → segment_columns (take result net.new) (take result orientation.new) (take result fixed.new) (take result start.new) (take result end.new) ≡ columns_of (map entry_of (take n lines)) }
+    ensures lengths_kept { (length net.new ≡ length net.old) × (length orientation.new ≡ length orientation.old) × (length fixed.new ≡ length fixed.old) × (length start.new ≡ length start.old) × (length end.new ≡ length end.old) }
+    ensures unpacked { length net.old ≡ 4097 → length orientation.old ≡ 4097 → length fixed.old ≡ 4097 → length start.old ≡ 4097 → length end.old ≡ 4097 → segment_columns (take result net.new) (take result orientation.new) (take result fixed.new) (take result start.new) (take result end.new) ≡ columns_of (map entry_of (take n lines)) }
 {
     let m = unpack_count(n);
     let mut i = 0;

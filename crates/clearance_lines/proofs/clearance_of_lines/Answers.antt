@@ -24,4 +24,4 @@ slice_bounds-measure_edge_node_clearance_bounded-end-5 c = sym (length-take-le _
 pub returns : goal.returns
 returns c =
     let given = c.args in
-    of-equal (node_columns given.id.now given.x.now given.y.now given.width.now given.height.now) (exemption_columns given.exempt_net.now given.exempt_node.now) given.threshold given.allowance given.scratch.now (c.unpack-m.ensures.end_after (search rules) (search rules) (search rules) (search rules) (search rules)) c.measure_edge_node_clearance_bounded.ensures
+    of-equal (node_columns given.id.now given.x.now given.y.now given.width.now given.height.now) (exemption_columns given.exempt_net.now given.exempt_node.now) given.threshold given.allowance given.scratch.now (c.unpack-m.ensures.unpacked (search rules) (search rules) (search rules) (search rules) (search rules)) c.measure_edge_node_clearance_bounded.ensures

@@ -23,4 +23,4 @@ slice_bounds-measure_parallel_separation_bounded-end-5 c = sym (length-take-le _
 pub returns : goal.returns
 returns c =
     let given = c.args in
-    of-equal given.allowance given.scratch.now (c.unpack-m.ensures.end_after (search rules) (search rules) (search rules) (search rules) (search rules)) c.measure_parallel_separation_bounded.ensures
+    of-equal given.allowance given.scratch.now (c.unpack-m.ensures.unpacked (search rules) (search rules) (search rules) (search rules) (search rules)) c.measure_parallel_separation_bounded.ensures

@@ -23,4 +23,4 @@ slice_bounds-measure_parallel_density_profile_bounded-end-5 c = sym (length-take
 pub returns : goal.returns
 returns c =
     let given = c.args in
-    density-of-equal given.cutoff given.allowance given.scratch.now (c.unpack-m.ensures.end_after (search rules) (search rules) (search rules) (search rules) (search rules)) c.measure_parallel_density_profile_bounded.ensures
+    density-of-equal given.cutoff given.allowance given.scratch.now (c.unpack-m.ensures.unpacked (search rules) (search rules) (search rules) (search rules) (search rules)) c.measure_parallel_density_profile_bounded.ensures

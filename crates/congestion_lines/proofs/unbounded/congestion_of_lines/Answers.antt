@@ -23,4 +23,4 @@ slice_bounds-measure_parallel_congestion-end-5 c = sym (length-take-le _ _ (sear
 pub returns : goal.returns
 returns c =
     let given = c.args in
-    congestion-of-equal given.cutoff given.scratch.now (c.unpack-m.ensures.end_after (search rules) (search rules) (search rules) (search rules) (search rules)) c.measure_parallel_congestion.ensures
+    congestion-of-equal given.cutoff given.scratch.now (c.unpack-m.ensures.unpacked (search rules) (search rules) (search rules) (search rules) (search rules)) c.measure_parallel_congestion.ensures

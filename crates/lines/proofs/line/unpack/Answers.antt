@@ -13,4 +13,4 @@ pub loop-i-preserved : goal.loop-i-preserved
 loop-i-preserved c = (search rules, (search rules, search rules, search rules, search rules, search rules), λ ln lo lf ls le. unpacking_next (c.loop-i.invariant.2 ln lo lf ls le) (search rules) (search rules) ln lo lf ls le)
 
 pub returns : goal.returns
-returns c = record { upper_bound = search rules; net_len_unchanged = c.loop-i.invariant.1; end_after = λ ln lo lf ls le. unpacking_all _ _ (c.loop-i.invariant.2 ln lo lf ls le) c.loop-i.invariant.0 c.loop-i-test.false c.unpack_count-m.ensures.value (search rules) }
+returns c = record { upper_bound = search rules; lengths_kept = c.loop-i.invariant.1; unpacked = λ ln lo lf ls le. unpacking_all _ _ (c.loop-i.invariant.2 ln lo lf ls le) c.loop-i.invariant.0 c.loop-i-test.false c.unpack_count-m.ensures.value (search rules) }
