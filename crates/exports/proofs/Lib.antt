@@ -1,2 +1,0 @@
--- made text on the functions that take a slice of records
-mod Claims
