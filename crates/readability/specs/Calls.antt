@@ -1,7 +1,8 @@
 -- What the calls' own contracts say, as the checker reads them (SCOPE 8.1, 8.5): of each of the five measures, by columns and by records, of the tight pair and of the joiner, that it requires nothing of its caller, that it ends, and what it returns; of a measure, that its run is one of `demands`, specs/Measures, and of the joiner, that it is one of specs/Joining.
--- Each entry names the function's own code, its `routine`, so the statement is about the function and not about a copy of its contract. `a` are the arguments in the order of the signature, `x` is what is returned, and `e` are the arguments at exit.
+-- Each entry names the function's own code and its name, so the statement is about the function and not about a copy of its contract. `a` are the arguments in the order of the signature, `x` is what is returned, and `e` are the arguments at exit.
 use Rattle.std.specs.Prelude.{ℕ, List, ◌≡◌, false}
-use prog.Routine.{Env, Name, Routine}
+use prog.Routine.{Env, Callee}
+use prog.Wired.{Code, Wired}
 use contract.Lifetimes.{Lfts}
 use borrow.Fn.Kinds.{ParamKind, ResultKind, In, Out, Dens, res_t, ended_of}
 use borrow.Fn.World.{World}
@@ -32,33 +33,33 @@ use Rattle.congestion_call.proofs.measure.measure_parallel_congestion_profile_bo
 use Rattle.congestion_call.proofs.measure.measure_parallel_congestion.Kinds as congestionKinds
 use Rattle.congestion_call.proofs.measure.measure_parallel_congestion.Reads as congestionReads
 use Rattle.congestion_call.proofs.measure.measure_parallel_congestion.Symbol as congestionCode
-use Rattle.records.proofs.Claims.measure_edge_node_clearance_bounded_by_records.Kinds as clearanceEntryKinds
-use Rattle.records.proofs.Claims.measure_edge_node_clearance_bounded_by_records.Reads as clearanceEntryReads
-use Rattle.records.proofs.measure_edge_node_clearance_bounded_by_records.Symbol as clearanceEntryCode
-use Rattle.records.proofs.Claims.measure_parallel_separation_bounded_by_records.Kinds as separationEntryKinds
-use Rattle.records.proofs.Claims.measure_parallel_separation_bounded_by_records.Reads as separationEntryReads
-use Rattle.records.proofs.measure_parallel_separation_bounded_by_records.Symbol as separationEntryCode
-use Rattle.records.proofs.Claims.measure_parallel_density_profile_bounded_by_records.Kinds as densityEntryKinds
-use Rattle.records.proofs.Claims.measure_parallel_density_profile_bounded_by_records.Reads as densityEntryReads
-use Rattle.records.proofs.measure_parallel_density_profile_bounded_by_records.Symbol as densityEntryCode
-use Rattle.records.proofs.Claims.measure_parallel_congestion_profile_bounded_by_records.Kinds as profileEntryKinds
-use Rattle.records.proofs.Claims.measure_parallel_congestion_profile_bounded_by_records.Reads as profileEntryReads
-use Rattle.records.proofs.measure_parallel_congestion_profile_bounded_by_records.Symbol as profileEntryCode
-use Rattle.records.proofs.Claims.measure_parallel_congestion_by_records.Kinds as congestionEntryKinds
-use Rattle.records.proofs.Claims.measure_parallel_congestion_by_records.Reads as congestionEntryReads
-use Rattle.records.proofs.measure_parallel_congestion_by_records.Symbol as congestionEntryCode
+use Rattle.records.proofs.edge_node.measure_edge_node_clearance_bounded_by_records.Kinds as clearanceEntryKinds
+use Rattle.records.proofs.edge_node.measure_edge_node_clearance_bounded_by_records.Reads as clearanceEntryReads
+use Rattle.records.proofs.edge_node.measure_edge_node_clearance_bounded_by_records.Symbol as clearanceEntryCode
+use Rattle.records.proofs.parallel.measure_parallel_separation_bounded_by_records.Kinds as separationEntryKinds
+use Rattle.records.proofs.parallel.measure_parallel_separation_bounded_by_records.Reads as separationEntryReads
+use Rattle.records.proofs.parallel.measure_parallel_separation_bounded_by_records.Symbol as separationEntryCode
+use Rattle.records.proofs.parallel.measure_parallel_density_profile_bounded_by_records.Kinds as densityEntryKinds
+use Rattle.records.proofs.parallel.measure_parallel_density_profile_bounded_by_records.Reads as densityEntryReads
+use Rattle.records.proofs.parallel.measure_parallel_density_profile_bounded_by_records.Symbol as densityEntryCode
+use Rattle.records.proofs.parallel.measure_parallel_congestion_profile_bounded_by_records.Kinds as profileEntryKinds
+use Rattle.records.proofs.parallel.measure_parallel_congestion_profile_bounded_by_records.Reads as profileEntryReads
+use Rattle.records.proofs.parallel.measure_parallel_congestion_profile_bounded_by_records.Symbol as profileEntryCode
+use Rattle.records.proofs.parallel.measure_parallel_congestion_by_records.Kinds as congestionEntryKinds
+use Rattle.records.proofs.parallel.measure_parallel_congestion_by_records.Reads as congestionEntryReads
+use Rattle.records.proofs.parallel.measure_parallel_congestion_by_records.Symbol as congestionEntryCode
 use Rattle.records.specs.Records.{parallel_columns, edge_node_columns}
 use Rattle.demands.specs.Joining.{JoinSays}
 use Rattle.demands.specs.Measures.{Says, clearance, separation, density, profile, congestion}
 
--- in every model and under every name: the routine, called where P holds of its arguments, does nothing undefined and returns, and Q holds then. It is the checker's statement of total correctness, which it derives of a function from the function's theorem.
-abbrev pub TotallyCorrect : (n : ℕ) (ps : List (ParamKind n)) (r : ResultKind n) → Routine → In n ps → Out n ps r → Type 2
-TotallyCorrect n ps r routine P Q = (w : World) (γ : Env) (k : Name) → γ k ≡ routine → Known w.𝓛 (Over w.𝓛 w.𝓜 w.𝓡 γ) n ps r P Q k
+-- in every model that has the function's code, with the code of all that it names, and under every name: the function's routine, called where P holds of its arguments, does nothing undefined and returns, and Q holds then. It is the checker's statement of total correctness, which it derives of a function from the function's theorem.
+abbrev pub TotallyCorrect : (n : ℕ) (ps : List (ParamKind n)) (r : ResultKind n) → Code → Callee → In n ps → Out n ps r → Type 2
+TotallyCorrect n ps r code name P Q = (w : World) (γ : Env) (k : Callee) → Wired w.𝓡.env code → γ k ≡ w.𝓡.env name → Known w.𝓛 (Over w.𝓛 w.𝓜 w.𝓡 γ) n ps r P Q k
 
 -- a function of n lifetimes with these parameters and this result; `Asked` is what it requires of a caller, and `Learnt` what a caller knows after the call
-pub record Contract (n : ℕ) (ps : List (ParamKind n)) (r : ResultKind n) (routine : Routine) (Asked : In n ps) (Learnt : Out n ps r) (Claim : Out n ps r) : Type 2 where
+pub record Contract (n : ℕ) (ps : List (ParamKind n)) (r : ResultKind n) (code : Code) (name : Callee) (Asked : In n ps) (Learnt : Out n ps r) (Claim : Out n ps r) : Type 2 where
   -- SCOPE 8.1: "every call ends, for all inputs"
-  pub ends : TotallyCorrect n ps r routine Asked Learnt
+  pub ends : TotallyCorrect n ps r code name Asked Learnt
   -- SCOPE 8.1: "with no condition laid on its caller"
   pub asks_nothing : (κs : Lfts n) (a : Dens κs ps) → Asked κs a
   -- what a caller knows
@@ -66,47 +67,47 @@ pub record Contract (n : ℕ) (ps : List (ParamKind n)) (r : ResultKind n) (rout
 
 pub record Calls : Type 2 where
   -- net, orientation, fixed, start, end, id, x, y, width, height, exempt_net, exempt_node, threshold, allowance, scratch
-  pub of-clearance : Contract 13 clearanceKinds.ps clearanceKinds.r clearanceCode.routine clearanceReads.Asked clearanceReads.Learnt (λ κs a x e. let b = a.1.1.1.1.1 in let c = b.1.1.1.1.1 in
+  pub of-clearance : Contract 13 clearanceKinds.ps clearanceKinds.r clearanceCode.code clearanceCode.name clearanceReads.Asked clearanceReads.Learnt (λ κs a x e. let b = a.1.1.1.1.1 in let c = b.1.1.1.1.1 in
       Says clearance (record {
         segments = segment_columns a.0.now a.1.0.now a.1.1.0.now a.1.1.1.0.now a.1.1.1.1.0.now;
         nodes = node_columns b.0.now b.1.0.now b.1.1.0.now b.1.1.1.0.now b.1.1.1.1.0.now;
         exemptions = exemption_columns c.0.now c.1.0.now;
       }) c.1.1.0 c.1.1.1.0 c.1.1.1.1.0.now x e.1.1.1.1.1.1.1.1.1.1.1.1.1.1.0.now)
   -- net, orientation, fixed, start, end, allowance, scratch
-  pub of-separation : Contract 6 separationKinds.ps separationKinds.r separationCode.routine separationReads.Asked separationReads.Learnt (λ κs a x e. let b = a.1.1.1.1.1 in
+  pub of-separation : Contract 6 separationKinds.ps separationKinds.r separationCode.code separationCode.name separationReads.Asked separationReads.Learnt (λ κs a x e. let b = a.1.1.1.1.1 in
       Says separation (segment_columns a.0.now a.1.0.now a.1.1.0.now a.1.1.1.0.now a.1.1.1.1.0.now) tt b.0 b.1.0.now x e.1.1.1.1.1.1.0.now)
   -- net, orientation, fixed, start, end, cutoff, allowance, scratch
-  pub of-density : Contract 6 densityKinds.ps densityKinds.r densityCode.routine densityReads.Asked densityReads.Learnt (λ κs a x e. let b = a.1.1.1.1.1 in
+  pub of-density : Contract 6 densityKinds.ps densityKinds.r densityCode.code densityCode.name densityReads.Asked densityReads.Learnt (λ κs a x e. let b = a.1.1.1.1.1 in
       Says density (segment_columns a.0.now a.1.0.now a.1.1.0.now a.1.1.1.0.now a.1.1.1.1.0.now) b.0 b.1.0 b.1.1.0.now x e.1.1.1.1.1.1.1.0.now)
-  pub of-profile : Contract 6 profileKinds.ps profileKinds.r profileCode.routine profileReads.Asked profileReads.Learnt (λ κs a x e. let b = a.1.1.1.1.1 in
+  pub of-profile : Contract 6 profileKinds.ps profileKinds.r profileCode.code profileCode.name profileReads.Asked profileReads.Learnt (λ κs a x e. let b = a.1.1.1.1.1 in
       Says profile (segment_columns a.0.now a.1.0.now a.1.1.0.now a.1.1.1.0.now a.1.1.1.1.0.now) b.0 b.1.0 b.1.1.0.now x e.1.1.1.1.1.1.1.0.now)
   -- net, orientation, fixed, start, end, cutoff, scratch: no allowance
-  pub of-congestion : Contract 6 congestionKinds.ps congestionKinds.r congestionCode.routine congestionReads.Asked congestionReads.Learnt (λ κs a x e. let b = a.1.1.1.1.1 in
+  pub of-congestion : Contract 6 congestionKinds.ps congestionKinds.r congestionCode.code congestionCode.name congestionReads.Asked congestionReads.Learnt (λ κs a x e. let b = a.1.1.1.1.1 in
       Says congestion (segment_columns a.0.now a.1.0.now a.1.1.0.now a.1.1.1.0.now a.1.1.1.1.0.now) b.0 tt b.1.0.now x e.1.1.1.1.1.1.0.now)
   -- net, orientation, fixed, start, end, id, x, y, width, height, exempt_net, exempt_node: nothing that is lent can be written
-  pub of-tight-pair : Contract 12 tightPairKinds.ps tightPairKinds.r tightPairCode.routine tightPairReads.Asked tightPairReads.Learnt (λ κs a x e. let b = a.1.1.1.1.1 in let c = b.1.1.1.1.1 in
+  pub of-tight-pair : Contract 12 tightPairKinds.ps tightPairKinds.r tightPairCode.code tightPairCode.name tightPairReads.Asked tightPairReads.Learnt (λ κs a x e. let b = a.1.1.1.1.1 in let c = b.1.1.1.1.1 in
       Answered (segment_columns a.0.now a.1.0.now a.1.1.0.now a.1.1.1.0.now a.1.1.1.1.0.now)
       (node_columns b.0.now b.1.0.now b.1.1.0.now b.1.1.1.0.now b.1.1.1.1.0.now) (exemption_columns c.0.now c.1.0.now) x)
   -- net, orientation, fixed, start, end, to_net, to_orientation, to_fixed, to_start, to_end: with the equations that make a call a `JoinRun`
-  pub of_join : Contract 10 joinKinds.ps joinKinds.r joinCode.routine joinReads.Asked joinReads.Learnt (λ κs a x e. let b = a.1.1.1.1.1 in let f = e.1.1.1.1.1 in
+  pub of_join : Contract 10 joinKinds.ps joinKinds.r joinCode.code joinCode.name joinReads.Asked joinReads.Learnt (λ κs a x e. let b = a.1.1.1.1.1 in let f = e.1.1.1.1.1 in
       JoinSays (segment_columns a.0.now a.1.0.now a.1.1.0.now a.1.1.1.0.now a.1.1.1.1.0.now)
       (segment_columns b.0.now b.1.0.now b.1.1.0.now b.1.1.1.0.now b.1.1.1.1.0.now) x
       (segment_columns f.0.now f.1.0.now f.1.1.0.now f.1.1.1.0.now f.1.1.1.1.0.now))
   -- ---- the thin entries, SCOPE 2.6, 6.1: "it is called by columns or by a thin entry, where there is one". A list of records is read as columns, and the entry answers what the call by columns answers of them.
   -- records, id, x, y, width, height, exempt_net, exempt_node, threshold, allowance, scratch
-  pub of-clearance-by_records : Contract 9 clearanceEntryKinds.ps clearanceEntryKinds.r clearanceEntryCode.routine clearanceEntryReads.Asked clearanceEntryReads.Learnt (λ κs a x e. let b = a.1 in let c = b.1.1.1.1.1 in
+  pub of-clearance-by_records : Contract 9 clearanceEntryKinds.ps clearanceEntryKinds.r clearanceEntryCode.code clearanceEntryCode.name clearanceEntryReads.Asked clearanceEntryReads.Learnt (λ κs a x e. let b = a.1 in let c = b.1.1.1.1.1 in
       Says clearance (record {
         segments = edge_node_columns a.0.now;
         nodes = node_columns b.0.now b.1.0.now b.1.1.0.now b.1.1.1.0.now b.1.1.1.1.0.now;
         exemptions = exemption_columns c.0.now c.1.0.now;
       }) c.1.1.0 c.1.1.1.0 c.1.1.1.1.0.now x e.1.1.1.1.1.1.1.1.1.1.0.now)
   -- records, allowance, scratch
-  pub of-separation-by_records : Contract 2 separationEntryKinds.ps separationEntryKinds.r separationEntryCode.routine separationEntryReads.Asked separationEntryReads.Learnt (λ κs a x e. Says separation (parallel_columns a.0.now) tt a.1.0 a.1.1.0.now x e.1.1.0.now)
+  pub of-separation-by_records : Contract 2 separationEntryKinds.ps separationEntryKinds.r separationEntryCode.code separationEntryCode.name separationEntryReads.Asked separationEntryReads.Learnt (λ κs a x e. Says separation (parallel_columns a.0.now) tt a.1.0 a.1.1.0.now x e.1.1.0.now)
   -- records, cutoff, allowance, scratch
-  pub of-density-by_records : Contract 2 densityEntryKinds.ps densityEntryKinds.r densityEntryCode.routine densityEntryReads.Asked densityEntryReads.Learnt (λ κs a x e. Says density (parallel_columns a.0.now) a.1.0 a.1.1.0 a.1.1.1.0.now x e.1.1.1.0.now)
-  pub of-profile-by_records : Contract 2 profileEntryKinds.ps profileEntryKinds.r profileEntryCode.routine profileEntryReads.Asked profileEntryReads.Learnt (λ κs a x e. Says profile (parallel_columns a.0.now) a.1.0 a.1.1.0 a.1.1.1.0.now x e.1.1.1.0.now)
+  pub of-density-by_records : Contract 2 densityEntryKinds.ps densityEntryKinds.r densityEntryCode.code densityEntryCode.name densityEntryReads.Asked densityEntryReads.Learnt (λ κs a x e. Says density (parallel_columns a.0.now) a.1.0 a.1.1.0 a.1.1.1.0.now x e.1.1.1.0.now)
+  pub of-profile-by_records : Contract 2 profileEntryKinds.ps profileEntryKinds.r profileEntryCode.code profileEntryCode.name profileEntryReads.Asked profileEntryReads.Learnt (λ κs a x e. Says profile (parallel_columns a.0.now) a.1.0 a.1.1.0 a.1.1.1.0.now x e.1.1.1.0.now)
   -- records, cutoff, scratch: no allowance
-  pub of-congestion-by_records : Contract 2 congestionEntryKinds.ps congestionEntryKinds.r congestionEntryCode.routine congestionEntryReads.Asked congestionEntryReads.Learnt (λ κs a x e. Says congestion (parallel_columns a.0.now) a.1.0 tt a.1.1.0.now x e.1.1.0.now)
+  pub of-congestion-by_records : Contract 2 congestionEntryKinds.ps congestionEntryKinds.r congestionEntryCode.code congestionEntryCode.name congestionEntryReads.Asked congestionEntryReads.Learnt (λ κs a x e. Says congestion (parallel_columns a.0.now) a.1.0 tt a.1.1.0.now x e.1.1.0.now)
   -- the entries of a list's columns are that list, so lists of records in two orders are drawings in two orders, and so are one of records and one of columns; and refusal 2 does not arise for them
   pub columns_entries : (l : List Segment) → as_lent (columns_of l) ≡ l
   pub never_differ : (l : List Segment) → segments_differ (columns_of l) ≡ false

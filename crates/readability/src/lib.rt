@@ -1,5 +1,6 @@
 // The measures of a drawing under the Rust's names (SCOPE 6.1), each from the crate that has it. By columns a call has the Rust's name alone; the thin entries, whose names end in `_by_records`, take the Rust's list of records. `join` and the tight pair are added to the Rust's. What is promised of them is in specs/Promise.
 #![tactic(auto)]
+
 pub use clearance::{ClearanceAnswer, EdgeNodeClearance};
 pub use clearance_call::measure_edge_node_clearance_bounded;
 pub use congestion::{CongestionAnswer, CongestionReport, ParallelCongestion};
