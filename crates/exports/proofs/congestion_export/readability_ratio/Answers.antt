@@ -1,0 +1,6 @@
+-- `exports::congestion_export::readability_ratio` meets its contract: the ratio's own, of the two lengths. Assumes nothing.
+use borrow.Author.Rules.{rules}
+use Rattle.exports.proofs.congestion_export.readability_ratio.Goals as goal
+
+pub returns : goal.returns
+returns c = c.ratio.ensures

@@ -1,0 +1,14 @@
+-- `exports::records_export::readability_density_profile_by_records` meets its contract: the entry's own, with its answer in words. Assumes nothing.
+use mathlib.Core.Path.{ap, ◌∙◌}
+use Rattle.congestion.specs.Answer.{result_of}
+use Rattle.exports.specs.Words.{congestion_words}
+use borrow.Author.Rules.{rules}
+use Rattle.exports.proofs.records_export.readability_density_profile_by_records.Goals as goal
+
+pub returns : goal.returns
+returns c =
+    let measured = c.measure_parallel_density_profile_bounded_by_records-answer in (
+      c.write_congestion.ensures.value ∙ ap (λ a. (result_of a).0) measured.ensures.0,
+      c.write_congestion.ensures.out_after ∙ ap (λ a. congestion_words (result_of a).1) measured.ensures.0,
+      measured.ensures.1,
+    )

@@ -1,0 +1,14 @@
+-- `exports::separation_export::readability_separation` meets its contract: the call's own, with its answer in words. Assumes nothing.
+use mathlib.Core.Path.{ap, ◌∙◌}
+use Rattle.separation.specs.Answer.{result_of}
+use Rattle.exports.specs.Words.{separation_words}
+use borrow.Author.Rules.{rules}
+use Rattle.exports.proofs.separation_export.readability_separation.Goals as goal
+
+pub returns : goal.returns
+returns c =
+    let measured = c.measure_parallel_separation_bounded-answer in (
+      c.write_separation.ensures.value ∙ ap (λ a. (result_of a).0) measured.ensures.0,
+      c.write_separation.ensures.out_after ∙ ap (λ a. separation_words (result_of a).1) measured.ensures.0,
+      measured.ensures.1,
+    )
