@@ -1,6 +1,7 @@
 // An ordered set of indices, stored as bits in a slice of 64-bit words that the caller lends: index p is in the set where bit p % 64 of word p / 64 is set.
 // Indices beyond the words are never members: inserting or removing one leaves the words as they are.
 #![tactic(auto)]
+
 ghost use Rattle.std.specs.Prelude.{◌≡◌, ◌+◌, ◌/◌, ◌^◌, ◌≤◌, ◌<◌, min};
 ghost use Rattle.bitset.specs.Inner.Members.{member, inserted, removed, rest_below, last_with};
 

@@ -2,13 +2,11 @@
 use mathlib.Core.Path.{◌≡◌, refl}
 use mathlib.Core.Logic.{inl, inr}
 use mathlib.Core.Bool.{Bool, true, false, not, ◌||◌}
-use lib.Dec.{T}
-use lib.Ieee.{Float, lt, eq}
-use lib.Ieee.Scale.{finite}
+use lib.Ieee.{Float, lt}
 use Rattle.laws.proofs.Tests.{decide}
 use Rattle.floats.specs.Values.{lesser_of, greater_of}
 use Rattle.floats.specs.Grid.{on_grid}
-use Rattle.floats.proofs.Trichotomy.{exchanged_lesser, exchanged_greater, kept-lesser, kept_greater, rise_unless_equal, rise_once}
+use Rattle.floats.proofs.Trichotomy.{exchanged_lesser, exchanged_greater, kept-lesser, kept_greater, rise_once}
 use Rattle.drawing.specs.Entries.{Segment, as_taken}
 use Rattle.drawing.specs.Conditions.{off_grid_fields}
 

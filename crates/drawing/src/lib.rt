@@ -1,5 +1,6 @@
 // What every measure shares: the gap and the refusals, the ends of a segment in rising order, the tests of one entry, the clearing of the scratch, and the visits that were used.
 #![tactic(auto)]
+
 pub mod ends;
 pub mod entry;
 pub mod gap;

@@ -64,16 +64,14 @@ pub fn readability_clearance(
     scratch: &mut [u64],
     out: &mut [u64; 4],
 ) -> u32
-    ensures {
-        let lent_segments = segment_columns net.now orientation.now fixed.now start.now end.now in
+    ensures { let lent_segments = segment_columns net.now orientation.now fixed.now start.now end.now in
         let lent_nodes = node_columns id.now x.now y.now width.now height.now in
         let lent_exemptions = exemption_columns exempt_net.now exempt_node.now in
         let words = length scratch.old in
         let told = result_of (clearance_answer lent_segments lent_nodes lent_exemptions threshold allowance words) in
         (result ≡ told.0)
         × (out.new ≡ clearance_words told.1)
-        × (scratch.new ≡ scratch_after (first_of (clearance_conditions lent_segments lent_nodes lent_exemptions threshold words)) scratch.old)
-    }
+        × (scratch.new ≡ scratch_after (first_of (clearance_conditions lent_segments lent_nodes lent_exemptions threshold words)) scratch.old) }
 {
     let answer = measure_edge_node_clearance_bounded(
         net,

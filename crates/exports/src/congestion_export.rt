@@ -65,14 +65,12 @@ pub fn readability_density_profile(
     scratch: &mut [u64],
     out: &mut [u64; 7],
 ) -> u32
-    ensures {
-        let lent = segment_columns net.now orientation.now fixed.now start.now end.now in
+    ensures { let lent = segment_columns net.now orientation.now fixed.now start.now end.now in
         let words = length scratch.old in
         let told = result_of (density_answer lent cutoff allowance words) in
         (result ≡ told.0)
         × (out.new ≡ congestion_words told.1)
-        × (scratch.new ≡ scratch_after (first_of (congestion_conditions lent cutoff words)) scratch.old)
-    }
+        × (scratch.new ≡ scratch_after (first_of (congestion_conditions lent cutoff words)) scratch.old) }
 {
     let answer = measure_parallel_density_profile_bounded(
         net,
@@ -99,14 +97,12 @@ pub fn readability_congestion_profile(
     scratch: &mut [u64],
     out: &mut [u64; 7],
 ) -> u32
-    ensures {
-        let lent = segment_columns net.now orientation.now fixed.now start.now end.now in
+    ensures { let lent = segment_columns net.now orientation.now fixed.now start.now end.now in
         let words = length scratch.old in
         let told = result_of (profile_answer lent cutoff allowance words) in
         (result ≡ told.0)
         × (out.new ≡ congestion_words told.1)
-        × (scratch.new ≡ scratch_after (first_of (congestion_conditions lent cutoff words)) scratch.old)
-    }
+        × (scratch.new ≡ scratch_after (first_of (congestion_conditions lent cutoff words)) scratch.old) }
 {
     let answer = measure_parallel_congestion_profile_bounded(
         net,
@@ -132,14 +128,12 @@ pub fn readability_congestion(
     scratch: &mut [u64],
     out: &mut [u64; 7],
 ) -> u32
-    ensures {
-        let lent = segment_columns net.now orientation.now fixed.now start.now end.now in
+    ensures { let lent = segment_columns net.now orientation.now fixed.now start.now end.now in
         let words = length scratch.old in
         let told = result_of (congestion_answer lent cutoff words) in
         (result ≡ told.0)
         × (out.new ≡ congestion_words told.1)
-        × (scratch.new ≡ scratch_after (first_of (congestion_conditions lent cutoff words)) scratch.old)
-    }
+        × (scratch.new ≡ scratch_after (first_of (congestion_conditions lent cutoff words)) scratch.old) }
 {
     let answer = measure_parallel_congestion(net, orientation, fixed, start, end, cutoff, scratch);
     write_congestion(answer, out)

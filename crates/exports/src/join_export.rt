@@ -41,14 +41,12 @@ pub fn readability_join(
     to_end: &mut [f64],
     out: &mut [u64; 2],
 ) -> u32
-    ensures {
-        let lent = segment_columns net.now orientation.now fixed.now start.now end.now in
+    ensures { let lent = segment_columns net.now orientation.now fixed.now start.now end.now in
         let output = segment_columns to_net.old to_orientation.old to_fixed.old to_start.old to_end.old in
         let told = result_of (join_answer lent output) in
         (result ≡ told.0)
         × (out.new ≡ join_words told)
-        × (segment_columns to_net.new to_orientation.new to_fixed.new to_start.new to_end.new ≡ output_after lent output)
-    }
+        × (segment_columns to_net.new to_orientation.new to_fixed.new to_start.new to_end.new ≡ output_after lent output) }
 {
     let answer = join(
         net,

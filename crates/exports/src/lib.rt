@@ -1,5 +1,6 @@
 // The measures for programs in C and Rust. A slice passes as a pointer and a length, an array as a pointer. An exported function returns numbers and no enum, so the answer is a number and words; the sheet of a file is text, and its length is returned.
 #![tactic(auto)]
+
 pub mod clearance_export;
 pub mod congestion_export;
 mod gap;

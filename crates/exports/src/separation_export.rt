@@ -58,14 +58,12 @@ pub fn readability_separation(
     scratch: &mut [u64],
     out: &mut [u64; 5],
 ) -> u32
-    ensures {
-        let lent = segment_columns net.now orientation.now fixed.now start.now end.now in
+    ensures { let lent = segment_columns net.now orientation.now fixed.now start.now end.now in
         let words = length scratch.old in
         let told = result_of (separation_answer lent allowance words) in
         (result ≡ told.0)
         × (out.new ≡ separation_words told.1)
-        × (scratch.new ≡ scratch_after (first_of (separation_conditions lent words)) scratch.old)
-    }
+        × (scratch.new ≡ scratch_after (first_of (separation_conditions lent words)) scratch.old) }
 {
     let answer = measure_parallel_separation_bounded(
         net,

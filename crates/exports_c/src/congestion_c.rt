@@ -20,16 +20,24 @@ pub extern "C" fn readability_density_profile(
     scratch: &mut [u64],
     out: &mut [u64; 7],
 ) -> u32
-    ensures {
-        let lent = segment_columns net.now orientation.now fixed.now start.now end.now in
+    ensures { let lent = segment_columns net.now orientation.now fixed.now start.now end.now in
         let words = length scratch.old in
         let told = result_of (density_answer lent cutoff allowance words) in
         (result ≡ told.0)
         × (out.new ≡ congestion_words told.1)
-        × (scratch.new ≡ scratch_after (first_of (congestion_conditions lent cutoff words)) scratch.old)
-    }
+        × (scratch.new ≡ scratch_after (first_of (congestion_conditions lent cutoff words)) scratch.old) }
 {
-    exports::readability_density_profile(net, orientation, fixed, start, end, cutoff, allowance, scratch, out)
+    exports::readability_density_profile(
+        net,
+        orientation,
+        fixed,
+        start,
+        end,
+        cutoff,
+        allowance,
+        scratch,
+        out,
+    )
 }
 
 // The congestion profile: the same with pair overlap and peak zero (SCOPE 6.2).
@@ -45,16 +53,24 @@ pub extern "C" fn readability_congestion_profile(
     scratch: &mut [u64],
     out: &mut [u64; 7],
 ) -> u32
-    ensures {
-        let lent = segment_columns net.now orientation.now fixed.now start.now end.now in
+    ensures { let lent = segment_columns net.now orientation.now fixed.now start.now end.now in
         let words = length scratch.old in
         let told = result_of (profile_answer lent cutoff allowance words) in
         (result ≡ told.0)
         × (out.new ≡ congestion_words told.1)
-        × (scratch.new ≡ scratch_after (first_of (congestion_conditions lent cutoff words)) scratch.old)
-    }
+        × (scratch.new ≡ scratch_after (first_of (congestion_conditions lent cutoff words)) scratch.old) }
 {
-    exports::readability_congestion_profile(net, orientation, fixed, start, end, cutoff, allowance, scratch, out)
+    exports::readability_congestion_profile(
+        net,
+        orientation,
+        fixed,
+        start,
+        end,
+        cutoff,
+        allowance,
+        scratch,
+        out,
+    )
 }
 
 // All figures, without an allowance.
@@ -69,14 +85,12 @@ pub extern "C" fn readability_congestion(
     scratch: &mut [u64],
     out: &mut [u64; 7],
 ) -> u32
-    ensures {
-        let lent = segment_columns net.now orientation.now fixed.now start.now end.now in
+    ensures { let lent = segment_columns net.now orientation.now fixed.now start.now end.now in
         let words = length scratch.old in
         let told = result_of (congestion_answer lent cutoff words) in
         (result ≡ told.0)
         × (out.new ≡ congestion_words told.1)
-        × (scratch.new ≡ scratch_after (first_of (congestion_conditions lent cutoff words)) scratch.old)
-    }
+        × (scratch.new ≡ scratch_after (first_of (congestion_conditions lent cutoff words)) scratch.old) }
 {
     exports::readability_congestion(net, orientation, fixed, start, end, cutoff, scratch, out)
 }

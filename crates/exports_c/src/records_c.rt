@@ -20,14 +20,12 @@ pub extern "C" fn readability_separation_by_records(
     scratch: &mut [u64],
     out: &mut [u64; 5],
 ) -> u32
-    ensures {
-        let lent = parallel_columns records.now in
+    ensures { let lent = parallel_columns records.now in
         let words = length scratch.old in
         let told = Separation.result_of (Separation.separation_answer lent allowance words) in
         (result ≡ told.0)
         × (out.new ≡ separation_words told.1)
-        × (scratch.new ≡ scratch_after (first_of (separation_conditions lent words)) scratch.old)
-    }
+        × (scratch.new ≡ scratch_after (first_of (separation_conditions lent words)) scratch.old) }
 {
     exports::readability_separation_by_records(records, allowance, scratch, out)
 }
@@ -40,14 +38,12 @@ pub extern "C" fn readability_density_profile_by_records(
     scratch: &mut [u64],
     out: &mut [u64; 7],
 ) -> u32
-    ensures {
-        let lent = parallel_columns records.now in
+    ensures { let lent = parallel_columns records.now in
         let words = length scratch.old in
         let told = Congestion.result_of (Congestion.density_answer lent cutoff allowance words) in
         (result ≡ told.0)
         × (out.new ≡ congestion_words told.1)
-        × (scratch.new ≡ scratch_after (first_of (congestion_conditions lent cutoff words)) scratch.old)
-    }
+        × (scratch.new ≡ scratch_after (first_of (congestion_conditions lent cutoff words)) scratch.old) }
 {
     exports::readability_density_profile_by_records(records, cutoff, allowance, scratch, out)
 }
@@ -60,14 +56,12 @@ pub extern "C" fn readability_congestion_profile_by_records(
     scratch: &mut [u64],
     out: &mut [u64; 7],
 ) -> u32
-    ensures {
-        let lent = parallel_columns records.now in
+    ensures { let lent = parallel_columns records.now in
         let words = length scratch.old in
         let told = Congestion.result_of (Congestion.profile_answer lent cutoff allowance words) in
         (result ≡ told.0)
         × (out.new ≡ congestion_words told.1)
-        × (scratch.new ≡ scratch_after (first_of (congestion_conditions lent cutoff words)) scratch.old)
-    }
+        × (scratch.new ≡ scratch_after (first_of (congestion_conditions lent cutoff words)) scratch.old) }
 {
     exports::readability_congestion_profile_by_records(records, cutoff, allowance, scratch, out)
 }
@@ -79,14 +73,12 @@ pub extern "C" fn readability_congestion_by_records(
     scratch: &mut [u64],
     out: &mut [u64; 7],
 ) -> u32
-    ensures {
-        let lent = parallel_columns records.now in
+    ensures { let lent = parallel_columns records.now in
         let words = length scratch.old in
         let told = Congestion.result_of (Congestion.congestion_answer lent cutoff words) in
         (result ≡ told.0)
         × (out.new ≡ congestion_words told.1)
-        × (scratch.new ≡ scratch_after (first_of (congestion_conditions lent cutoff words)) scratch.old)
-    }
+        × (scratch.new ≡ scratch_after (first_of (congestion_conditions lent cutoff words)) scratch.old) }
 {
     exports::readability_congestion_by_records(records, cutoff, scratch, out)
 }
@@ -106,16 +98,27 @@ pub extern "C" fn readability_clearance_by_records(
     scratch: &mut [u64],
     out: &mut [u64; 4],
 ) -> u32
-    ensures {
-        let lent_segments = edge_node_columns records.now in
+    ensures { let lent_segments = edge_node_columns records.now in
         let lent_nodes = node_columns id.now x.now y.now width.now height.now in
         let lent_exemptions = exemption_columns exempt_net.now exempt_node.now in
         let words = length scratch.old in
         let told = Clearance.result_of (Clearance.clearance_answer lent_segments lent_nodes lent_exemptions threshold allowance words) in
         (result ≡ told.0)
         × (out.new ≡ clearance_words told.1)
-        × (scratch.new ≡ scratch_after (first_of (clearance_conditions lent_segments lent_nodes lent_exemptions threshold words)) scratch.old)
-    }
+        × (scratch.new ≡ scratch_after (first_of (clearance_conditions lent_segments lent_nodes lent_exemptions threshold words)) scratch.old) }
 {
-    exports::readability_clearance_by_records(records, id, x, y, width, height, exempt_net, exempt_node, threshold, allowance, scratch, out)
+    exports::readability_clearance_by_records(
+        records,
+        id,
+        x,
+        y,
+        width,
+        height,
+        exempt_net,
+        exempt_node,
+        threshold,
+        allowance,
+        scratch,
+        out,
+    )
 }

@@ -20,5 +20,19 @@ pub extern "C" fn readability_tight_pair(
 ) -> u32
     ensures { PairWritten (segment_columns net.now orientation.now fixed.now start.now end.now) (node_columns id.now x.now y.now width.now height.now) (exemption_columns exempt_net.now exempt_node.now) result out.new }
 {
-    exports::readability_tight_pair(net, orientation, fixed, start, end, id, x, y, width, height, exempt_net, exempt_node, out)
+    exports::readability_tight_pair(
+        net,
+        orientation,
+        fixed,
+        start,
+        end,
+        id,
+        x,
+        y,
+        width,
+        height,
+        exempt_net,
+        exempt_node,
+        out,
+    )
 }

@@ -3,7 +3,7 @@
 use Rattle.std.proofs.Common.{◌≡◌, ℕ, ◌+◌, ◌-◌, ◌*◌, ◌^◌, ◌<◌, ◌≤◌, Bool, true, false, cond, not, ◌&&◌, T, ltb, ◌⊎◌, pos, sym, refl, ap, ◌∙◌, subst, inl, inr, le_trans, le_of_eq, le_refl, add-zero, le_of_lt, mul_comm, add-mul, eq-or-lt_of_le, mul-pos, arith, ltb→lt, lt→ltb, nltb→le, pow_pos}
 use mathlib.Core.Bool.{beq}
 use native.Mathlib.Nat.{mul-sub, sub_self}
-use lib.Ieee.{Float, nan, inf, fin, Format, low, up, down, round, sum, neg, add, sub, lt, eq, le, fits}
+use lib.Ieee.{Float, nan, inf, fin, Format, low, up, down, round, sum, neg, add, sub, eq, le, fits}
 use lib.Ieee.Fits.{down_pos}
 use lib.Ieee.Scale.{round_same, finite, overflow}
 use Rattle.laws.proofs.Tests.{is_true, is_false, cond_true, cond_false, le_or_lt}

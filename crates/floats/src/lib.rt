@@ -1,6 +1,7 @@
 // Functions on f64: bit patterns, IEEE 754's totalOrder and its key, zeros, finiteness, lesser and greater, absolute value, and the grid of 1/64.
 // The definitions that the contracts cite are in specs/, the laws of these definitions in proofs/.
 #![tactic(auto)]
+
 pub mod grid;
 pub mod patterns;
 pub mod total_order;

@@ -1,5 +1,6 @@
 // What the programs read: the front of their input, up to the length of a buffer.
 #![tactic(auto)]
+
 ghost use Rattle.std.specs.Prelude.{◌≤◌, length, IfOk};
 
 use std::io::{self, Read};

@@ -1,5 +1,6 @@
 // The checks of a call's input that the measures share, refusals 2 to 5, in the order of SCOPE 7. Nothing lent is written, and all entries are checked before any work starts.
 #![tactic(auto)]
+
 ghost use Rattle.std.specs.Prelude.{◌≡◌};
 ghost use Rattle.laws.specs.Lists.{some_of};
 ghost use Rattle.drawing.specs.Refusals.{first_of};

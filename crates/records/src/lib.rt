@@ -1,5 +1,6 @@
 // The thin entries (SCOPE 2.6): each measure takes the lent list of segment records, as the Rust does, and answers what its call by columns answers of the same segments.
 #![tactic(auto)]
+
 pub mod edge_node;
 pub mod parallel;
 

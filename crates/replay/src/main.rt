@@ -2,13 +2,13 @@
 //
 // A record is the length of a drawing file, the file, the length of its sheet and the sheet; a length has 32 bits, big-endian. Where a part is incomplete or does not fit its buffer, nothing after it can be read as records, so the record counts as differing and the run ends.
 #![tactic(auto)]
+
 ghost use Rattle.std.specs.Prelude.{◌≡◌, true, IfOk};
 ghost use Rattle.printing.specs.Sheet as Sheet;
 ghost use Rattle.replay.specs.Inner.Parts.{Within};
 
-use std::io::{self, Read};
-
 use input::read_full;
+use std::io::{self, Read};
 
 // What is read where a part may begin: a part of this number of bytes, at the front of its buffer; one that is incomplete or does not fit; or the end of the input.
 #[derive(Clone, Copy)]

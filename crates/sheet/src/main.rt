@@ -1,8 +1,8 @@
 // The sheet of the drawing file on standard input, written to standard output (SCOPE 11.1). The longest file that is not refused for bytes left over has 9,773 bytes, so the first 9,774 bytes decide the sheet: `first_bytes` in the proofs of crate `file`.
 #![tactic(auto)]
-use std::io::{self, Write};
 
 use input::read_full;
+use std::io::{self, Write};
 
 fn main(rt: HostRuntime) -> io::Result<()> {
     let mut bytes = [0u8; 9774];

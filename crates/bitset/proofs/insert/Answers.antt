@@ -1,7 +1,6 @@
 -- `bitset::insert` meets its contract. Assumes nothing.
 use mathlib.Core.Path.{sym}
 use Prim.Native.Nat.{◌/◌}
-use borrow.Author.Rules.{rules}
 use Rattle.bitset.proofs.Sets.{inserted_beyond}
 use Rattle.bitset.proofs.Stores.{keeps-member, stores_more, more_room}
 use Rattle.bitset.proofs.insert.Goals as goal

@@ -2,7 +2,7 @@
 use Prim.Native.Nat.{◌-◌}
 use native.Mathlib.Omega.{arith}
 use borrow.Author.Rules.{rules}
-use Rattle.bitset.proofs.Looks.{Looking, looking_begins, looking_goes_on, looking_ends, top_fits, top_short, top_shift, looking_found, looking_misses}
+use Rattle.bitset.proofs.Looks.{looking_begins, looking_goes_on, looking_ends, top_fits, top_short, top_shift, looking_found, looking_misses}
 use Rattle.bitset.proofs.last_below.Goals as goal
 
 pub loop-bits-init : goal.loop-bits-init

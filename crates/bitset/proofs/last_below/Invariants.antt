@@ -1,8 +1,5 @@
 -- `bitset::last_below` meets its contract. The loop's invariant: `bits` is word `at` of the words with the rest, and those above it have no members. The measure is `at`. Assumes nothing.
-use Prim.Native.Nat.{◌-◌}
-use native.Mathlib.Omega.{arith}
-use borrow.Author.Rules.{rules}
-use Rattle.bitset.proofs.Looks.{Looking, looking_begins, looking_goes_on, looking_ends, top_fits, top_short, top_shift, looking_found, looking_misses}
+use Rattle.bitset.proofs.Looks.{Looking}
 use Rattle.bitset.proofs.last_below.Given as goal
 
 abbrev pub invariant-loop-bits : goal.invariant-loop-bits

@@ -1,6 +1,5 @@
 -- `bitset::remove` meets its contract. Assumes nothing.
 use mathlib.Core.Path.{sym}
-use borrow.Author.Rules.{rules}
 use Rattle.bitset.proofs.Sets.{removed_beyond}
 use Rattle.bitset.proofs.Stores.{keeps-none, stores_less, less_room}
 use Rattle.bitset.proofs.remove.Goals as goal

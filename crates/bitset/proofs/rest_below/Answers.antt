@@ -1,5 +1,4 @@
 -- `bitset::rest_below` meets its contract. Assumes nothing.
-use borrow.Author.Rules.{rules}
 use Rattle.bitset.proofs.Rests.{cut_beyond, cut_word, cut_some}
 use Rattle.bitset.proofs.rest_below.Goals as goal
 

@@ -1,5 +1,4 @@
 -- `bitset::top_bit` meets its contract. Assumes nothing.
-use borrow.Author.Rules.{rules}
 use Rattle.bitset.proofs.Digits.{top_place, top_room}
 use Rattle.bitset.proofs.top_bit.Goals as goal
 

@@ -3,7 +3,6 @@ use mathlib.Core.Path.{sym, ◌∙◌}
 use Rattle.drawing.specs.Checks.{entry_conditions}
 use Rattle.drawing.specs.Inner.Lengths.{compared_entry_conditions}
 use Rattle.drawing.proofs.FirstRefusal.{first_yes, first_no, first-none, segments-agree, nodes-agree}
-use borrow.Author.Rules.{rules}
 use Rattle.list_checks.proofs.check_entries.Goals as goal
 
 pub returns-then-segments_differ : goal.returns-then-segments_differ

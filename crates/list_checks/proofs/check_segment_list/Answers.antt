@@ -2,7 +2,6 @@
 use mathlib.Core.Path.{sym, ◌∙◌}
 use Rattle.drawing.specs.Checks.{segment_list_conditions}
 use Rattle.drawing.proofs.FirstRefusal.{first_yes, first_no, first-none, segments-agree}
-use borrow.Author.Rules.{rules}
 use Rattle.list_checks.proofs.check_segment_list.Goals as goal
 
 pub returns-then-segments_differ : goal.returns-then-segments_differ

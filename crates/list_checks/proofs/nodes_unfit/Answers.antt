@@ -1,11 +1,8 @@
 -- `list_checks::nodes_unfit` meets its contract: after `at` turns the first `at` nodes are fit. Assumes nothing.
 use mathlib.Core.Path.{sym, ◌∙◌}
-use borrow.Author.Rules.{rules}
-use Prim.Native.Nat.{◌-◌}
-use lib.ListN.{length}
 use Rattle.drawing.specs.Entries.{node_columns}
 use Rattle.drawing.specs.Conditions.{unfit_node}
-use Rattle.drawing.proofs.Scans.{NodesScanned, nodes-none, nodes_hit, nodes_next, nodes-all}
+use Rattle.drawing.proofs.Scans.{nodes-none, nodes_hit, nodes_next, nodes-all}
 use Rattle.list_checks.proofs.nodes_unfit.Goals as goal
 
 pub loop-at-init : goal.loop-at-init

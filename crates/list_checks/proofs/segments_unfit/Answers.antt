@@ -1,11 +1,8 @@
 -- `list_checks::segments_unfit` meets its contract: after i turns the first i segments are fit. Assumes nothing.
 use mathlib.Core.Path.{sym, ◌∙◌}
-use borrow.Author.Rules.{rules}
-use Prim.Native.Nat.{◌-◌}
-use lib.ListN.{length}
 use Rattle.drawing.specs.Entries.{segment_columns}
 use Rattle.drawing.specs.Conditions.{unfit_segment}
-use Rattle.drawing.proofs.Scans.{SegmentsScanned, segments-none, segments_hit, segments_next, segments-all}
+use Rattle.drawing.proofs.Scans.{segments-none, segments_hit, segments_next, segments-all}
 use Rattle.list_checks.proofs.segments_unfit.Goals as goal
 
 pub loop-i-init : goal.loop-i-init

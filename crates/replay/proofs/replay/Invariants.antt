@@ -1,8 +1,5 @@
 -- `replay::replay` is safe and ends. The measure is the number of turns left; each turn counts at most one record. Assumes nothing.
-use native.Mathlib.Omega.{arith}
-use mathlib.Core.Logic.{⊎_elim}
 use Prim.Native.Nat.{◌+◌, ◌≤◌}
-use borrow.Author.Rules.{rules}
 use Rattle.replay.proofs.replay.Given as goal
 
 abbrev pub invariant-loop-left : goal.invariant-loop-left

@@ -1,5 +1,4 @@
 -- `drawing::ends::ends_in_order` meets its contract, end by end. Assumes nothing.
-use borrow.Author.Rules.{rules}
 use Rattle.drawing.proofs.ends.ends_in_order.Goals as goal
 
 pub returns : goal.returns

@@ -3,7 +3,6 @@ use mathlib.Core.Path.{sym, ap, ◌∙◌}
 use mathlib.Core.Bool.{not}
 use lib.Ieee.{of_bits}
 use Rattle.drawing.specs.Conditions.{unfit_extent}
-use borrow.Author.Rules.{rules}
 use Rattle.drawing.proofs.entry.extent_unfit.Goals as goal
 
 pub returns-then-not-is_finite : goal.returns-then-not-is_finite

@@ -1,7 +1,6 @@
 -- `drawing::entry::node_unfit` meets its contract: the horizontal axis decides, or the vertical one. Assumes nothing.
 use mathlib.Core.Path.{sym, ◌∙◌}
 use Rattle.drawing.specs.Conditions.{unfit_box}
-use borrow.Author.Rules.{rules}
 use Rattle.drawing.proofs.entry.node_unfit.Goals as goal
 
 pub returns-then-extent_unfit : goal.returns-then-extent_unfit

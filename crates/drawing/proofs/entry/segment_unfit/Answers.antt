@@ -6,7 +6,6 @@ use borrow.Author.Tests.{lt-ltb, le-ltb}
 use lib.Ieee.{Float}
 use Rattle.drawing.specs.declared.ends.Ends.{Ends}
 use Rattle.drawing.specs.Conditions.{unfit_fields}
-use borrow.Author.Rules.{rules}
 use Rattle.drawing.proofs.entry.segment_unfit.Goals as goal
 
 -- the ends that are tested are those of the definition

@@ -3,7 +3,6 @@ use mathlib.Core.Bool.{not}
 use mathlib.Core.Path.{sym, ap, ◌∙◌}
 use lib.Ieee.{of_bits}
 use Rattle.drawing.specs.Conditions.{unfit_threshold}
-use borrow.Author.Rules.{rules}
 use Rattle.drawing.proofs.entry.threshold_unfit.Goals as goal
 
 pub returns-then-not-is_finite : goal.returns-then-not-is_finite

@@ -2,7 +2,6 @@
 use mathlib.Core.Path.{ap}
 use Rattle.drawing.specs.declared.gap.Gap.TheVariants.{Present}
 use Rattle.drawing.specs.Gaps.{lesser_gap}
-use borrow.Author.Rules.{rules}
 use Rattle.drawing.proofs.gap.minimum_option.Goals as goal
 
 pub returns-in-Absent : goal.returns-in-Absent

@@ -1,7 +1,6 @@
 -- `drawing::refusal::number` meets its contract: case by case. Assumes nothing.
 use mathlib.Core.Path.{sym, ap}
 use Rattle.drawing.specs.Refusals.{number_of}
-use borrow.Author.Rules.{rules}
 use Rattle.drawing.proofs.refusal.number.Goals as goal
 
 pub returns-in-MalformedFile : goal.returns-in-MalformedFile

@@ -1,12 +1,11 @@
 -- `drawing::scratch::clear` meets its contract: after i turns the first i words are 0 and the others as they were. Assumes nothing.
 use mathlib.Core.Path.{◌≡◌, ◌∙◌}
-use mathlib.Core.List.{◌++◌, append-nil}
-use Prim.Native.Nat.{◌≤◌, ◌-◌}
+use mathlib.Core.List.{append-nil}
 use native.Mathlib.Omega.{arith}
 use borrow.Author.Rules.{rules}
 use borrow.Author.Fill.{fill_more}
 use lib.Seq.{drop-length}
-use lib.ListN.{length, drop, replicate, length-set}
+use lib.ListN.{length, length-set}
 use Rattle.drawing.proofs.scratch.clear.Goals as goal
 
 pub loop-i-preserved : goal.loop-i-preserved

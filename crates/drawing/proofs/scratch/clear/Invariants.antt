@@ -1,12 +1,8 @@
 -- `drawing::scratch::clear` meets its contract: after i turns the first i words are 0 and the others as they were. Assumes nothing.
-use mathlib.Core.Path.{◌≡◌, ◌∙◌}
-use mathlib.Core.List.{◌++◌, append-nil}
+use mathlib.Core.Path.{◌≡◌}
+use mathlib.Core.List.{◌++◌}
 use Prim.Native.Nat.{◌≤◌, ◌-◌}
-use native.Mathlib.Omega.{arith}
-use borrow.Author.Rules.{rules}
-use borrow.Author.Fill.{fill_more}
-use lib.Seq.{drop-length}
-use lib.ListN.{length, drop, replicate, length-set}
+use lib.ListN.{length, drop, replicate}
 use Rattle.drawing.proofs.scratch.clear.Given as goal
 
 abbrev pub invariant-loop-i : goal.invariant-loop-i

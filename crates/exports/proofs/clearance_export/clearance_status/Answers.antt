@@ -1,7 +1,6 @@
 -- `exports::clearance_export::clearance_status` meets its contract: case by case. Assumes nothing.
 use mathlib.Core.Path.{sym, ap, ◌∙◌}
 use Rattle.clearance.specs.Answer.{result_of}
-use borrow.Author.Rules.{rules}
 use Rattle.exports.proofs.clearance_export.clearance_status.Goals as goal
 
 pub returns-in-Report : goal.returns-in-Report

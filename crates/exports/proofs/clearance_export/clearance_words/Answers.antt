@@ -2,7 +2,6 @@
 use mathlib.Core.Path.{refl, sym, ap}
 use Rattle.clearance.specs.Answer.{result_of}
 use Rattle.exports.specs.Words.{present_word, bits_word, clearance_words}
-use borrow.Author.Rules.{rules}
 use Rattle.exports.proofs.clearance_export.clearance_words.Goals as goal
 
 pub returns-in_default : goal.returns-in_default

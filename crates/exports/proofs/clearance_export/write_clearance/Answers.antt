@@ -1,5 +1,4 @@
 -- `exports::clearance_export::write_clearance` meets its contract. Assumes nothing.
-use borrow.Author.Rules.{rules}
 use Rattle.exports.proofs.clearance_export.write_clearance.Goals as goal
 
 pub returns : goal.returns

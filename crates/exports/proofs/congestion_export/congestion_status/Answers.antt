@@ -1,7 +1,6 @@
 -- `exports::congestion_export::congestion_status` meets its contract: case by case. Assumes nothing.
 use mathlib.Core.Path.{sym, ap, ◌∙◌}
 use Rattle.congestion.specs.Answer.{result_of}
-use borrow.Author.Rules.{rules}
 use Rattle.exports.proofs.congestion_export.congestion_status.Goals as goal
 
 pub returns-in-Report : goal.returns-in-Report

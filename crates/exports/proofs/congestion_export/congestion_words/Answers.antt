@@ -3,7 +3,6 @@ use mathlib.Core.Path.{refl, sym, ap}
 use lib.Ieee.{to_bits}
 use Rattle.congestion.specs.Answer.{result_of}
 use Rattle.exports.specs.Words.{present_word, bits_word, congestion_words}
-use borrow.Author.Rules.{rules}
 use Rattle.exports.proofs.congestion_export.congestion_words.Goals as goal
 
 pub returns-in_default : goal.returns-in_default

@@ -1,5 +1,4 @@
 -- `exports::congestion_export::write_congestion` meets its contract. Assumes nothing.
-use borrow.Author.Rules.{rules}
 use Rattle.exports.proofs.congestion_export.write_congestion.Goals as goal
 
 pub returns : goal.returns

@@ -1,7 +1,6 @@
 -- `exports::gap::bits_word` meets its contract: case by case. Assumes nothing.
 use mathlib.Core.Path.{sym, ap, ◌∙◌}
 use Rattle.exports.specs.Words.{bits_word}
-use borrow.Author.Rules.{rules}
 use Rattle.exports.proofs.gap.bits_word.Goals as goal
 
 pub returns-in-Absent : goal.returns-in-Absent

@@ -1,7 +1,6 @@
 -- `exports::gap::present_word` meets its contract: case by case. Assumes nothing.
 use mathlib.Core.Path.{sym, ap}
 use Rattle.exports.specs.Words.{present_word}
-use borrow.Author.Rules.{rules}
 use Rattle.exports.proofs.gap.present_word.Goals as goal
 
 pub returns-in-Absent : goal.returns-in-Absent

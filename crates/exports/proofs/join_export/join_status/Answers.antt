@@ -1,7 +1,6 @@
 -- `exports::join_export::join_status` meets its contract: case by case. Assumes nothing.
 use mathlib.Core.Path.{sym, ap, ◌∙◌}
 use Rattle.joining.specs.Answer.{result_of}
-use borrow.Author.Rules.{rules}
 use Rattle.exports.proofs.join_export.join_status.Goals as goal
 
 pub returns-in-Joined : goal.returns-in-Joined

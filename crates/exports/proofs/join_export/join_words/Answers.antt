@@ -2,7 +2,6 @@
 use mathlib.Core.Path.{sym, ap}
 use Rattle.joining.specs.Answer.{result_of}
 use Rattle.exports.specs.Words.{join_words}
-use borrow.Author.Rules.{rules}
 use Rattle.exports.proofs.join_export.join_words.Goals as goal
 
 pub returns-in_default : goal.returns-in_default

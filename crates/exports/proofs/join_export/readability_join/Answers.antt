@@ -2,7 +2,6 @@
 use mathlib.Core.Path.{ap, ◌∙◌}
 use Rattle.joining.specs.Answer.{result_of}
 use Rattle.exports.specs.Words.{join_words}
-use borrow.Author.Rules.{rules}
 use Rattle.exports.proofs.join_export.readability_join.Goals as goal
 
 pub returns : goal.returns

@@ -2,7 +2,6 @@
 use mathlib.Core.Path.{ap, ◌∙◌}
 use Rattle.clearance.specs.Answer.{result_of}
 use Rattle.exports.specs.Words.{clearance_words}
-use borrow.Author.Rules.{rules}
 use Rattle.exports.proofs.records_export.readability_clearance_by_records.Goals as goal
 
 pub returns : goal.returns

@@ -1,7 +1,6 @@
 -- `exports::separation_export::separation_status` meets its contract: case by case. Assumes nothing.
 use mathlib.Core.Path.{sym, ap, ◌∙◌}
 use Rattle.separation.specs.Answer.{result_of}
-use borrow.Author.Rules.{rules}
 use Rattle.exports.proofs.separation_export.separation_status.Goals as goal
 
 pub returns-in-Report : goal.returns-in-Report

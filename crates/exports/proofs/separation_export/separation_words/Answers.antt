@@ -2,7 +2,6 @@
 use mathlib.Core.Path.{refl, sym, ap}
 use Rattle.separation.specs.Answer.{result_of}
 use Rattle.exports.specs.Words.{present_word, bits_word, separation_words}
-use borrow.Author.Rules.{rules}
 use Rattle.exports.proofs.separation_export.separation_words.Goals as goal
 
 pub returns-in_default : goal.returns-in_default

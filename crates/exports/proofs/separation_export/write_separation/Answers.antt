@@ -1,5 +1,4 @@
 -- `exports::separation_export::write_separation` meets its contract. Assumes nothing.
-use borrow.Author.Rules.{rules}
 use Rattle.exports.proofs.separation_export.write_separation.Goals as goal
 
 pub returns : goal.returns

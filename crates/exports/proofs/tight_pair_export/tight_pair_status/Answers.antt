@@ -1,7 +1,6 @@
 -- `exports::tight_pair_export::tight_pair_status` meets its contract: case by case. Assumes nothing.
 use mathlib.Core.Path.{sym, ap, ◌∙◌}
 use Rattle.tight_pair.specs.TightPair.{result_of}
-use borrow.Author.Rules.{rules}
 use Rattle.exports.proofs.tight_pair_export.tight_pair_status.Goals as goal
 
 pub returns-in-Pair : goal.returns-in-Pair

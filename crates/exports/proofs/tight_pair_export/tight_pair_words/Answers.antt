@@ -2,7 +2,6 @@
 use mathlib.Core.Path.{sym, ap}
 use Rattle.tight_pair.specs.TightPair.{result_of}
 use Rattle.exports.specs.Words.{pair_words}
-use borrow.Author.Rules.{rules}
 use Rattle.exports.proofs.tight_pair_export.tight_pair_words.Goals as goal
 
 pub returns-in-Pair : goal.returns-in-Pair

@@ -1,5 +1,5 @@
 -- `floats::total_order::float_of_key` meets its contract: the float of the key's pattern. Assumes nothing.
-use Rattle.std.proofs.Common.{ap, ◌∙◌, rules}
+use Rattle.std.proofs.Common.{ap, ◌∙◌}
 use lib.Ieee.{binary64, of_bits}
 use Rattle.floats.specs.TotalOrder.{float_at}
 use Rattle.floats.proofs.total_order.float_of_key.Goals as goal

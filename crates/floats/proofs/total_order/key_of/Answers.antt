@@ -1,5 +1,5 @@
 -- `floats::total_order::key_of` meets its contract: the key of its pattern. Assumes nothing.
-use Rattle.std.proofs.Common.{ap, ◌∙◌, rules}
+use Rattle.std.proofs.Common.{ap, ◌∙◌}
 use Rattle.floats.specs.TotalOrder.{key, key_of}
 use Rattle.floats.proofs.total_order.key_of.Goals as goal
 

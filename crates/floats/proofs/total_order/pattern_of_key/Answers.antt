@@ -1,5 +1,5 @@
 -- `floats::total_order::pattern_of_key` meets its contract. Assumes nothing.
-use Rattle.std.proofs.Common.{sym, rules}
+use Rattle.std.proofs.Common.{sym}
 use Rattle.floats.proofs.Keys.{pattern_low, pattern_high}
 use Rattle.floats.proofs.total_order.pattern_of_key.Goals as goal
 

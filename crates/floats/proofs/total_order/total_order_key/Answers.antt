@@ -1,5 +1,5 @@
 -- `floats::total_order::total_order_key` meets its contract. Assumes nothing.
-use Rattle.std.proofs.Common.{sym, rules}
+use Rattle.std.proofs.Common.{sym}
 use Rattle.floats.proofs.Keys.{key-low, key-high}
 use Rattle.floats.proofs.total_order.total_order_key.Goals as goal
 

@@ -1,5 +1,5 @@
 -- `floats::values::absolute` meets its contract. Assumes nothing.
-use Rattle.std.proofs.Common.{T, sym, ◌∙◌, subst, rules}
+use Rattle.std.proofs.Common.{T, sym, ◌∙◌, subst}
 use lib.Ieee.{binary64, of_bits}
 use Rattle.floats.proofs.Zeros.{abs-below, abs-other}
 use Rattle.floats.proofs.values.absolute.Goals as goal

@@ -1,6 +1,5 @@
 -- `key_ranges::range::cutoff_range` meets its contract: one search for each end. Assumes nothing.
 use native.Mathlib.Omega.{arith}
-use borrow.Author.Rules.{rules}
 use Rattle.key_ranges.proofs.KeySearch.{next_fits, reached}
 use Rattle.key_ranges.proofs.range.cutoff_range.Goals as goal
 

@@ -1,9 +1,7 @@
 -- `key_ranges::range::first_at_least` meets its contract: the keys before `at` are less than v. Assumes nothing.
 use Prim.Native.Nat.{◌-◌}
-use borrow.Author.Rules.{rules}
 use lib.ListN.{length}
 use Rattle.key_ranges.specs.Inner.Reach.{Ascending, Passed}
-use Rattle.key_ranges.proofs.KeySearch.{passed_up, bound_here, bound_end}
 use Rattle.key_ranges.proofs.range.first_at_least.Given as goal
 
 abbrev pub invariant-loop-at : goal.invariant-loop-at

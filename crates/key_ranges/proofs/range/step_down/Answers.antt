@@ -1,8 +1,5 @@
 -- `key_ranges::range::step_down` meets its contract: only `at` falls, and it stays within the keys. Assumes nothing.
-use Prim.Native.Nat.{◌≤◌}
 use native.Mathlib.Omega.{arith}
-use borrow.Author.Rules.{rules}
-use lib.ListN.{length}
 use Rattle.key_ranges.proofs.KeySearch.{passed_none, passed_down}
 use Rattle.key_ranges.proofs.range.step_down.Goals as goal
 

@@ -1,9 +1,7 @@
 -- `lines::line::unpack` meets its contract. Assumes nothing.
-use Prim.Native.Nat.{◌-◌, ◌≤◌}
-use mathlib.Core.Path.{◌≡◌, refl}
-use lib.ListN.{length}
+use mathlib.Core.Path.{refl}
 use borrow.Author.Rules.{rules}
-use Rattle.lines.proofs.Unpacking.{Unpacking, unpacking_none, unpacking_next, unpacking_all}
+use Rattle.lines.proofs.Unpacking.{unpacking_none, unpacking_next, unpacking_all}
 use Rattle.lines.proofs.line.unpack.Goals as goal
 
 pub loop-i-init : goal.loop-i-init

@@ -1,9 +1,8 @@
 -- `lines::line::unpack` meets its contract. Assumes nothing.
 use Prim.Native.Nat.{◌-◌, ◌≤◌}
-use mathlib.Core.Path.{◌≡◌, refl}
+use mathlib.Core.Path.{◌≡◌}
 use lib.ListN.{length}
-use borrow.Author.Rules.{rules}
-use Rattle.lines.proofs.Unpacking.{Unpacking, unpacking_none, unpacking_next, unpacking_all}
+use Rattle.lines.proofs.Unpacking.{Unpacking}
 use Rattle.lines.proofs.line.unpack.Given as goal
 
 abbrev pub invariant-loop-i : goal.invariant-loop-i

@@ -1,5 +1,4 @@
 -- `records::edge_node::edge_node_line` meets its contract: field by field. Assumes nothing.
-use borrow.Author.Rules.{rules}
 use Rattle.records.specs.Records.{of_edge_node}
 use Rattle.lines.specs.Inner.Lines.{entry_of}
 use Rattle.records.proofs.edge_node.edge_node_line.Goals as goal

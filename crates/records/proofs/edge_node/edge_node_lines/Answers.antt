@@ -1,5 +1,4 @@
 -- `records::edge_node::edge_node_lines` meets its contract. Assumes nothing.
-use Prim.Native.Nat.{◌-◌, ◌≤◌}
 use lib.ListN.{length-replicate}
 use borrow.Author.Rules.{rules}
 use mathlib.Core.Path.{ap, ◌∙◌}
@@ -8,7 +7,7 @@ use Rattle.lines.specs.declared.line.Line.{Line}
 use Rattle.records.specs.Records.{of_edge_node}
 use Rattle.records.specs.Inner.NoRecord.{no_edge_node}
 use Rattle.lines.specs.Inner.Lines.{entry_of}
-use Rattle.lines.proofs.Copying.{Copied, copied_none, copied_next}
+use Rattle.lines.proofs.Copying.{copied_none, copied_next}
 use Rattle.lines.proofs.UnpackCount.{copied_enough}
 use Rattle.records.proofs.edge_node.edge_node_lines.Goals as goal
 

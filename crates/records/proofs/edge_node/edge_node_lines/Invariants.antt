@@ -1,15 +1,8 @@
 -- `records::edge_node::edge_node_lines` meets its contract. Assumes nothing.
 use Prim.Native.Nat.{◌-◌, ◌≤◌}
-use lib.ListN.{length-replicate}
-use borrow.Author.Rules.{rules}
-use mathlib.Core.Path.{ap, ◌∙◌}
-use lib.Ieee.{binary64, of_bits}
-use Rattle.lines.specs.declared.line.Line.{Line}
 use Rattle.records.specs.Records.{of_edge_node}
-use Rattle.records.specs.Inner.NoRecord.{no_edge_node}
 use Rattle.lines.specs.Inner.Lines.{entry_of}
-use Rattle.lines.proofs.Copying.{Copied, copied_none, copied_next}
-use Rattle.lines.proofs.UnpackCount.{copied_enough}
+use Rattle.lines.proofs.Copying.{Copied}
 use Rattle.records.proofs.edge_node.edge_node_lines.Given as goal
 
 abbrev pub invariant-loop-i : goal.invariant-loop-i

@@ -1,7 +1,6 @@
 -- `records::edge_node::measure_edge_node_clearance_bounded_by_records` meets its contract: that of the lines it makes, which decide as the whole list does. Assumes nothing.
 use mathlib.Core.Path.{ap, ◌∙◌}
 use mathlib.Core.List.{map}
-use borrow.Author.Rules.{rules}
 use lib.ListN.{length}
 use Rattle.drawing.specs.Refusals.{first_of, scratch_after}
 use Rattle.drawing.specs.Entries.{node_columns, exemption_columns, columns_of}

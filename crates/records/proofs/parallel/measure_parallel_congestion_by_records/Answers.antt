@@ -1,7 +1,6 @@
 -- `records::parallel::measure_parallel_congestion_by_records` meets its contract: that of the lines it makes, which decide as the whole list does. Assumes nothing.
 use mathlib.Core.Path.{ap, ◌∙◌}
 use mathlib.Core.List.{map}
-use borrow.Author.Rules.{rules}
 use lib.ListN.{length}
 use Rattle.drawing.specs.Entries.{columns_of}
 use Rattle.drawing.specs.Refusals.{first_of, scratch_after}

@@ -1,5 +1,4 @@
 -- `records::parallel::parallel_line` meets its contract: field by field. Assumes nothing.
-use borrow.Author.Rules.{rules}
 use Rattle.records.specs.Records.{of_parallel}
 use Rattle.lines.specs.Inner.Lines.{entry_of}
 use Rattle.records.proofs.parallel.parallel_line.Goals as goal

@@ -1,8 +1,5 @@
 -- `rows::counts::count_oriented` meets its contract: byte by byte. Assumes nothing.
-use Prim.Native.Nat.{◌-◌}
-use borrow.Author.Rules.{rules}
-use lib.ListN.{length}
-use Rattle.rows.proofs.ToSweep.{Counted, counted_none, counted_hit, counted_miss, counted-all}
+use Rattle.rows.proofs.ToSweep.{counted_none, counted_hit, counted_miss, counted-all}
 use Rattle.rows.proofs.counts.count_oriented.Goals as goal
 use Rattle.rows.proofs.counts.count_oriented.Goals.{then-orientation-i, else-orientation-i}
 

@@ -1,9 +1,7 @@
 -- `rows::counts::count_oriented` meets its contract: byte by byte. Assumes nothing.
-use mathlib.Core.Logic.{⊎_elim}
 use Prim.Native.Nat.{◌-◌}
-use borrow.Author.Rules.{rules}
 use lib.ListN.{length}
-use Rattle.rows.proofs.ToSweep.{Counted, counted_none, counted_hit, counted_miss, counted-all}
+use Rattle.rows.proofs.ToSweep.{Counted}
 use Rattle.rows.proofs.counts.count_oriented.Given as goal
 
 abbrev pub invariant-loop-i : goal.invariant-loop-i

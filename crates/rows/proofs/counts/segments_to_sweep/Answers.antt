@@ -1,6 +1,5 @@
 -- `rows::counts::segments_to_sweep` meets its contract: a byte is counted for at most one orientation, so that the sum fits. Assumes nothing.
 use native.Mathlib.Omega.{arith}
-use borrow.Author.Rules.{rules}
 use Rattle.rows.proofs.ToSweep.{sum-few, sum_is}
 use Rattle.rows.proofs.counts.segments_to_sweep.Goals as goal
 

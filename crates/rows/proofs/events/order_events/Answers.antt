@@ -1,7 +1,6 @@
 -- `rows::events::order_events` meets its contract: all numbers are written at the front and sorted by their keys. Assumes nothing.
 use Prim.Native.Nat.{◌*◌, ◌≤◌}
 use native.Mathlib.Omega.{arith}
-use borrow.Author.Rules.{rules}
 use lib.ListN.{length}
 use Rattle.sorting.proofs.Entries.{front_filled}
 use Rattle.rows.proofs.EventTables.{events-refused, events_done}

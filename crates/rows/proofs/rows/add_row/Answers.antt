@@ -1,5 +1,4 @@
 -- `rows::rows::add_row` meets its contract: a segment of another orientation adds no row. Assumes nothing.
-use borrow.Author.Rules.{rules}
 use Rattle.drawing.specs.Entries.{as_taken}
 use Rattle.rows.proofs.RowTables.{row_passed, row_added}
 use Rattle.rows.proofs.rows.add_row.Goals as goal

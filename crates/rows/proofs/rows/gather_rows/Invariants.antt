@@ -1,10 +1,8 @@
 -- `rows::rows::gather_rows` meets its contract: after i turns the rows of the first i segments are gathered. Assumes nothing.
-use borrow.Author.Rules.{rules}
 use Prim.Native.Nat.{◌-◌}
-use native.Mathlib.Omega.{arith}
 use lib.ListN.{length}
 use Rattle.drawing.specs.Entries.{segment_columns}
-use Rattle.rows.proofs.RowTables.{Gathering, gather_none, gather_next, gather_all}
+use Rattle.rows.proofs.RowTables.{Gathering}
 use Rattle.rows.proofs.rows.gather_rows.Given as goal
 
 abbrev pub invariant-loop-i : goal.invariant-loop-i

@@ -1,7 +1,6 @@
 -- `rows::rows::order_rows` meets its contract: the rows are gathered, and their indices are sorted by them. Assumes nothing.
 use mathlib.Core.Path.{sym, ◌∙◌}
 use native.Mathlib.Omega.{arith}
-use borrow.Author.Rules.{rules}
 use Rattle.sorting.proofs.Entries.{front_filled}
 use Rattle.drawing.specs.Entries.{segment_columns}
 use Rattle.rows.proofs.RowTables.{to-order, unequal, short, rows_done}

@@ -1,8 +1,6 @@
 -- `rows::rows::spread_column` meets its contract: after j turns the first j words of the column are written. Assumes nothing.
-use borrow.Author.Rules.{rules}
-use Prim.Native.Nat.{◌-◌}
 use native.Mathlib.Omega.{arith}
-use Rattle.rows.proofs.SpreadTables.{Spreading, spread_start, spread_next, spread_end}
+use Rattle.rows.proofs.SpreadTables.{spread_start, spread_next, spread_end}
 use Rattle.rows.proofs.rows.spread_column.Goals as goal
 
 pub loop-j-init : goal.loop-j-init

@@ -1,8 +1,6 @@
 -- `rows::rows::spread_rows` meets its contract: a written column stays while those before it are written. Assumes nothing.
 use mathlib.Core.Path.{sym, ◌∙◌}
 use native.Mathlib.Omega.{arith}
-use borrow.Author.Rules.{rules}
-use borrow.Author.Tests.{not-true, not-false}
 use Rattle.rows.proofs.SpreadTables.{to_spread, no_columns, no_places, no_rows, not_spread, column_still, four_columns}
 use Rattle.rows.proofs.rows.spread_rows.Goals as goal
 

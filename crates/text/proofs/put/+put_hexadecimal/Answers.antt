@@ -1,6 +1,4 @@
 -- `text::put::put_hexadecimal` meets its contract. The measure is the number of digits. Assumes nothing.
-use Prim.Native.Nat.{ℕ, ◌<◌}
-use borrow.Author.Rules.{rules}
 use Rattle.text.proofs.DigitTexts.{hexadecimal-none, hexadecimal_more}
 use Rattle.text.proofs.put.+put_hexadecimal.Goals as goal
 

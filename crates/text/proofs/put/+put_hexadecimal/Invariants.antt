@@ -1,7 +1,3 @@
-use Rattle.std.proofs.Common.{◌≡◌, [], ◌∷◌, length, ℕ, ◌+◌, ◌-◌, ◌*◌, ◌<◌, ◌≤◌}
-use Rattle.text.specs.Text as Text
-use Rattle.text.specs.Inner.TextPut as TextPut
-use Rattle.text.specs.Inner.TextPut.{Put}
 use Rattle.text.proofs.put.+put_hexadecimal.Given as goal
 
 -- proposed from what the function passes where it calls itself

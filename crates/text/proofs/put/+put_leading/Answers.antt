@@ -1,6 +1,4 @@
 -- `text::put::put_leading` meets its contract. The measure is the number. Assumes nothing.
-use Prim.Native.Nat.{ℕ, ◌<◌}
-use borrow.Author.Rules.{rules}
 use Rattle.text.proofs.DigitTexts.{leading-none, leading_more}
 use Rattle.text.proofs.put.+put_leading.Goals as goal
 

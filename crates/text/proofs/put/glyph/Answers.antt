@@ -1,5 +1,4 @@
 -- `text::put::glyph` meets its contract: case by case. Assumes nothing.
-use borrow.Author.Rules.{rules}
 use borrow.Author.Tests.{lt-ltb, le-ltb}
 use Rattle.text.specs.Text.{glyph}
 use Rattle.text.proofs.put.glyph.Goals as goal

@@ -1,6 +1,5 @@
 -- `text::put::index_after` meets its contract: the sum, or the greatest index. Assumes nothing.
 use native.Mathlib.Omega.{arith}
-use borrow.Author.Rules.{rules}
 use Rattle.text.specs.Inner.TextPut.{index_after}
 use Rattle.text.proofs.put.index_after.Goals as goal
 

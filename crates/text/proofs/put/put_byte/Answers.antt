@@ -1,5 +1,4 @@
 -- `text::put::put_byte` meets its contract: the byte is stored, or left out past the buffer's end. Assumes nothing.
-use borrow.Author.Rules.{rules}
 use Rattle.text.proofs.TextPuts.{put_one, put_out}
 use Rattle.text.proofs.put.put_byte.Goals as goal
 

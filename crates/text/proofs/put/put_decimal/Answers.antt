@@ -2,7 +2,6 @@
 use native.Mathlib.Omega.{arith}
 use Rattle.text.proofs.TextPuts.{put-within, put_same}
 use Rattle.text.proofs.DigitTexts.{leading_wide, decimal-zero, decimal-leading}
-use borrow.Author.Rules.{rules}
 use Rattle.text.proofs.put.put_decimal.Goals as goal
 
 pub returns-then-n-eq0 : goal.returns-then-n-eq0

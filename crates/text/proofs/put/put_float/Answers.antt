@@ -2,7 +2,6 @@
 use mathlib.Core.Path.{ap}
 use Rattle.text.specs.Text.{float_text, hexadecimal}
 use Rattle.text.proofs.TextPuts.{put_same}
-use borrow.Author.Rules.{rules}
 use Rattle.text.proofs.put.put_float.Goals as goal
 
 pub returns : goal.returns

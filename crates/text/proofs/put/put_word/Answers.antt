@@ -1,8 +1,5 @@
 -- `text::put::put_word` meets its contract: after i turns the word's first i bytes are put. Assumes nothing.
-use Prim.Native.Nat.{◌-◌}
-use borrow.Author.Rules.{rules}
-use lib.ListN.{length}
-use Rattle.text.proofs.TextPuts.{put-length, Copied, copied_none, copied_next, copied_all}
+use Rattle.text.proofs.TextPuts.{put-length, copied_none, copied_next, copied_all}
 use Rattle.text.proofs.put.put_word.Goals as goal
 
 pub loop-i-init : goal.loop-i-init

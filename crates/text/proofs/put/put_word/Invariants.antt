@@ -1,8 +1,7 @@
 -- `text::put::put_word` meets its contract: after i turns the word's first i bytes are put. Assumes nothing.
 use Prim.Native.Nat.{◌-◌}
-use borrow.Author.Rules.{rules}
 use lib.ListN.{length}
-use Rattle.text.proofs.TextPuts.{put-length, Copied, copied_none, copied_next, copied_all}
+use Rattle.text.proofs.TextPuts.{Copied}
 use Rattle.text.proofs.put.put_word.Given as goal
 
 abbrev pub invariant-loop-i : goal.invariant-loop-i

@@ -1,6 +1,5 @@
 -- `boxes::aabb::Aabb::distance` meets its contract: the greater of the two axis gaps. Assumes nothing.
 use mathlib.Core.Path.{◌∙◌}
-use borrow.Author.Rules.{rules}
 use Rattle.floats.specs.Values.{greater_of}
 use Rattle.boxes.specs.Boxes.{distance}
 use Rattle.boxes.proofs.aabb.Aabb.distance.Goals as goal

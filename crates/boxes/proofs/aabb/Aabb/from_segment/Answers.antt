@@ -1,5 +1,4 @@
 -- `boxes::aabb::Aabb::from_segment` meets its contract, orientation by orientation. Assumes nothing.
-use borrow.Author.Rules.{rules}
 use Rattle.boxes.specs.Boxes.{from_segment}
 use Rattle.boxes.proofs.aabb.Aabb.from_segment.Goals as goal
 

@@ -1,5 +1,4 @@
 -- `boxes::aabb::Aabb::union` meets its contract, edge by edge. Assumes nothing.
-use borrow.Author.Rules.{rules}
 use Rattle.boxes.specs.Boxes.{union}
 use Rattle.boxes.proofs.aabb.Aabb.union.Goals as goal
 
