@@ -26,13 +26,8 @@ commit_of() (
   echo "$head${changes:+-dirty}"
 )
 
-# read_sheet PROGRAM FILE: sets `text` to the sheet that PROGRAM gives for FILE, which must not be '-'. It fails where the system reports an
-# error while FILE is read: PROGRAM takes an error for the end of the file, so that FILE is read by cat. That a file was cut short is
-# not seen. cat is stopped (141) where PROGRAM needs no more, also where the caller ignores that signal, as a service may.
+# read_sheet PROGRAM FILE: sets `text` to the sheet that PROGRAM gives for FILE. It fails where FILE cannot be opened, or the system reports
+# an error while PROGRAM reads it, which PROGRAM then prints. That a file was cut short is not seen.
 read_sheet() {
-  text=$(
-    env --default-signal=PIPE cat -- "$2" | "$1"
-    ended=${PIPESTATUS[*]}
-    [ "$ended" = '0 0' ] || [ "$ended" = '141 0' ]
-  ) && [[ $text == 'file refused '* || $text == clearance*separation*congestion* ]]
+  text=$("$1" <"$2") && [[ $text == 'file refused '* || $text == clearance*separation*congestion* ]]
 }
