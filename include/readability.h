@@ -1,6 +1,6 @@
 /*
- * Readability figures of a routed schematic: the functions that crates/exports
- * exports, for C99 and C++. Link target/staticlib/libexports.a (x86-64; no
+ * Readability figures of a routed schematic: the functions that crates/exports_c
+ * exports, for C99 and C++. Link target/staticlib/libexports.a (x86-64-v2; no
  * other library is needed but C's own). docs/CALLING.md shows how.
  *
  * VERSION. While the major number is 0, the minor number rises whenever a caller

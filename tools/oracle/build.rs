@@ -9,7 +9,7 @@ use std::{env, path::Path, process::ExitCode};
 
 const DEFAULT: &str = "../shared/docs/src/crates/schemweave/src/readability.rs";
 
-/// Where `rt staticlib exports` and `rt check sheet` write, from the project's
+/// Where tools/build-port puts the library and the program, from the project's
 /// root.
 const PORT: &str = "target/staticlib";
 const PROGRAM: &str = "target/bin/sheet";

@@ -1,6 +1,6 @@
 //! The functions of the port's library that this package calls.
 //!
-//! They say what `crates/exports` exports; only tests compare the two. A slice passes as a pointer and a length, an array as a pointer.
+//! They say what `crates/exports_c` exports; only tests compare the two. A slice passes as a pointer and a length, an array as a pointer.
 //!
 //! The program `tools/oracle` takes this file in too, so that its comparison of
 //! the port with the original calls the port by these declarations.

@@ -23,7 +23,7 @@ use crate::{
 };
 
 const PREFACE: &str = "\
-Rust: opt-level 3, one codegen unit. Port: -O3, one module. Both for x86-64 without extensions.
+Rust: opt-level 3, one codegen unit, x86-64 without extensions. Port: -O3, one module, x86-64-v2.
 The port's scratch is zero before each run; that it clears it is timed.";
 
 /// Prints for each measure, and for the tight pair and the join where there is no

@@ -2,7 +2,7 @@
 //! bytes of a drawing file.
 //!
 //! The declarations, those of the Rust package and those below, are those of
-//! `crates/exports`; nothing holds the two against each other but this
+//! `crates/exports_c`; nothing holds the two against each other but this
 //! comparison. A slice passes as a pointer and a length, an array as a pointer.
 
 use crate::{

@@ -19,7 +19,7 @@ use crate::{
     sheet,
 };
 
-/// The program, where `rt check sheet` writes it.
+/// The program, where tools/build-port puts it.
 const PROGRAM: &str = env!("SHEET_PROGRAM");
 
 /// What the lent buffer holds before a call: no byte of any sheet, so that
