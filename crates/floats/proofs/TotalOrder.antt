@@ -1,4 +1,4 @@
--- The order of the keys is totalOrder, and the comparison by keys is the comparison by total_order. Assumes nothing.
+-- The order of the keys is totalOrder, and the comparison by keys is the comparison by totalOrder. Assumes nothing.
 use Rattle.std.proofs.Common.{◌≡◌, ℕ, ◌+◌, ◌-◌, ◌%◌, ◌^◌, ◌<◌, ◌≤◌, Bool, true, false, cond, not, ◌&&◌, T, eqb, leb, ◌⊎◌, pos, sym, refl, ap, ◌∙◌, subst, inl, inr, le_of_eq, eq-or-lt_of_le, arith, le→leb, eqb→eq, ltb→lt, leb→le, nltb→le}
 use lib.Dec.{nleb→lt, not_T}
 use lib.Ieee.{Float, fin, binary64, size, lt, is_nan, nan_bits, of_bits, to_bits}

@@ -1,4 +1,4 @@
-// IEEE 754's totalOrder on bit patterns of binary64, and its key: a number whose order is total_order. SCOPE 1.3, 15.8.
+// IEEE 754's totalOrder on bit patterns of binary64, and its key: a number whose order is totalOrder. SCOPE 1.3, 15.8.
 ghost use Rattle.std.specs.Prelude.{◌≡◌};
 ghost use Rattle.floats.specs.TotalOrder as TotalOrder;
 ghost use Rattle.floats.specs.Inner.TotalOrder as InnerTotalOrder;
@@ -12,7 +12,7 @@ pub enum Ordering {
     Greater,
 }
 
-// The key of a bit pattern: its position in total_order.
+// The key of a bit pattern: its position in totalOrder.
 pub fn total_order_key(bits: u64) -> u64
     ensures { result ≡ TotalOrder.key bits }
 {

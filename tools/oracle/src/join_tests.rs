@@ -499,35 +499,55 @@ fn wrong_ports_are_seen() {
 /// Each of them is seen on a drawing's segments too.
 #[test]
 fn wrong_ports_are_seen_on_one_list() {
+    let neighbours = [(0.0, 1.0), (1.0 + f64::EPSILON, 2.0), (0.0, 1.0)];
+    wrong_ports_are_seen_on(&neighbours, &WRONG_PORTS[..WRONG_PORTS.len() - 1]);
+}
+
+/// So is the one that looks at no more than the entries before the last.
+#[test]
+fn every_wrong_port_is_seen_on_a_longer_list() {
     let neighbours = [
         (0.0, 1.0),
         (1.0 + f64::EPSILON, 2.0),
         (0.0, 1.0),
         (5.0, 6.0),
     ];
-    let list = on_one_line(&neighbours);
+    wrong_ports_are_seen_on(&neighbours, &WRONG_PORTS);
+}
+
+fn wrong_ports_are_seen_on(neighbours: &[(f64, f64)], ports: &[(&str, Join)]) {
+    let list = on_one_line(neighbours);
     assert_eq!(differences(&list, Random::new(1), Some(ours)), [""; 0]);
-    for (about, wrong) in WRONG_PORTS {
-        let found = differences(&list, Random::new(1), Some(wrong));
+    for (about, wrong) in ports {
+        let found = differences(&list, Random::new(1), Some(*wrong));
         assert!(!found.is_empty(), "a port that {about}");
     }
 }
 
-/// The joiners that the port is timed against.
+/// The joiner that the port is timed against.
 #[cfg(port)]
 #[test]
-fn the_plain_joiners_join_to_the_same_pieces() {
+fn the_plain_joiner_joins_to_the_same_pieces() {
+    joins_to_the_same_pieces(crate::plain_joiner::join);
+}
+
+/// And the one without checks.
+#[cfg(port)]
+#[test]
+fn the_unchecked_joiner_joins_to_the_same_pieces() {
+    joins_to_the_same_pieces(crate::plain_joiner::join_unchecked);
+}
+
+#[cfg(port)]
+fn joins_to_the_same_pieces(
+    plain: fn(&SegmentColumns, &mut SegmentColumns) -> Option<[usize; 2]>,
+) {
     for segments in fit_lists(2_000) {
         let columns = SegmentColumns::of(&segments);
         let pieces = joined(&segments);
-        for plain in [
-            crate::plain_joiner::join,
-            crate::plain_joiner::join_unchecked,
-        ] {
-            let mut to = SegmentColumns::of_words([pieces.len(); 5], || 0);
-            let counts = plain(&columns, &mut to);
-            assert_eq!(counts, Some([pieces.len(), segments.len() - pieces.len()]));
-            assert_eq!(to, SegmentColumns::of(&pieces));
-        }
+        let mut to = SegmentColumns::of_words([pieces.len(); 5], || 0);
+        let counts = plain(&columns, &mut to);
+        assert_eq!(counts, Some([pieces.len(), segments.len() - pieces.len()]));
+        assert_eq!(to, SegmentColumns::of(&pieces));
     }
 }

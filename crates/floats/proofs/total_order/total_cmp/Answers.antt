@@ -1,4 +1,4 @@
--- `floats::total_order::total_cmp` meets its contract: the order of the keys is total_order. Assumes nothing.
+-- `floats::total_order::total_cmp` meets its contract: the order of the keys is totalOrder. Assumes nothing.
 use Rattle.std.proofs.Common.{sym, arith}
 use Rattle.floats.proofs.TotalOrder.{less_of_keys, greater_of_keys, equal-of_keys}
 use Rattle.floats.proofs.total_order.total_cmp.Goals as goal
