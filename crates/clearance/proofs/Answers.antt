@@ -1,10 +1,10 @@
 -- A clearance call that meets no refusal before 7: its lists are fit, and its result depends on its allowance only through whether that reaches the visit count. Assumes nothing.
+use Rattle.std.specs.Prelude.{Ok, Err}
 use Rattle.std.proofs.Common.{◌≡◌, ℕ, Bool, true, false, cond, T, refl}
 use lib.Ieee.{Float, binary64, fits}
 use Rattle.laws.specs.Lists.{All}
 use Rattle.laws.specs.Charged.{reaches, settle}
 use Rattle.laws.proofs.ListLaws.{all_mem, mem_all, none-all}
-use Rattle.drawing.specs.declared.refusal.Check.TheVariants.{Passed}
 use Rattle.drawing.specs.declared.refusal.Refusal.TheVariants.{WorkLimitExceeded}
 use Rattle.drawing.specs.Entries.{SegmentColumns, NodeColumns, ExemptionColumns, segments, nodes, exemptions}
 use Rattle.drawing.specs.Refusals.{number_of, first_of}
@@ -13,7 +13,6 @@ use Rattle.drawing.specs.Checks.{list_conditions, entry_conditions}
 use Rattle.drawing.proofs.FirstRefusal.{passed_head}
 use Rattle.drawing.specs.Held.{SegmentHeld, NodeHeld, FitSegment}
 use Rattle.drawing.proofs.Fit.{FitNode, FitThreshold}
-use Rattle.clearance.specs.declared.report.ClearanceAnswer.TheVariants.{Refused}
 use Rattle.clearance.specs.Conditions.{clearance_conditions}
 use Rattle.clearance.specs.Figures.{Figures}
 use Rattle.clearance.specs.Answer.{report_of, accepted, all_pairs, clearance_answer, zeros, result_of}
@@ -31,7 +30,7 @@ pub record FitCall (s : SegmentColumns) (n : NodeColumns) (t : Float) : Type 0 w
   pub threshold-fit : FitThreshold t
 
 abbrev pub passes : SegmentColumns → NodeColumns → ExemptionColumns → Float → ℕ → Type 0
-passes s n e t words = first_of (clearance_conditions s n e t words) ≡ Passed
+passes s n e t words = first_of (clearance_conditions s n e t words) ≡ (Ok tt)
 
 pub fit_call : (s : SegmentColumns) (n : NodeColumns) (e : ExemptionColumns) (t : Float) (words : ℕ) → Lent s n t → passes s n e t words → FitCall s n t
 unfolding clearance_conditions list_conditions entry_conditions
@@ -54,6 +53,6 @@ pub result_settles : (s : SegmentColumns) (n : NodeColumns) (e : ExemptionColumn
 unfolding clearance_answer settle result_of accepted number_of
 result_settles s n e t allowance words h = let c = all_pairs (exemptions e) (λ net. t) (segments s) (nodes n) in rw h (go (reaches allowance c) c.value c.cost)
   where
-    go : (b : Bool) (g : Figures) (count : ℕ) → result_of (cond b (accepted g count) (Refused WorkLimitExceeded)) ≡ cond b (0, report_of g count) (7, zeros)
+    go : (b : Bool) (g : Figures) (count : ℕ) → result_of (cond b (accepted g count) (Err WorkLimitExceeded)) ≡ cond b (0, report_of g count) (7, zeros)
     go true g count = refl
     go false g count = refl

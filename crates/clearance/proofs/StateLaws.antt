@@ -1,20 +1,17 @@
 -- The visit of a pair, the order of two halves, and the answer of a call from the state of a walk. Assumes nothing.
+use Rattle.drawing.specs.declared.refusal.Refusal.{Refusal}
+use Rattle.std.specs.Prelude.{Option, Some, Result, Ok, Err}
 use Rattle.std.proofs.Common.{◌≡◌, ℕ, suc, ◌+◌, ◌-◌, ◌%◌, ◌^◌, ◌<◌, Bool, true, false, sym, ap, ◌∙◌, mod-eq_of_lt, arith}
 use lib.Ieee.{Float, lt}
 use Rattle.laws.specs.Lists.{bit}
 use Rattle.laws.specs.Charged.{free, visit}
 use Rattle.laws.specs.Inner.Allowance.{left, within, reply}
 use Rattle.laws.proofs.Runs.{within-free, visit-spent, visit-paid}
-use Rattle.drawing.specs.declared.gap.Gap.{Gap}
-use Rattle.drawing.specs.declared.gap.Gap.TheVariants.{Present}
 use Rattle.drawing.specs.declared.refusal.Refusal.TheVariants.{WorkLimitExceeded}
 use Rattle.drawing.specs.Gaps.{lesser_gap}
 use Rattle.drawing.specs.Inner.LeastFloats.{Number, gap_of_float, least_with}
 use Rattle.drawing.proofs.LeastFloatLaws.{least-joined}
-use Rattle.clearance.specs.declared.report.ClearanceAnswer.TheVariants.{Report, Refused}
 use Rattle.clearance.specs.declared.visit.Walking.{Walking}
-use Rattle.clearance.specs.declared.visit.Walked.{Walked}
-use Rattle.clearance.specs.declared.visit.Walked.TheVariants.{Spent, Went}
 use Rattle.clearance.specs.declared.halves.Subtree.{Subtree}
 use Rattle.clearance.specs.Figures.{Figures}
 use Rattle.clearance.specs.Walk.{with_pair}
@@ -22,7 +19,7 @@ use Rattle.clearance.specs.Answer.{accepted}
 use Rattle.clearance.specs.Inner.State.{so_far, outcome_of, nearer_first, Answers}
 
 -- ---- the visit of a pair, as the code returns it
-pub visit_stopped : (m : ℕ) (g : Figures) → m ≡ 0 → outcome_of Spent ≡ within m (visit (free g))
+pub visit_stopped : (m : ℕ) (g : Figures) → m ≡ 0 → outcome_of (Err WorkLimitExceeded) ≡ within m (visit (free g))
 unfolding outcome_of
 visit_stopped m g e = sym (rw e (visit-spent (free g)))
 
@@ -30,19 +27,19 @@ visit-went : (m : ℕ) (g : Figures) → (m ≡ 0 → ⊥) → left g (m - 1) �
 visit-went m g e = let x : m ≡ suc (m - 1) = omega arith in sym (ap (λ (z : ℕ). within z (visit (free g))) x ∙ visit-paid (m - 1) (free g) ∙ within-free (m - 1) g)
 
 module _ (w : Walking) (b : Bool) (t d : Float) (paid : w.remaining ≡ 0 → ⊥) where
-  pub visit_passed : b ≡ true → outcome_of (Went (record { least = w.least; violations = w.violations; remaining = w.remaining - 1 })) ≡ within w.remaining (visit (free (with_pair b t d (so_far w))))
+  pub visit_passed : b ≡ true → outcome_of (Ok (record { least = w.least; violations = w.violations; remaining = w.remaining - 1 })) ≡ within w.remaining (visit (free (with_pair b t d (so_far w))))
   unfolding with_pair outcome_of
   visit_passed e = rw e (visit-went w.remaining (so_far w) paid)
 
-  visit-counted : b ≡ false → (v : ℕ) → v ≡ w.violations + bit (lt d t) → (x : Float) → x ≡ least_with w.least d → Number d → outcome_of (Went (record { least = x; violations = v; remaining = w.remaining - 1 })) ≡ within w.remaining (visit (free (with_pair b t d (so_far w))))
+  visit-counted : b ≡ false → (v : ℕ) → v ≡ w.violations + bit (lt d t) → (x : Float) → x ≡ least_with w.least d → Number d → outcome_of (Ok (record { least = x; violations = v; remaining = w.remaining - 1 })) ≡ within w.remaining (visit (free (with_pair b t d (so_far w))))
   unfolding with_pair outcome_of
-  visit-counted e v f x h num = let k : gap_of_float x ≡ lesser_gap (gap_of_float w.least) (Present d) = ap gap_of_float h ∙ least-joined w.least d num in rw (e, f, k) (visit-went w.remaining (with_pair false t d (so_far w)) paid)
+  visit-counted e v f x h num = let k : gap_of_float x ≡ lesser_gap (gap_of_float w.least) (Some d) = ap gap_of_float h ∙ least-joined w.least d num in rw (e, f, k) (visit-went w.remaining (with_pair false t d (so_far w)) paid)
 
   -- one violation more, as long as the count does not wrap
-  pub visit-below : b ≡ false → lt d t ≡ true → w.violations + w.remaining < 2 ^ 64 → (v : ℕ) → v ≡ (w.violations + 1) % 2 ^ 64 → (x : Float) → x ≡ least_with w.least d → Number d → outcome_of (Went (record { least = x; violations = v; remaining = w.remaining - 1 })) ≡ within w.remaining (visit (free (with_pair b t d (so_far w))))
+  pub visit-below : b ≡ false → lt d t ≡ true → w.violations + w.remaining < 2 ^ 64 → (v : ℕ) → v ≡ (w.violations + 1) % 2 ^ 64 → (x : Float) → x ≡ least_with w.least d → Number d → outcome_of (Ok (record { least = x; violations = v; remaining = w.remaining - 1 })) ≡ within w.remaining (visit (free (with_pair b t d (so_far w))))
   visit-below e f room v wraps = visit-counted e v (wraps ∙ mod-eq_of_lt (omega arith) ∙ rw f)
 
-  pub visit_clear : b ≡ false → lt d t ≡ false → (x : Float) → x ≡ least_with w.least d → Number d → outcome_of (Went (record { least = x; violations = w.violations; remaining = w.remaining - 1 })) ≡ within w.remaining (visit (free (with_pair b t d (so_far w))))
+  pub visit_clear : b ≡ false → lt d t ≡ false → (x : Float) → x ≡ least_with w.least d → Number d → outcome_of (Ok (record { least = x; violations = w.violations; remaining = w.remaining - 1 })) ≡ within w.remaining (visit (free (with_pair b t d (so_far w))))
   visit_clear e f = visit-counted e w.violations (rw f (omega arith))
 
 -- ---- the order of two halves, as the code returns it
@@ -56,10 +53,10 @@ module _ (l r : Subtree) where
   left-first e = rw e
 
 -- ---- the answer from what the walks returned
-pub answers-spent : (r : Walked) (allowance : ℕ) → r ≡ Spent → Answers r allowance (Refused WorkLimitExceeded)
+pub answers-spent : (r : (Result Walking Refusal)) (allowance : ℕ) → r ≡ (Err WorkLimitExceeded) → Answers r allowance (Err WorkLimitExceeded)
 unfolding outcome_of reply
 answers-spent r allowance h = rw h
 
-pub answers-went : (r : Walked) (allowance : ℕ) (w : Walking) → r ≡ Went w → (g : Gap) → g ≡ gap_of_float w.least → (n : ℕ) → n ≡ allowance - w.remaining → Answers r allowance (Report (record { minimum_clearance = g; violations = w.violations; visits = n }))
+pub answers-went : (r : (Result Walking Refusal)) (allowance : ℕ) (w : Walking) → r ≡ Ok w → (g : (Option Float)) → g ≡ gap_of_float w.least → (n : ℕ) → n ≡ allowance - w.remaining → Answers r allowance (Ok (record { minimum_clearance = g; violations = w.violations; visits = n }))
 unfolding outcome_of reply accepted
 answers-went r allowance w h g e n f = rw (h, e, f)

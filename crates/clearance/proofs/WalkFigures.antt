@@ -1,4 +1,5 @@
 -- The walk of one segment over a tree adds the distances of that segment's pairs, and a pruned part has none that would change the figures. Assumes nothing.
+use Rattle.std.specs.Prelude.{Option, Some}
 use Rattle.std.proofs.Common.{◌≡◌, ℕ, ◌+◌, ◌≤◌, Bool, true, false, not, leb, List, [], ◌∷◌, ◌++◌, sym, refl, ap, ◌∙◌, inl, inr, append_assoc, append-nil, le_trans, le_refl, add-zero, add_assoc, arith, ltb-false, le-ltb}
 use mathlib.Core.Option.{Option, none, some}
 use lib.Ieee.{Float, binary64, lt}
@@ -14,7 +15,6 @@ use Rattle.laws.proofs.Leasts.{IsLeast, is-least, least-same}
 use Rattle.floats.specs.TotalOrder.{key_of}
 use Rattle.floats.proofs.Rank.{mag, rank, Num, lt_rank}
 use Rattle.floats.proofs.Gaps.{Good, good_rank, good_lt}
-use Rattle.drawing.specs.declared.gap.Gap.TheVariants.{Present}
 use Rattle.drawing.specs.Entries.{Segment, Exemption}
 use Rattle.drawing.specs.Gaps.{gap_from, least_gap, lesser_gap}
 use Rattle.drawing.proofs.GapLaws.{gaps_ranked, least-one, least_join, least-gap-perm}
@@ -54,7 +54,7 @@ onwards_pair : (t d : Float) (seen : List Float) (v : ℕ) → All Good seen →
 unfolding with_pair fold
 onwards_pair t d seen v p q true = sym (onwards_none t seen v)
 onwards_pair t d seen v p q false =
-    let a : lesser_gap (least_gap seen) (Present d) ≡ least_gap (seen ++ d ∷ []) = sym (least_join seen (d ∷ []) p (q, tt) ∙ ap (lesser_gap (least_gap seen)) (least-one d)) in
+    let a : lesser_gap (least_gap seen) (Some d) ≡ least_gap (seen ++ d ∷ []) = sym (least_join seen (d ∷ []) p (q, tt) ∙ ap (lesser_gap (least_gap seen)) (least-one d)) in
     let b : v + bit (lt d t) ≡ v + (bit (lt d t) + 0) = omega arith in
     λ i. record { least = a i; violations = b i }
 

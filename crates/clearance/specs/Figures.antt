@@ -1,8 +1,7 @@
 -- The clearance figures over all pairs of a segment and a node (SCOPE 3.1 to 3.6).
-use Rattle.std.specs.Prelude.{ℕ, Bool, not, ◌&&◌, List, ◌==◌, Float}
+use Rattle.std.specs.Prelude.{ℕ, Bool, not, ◌&&◌, List, ◌==◌, Float, Option}
 use Rattle.std.specs.Float.Ieee.{lt}
 use Rattle.laws.specs.Lists.{some_of, chosen, count, cross}
-use Rattle.drawing.specs.declared.gap.Gap.{Gap}
 use Rattle.drawing.specs.Entries.{Segment, Node, Exemption}
 use Rattle.drawing.specs.Gaps.{least_gap}
 use Rattle.boxes.specs.Boxes.{node_box, segment_box, distance}
@@ -27,7 +26,7 @@ unfoldable pub violates : List Exemption → (ℕ → Float) → Segment × Node
 violates ex threshold p = not_exempt ex p && lt (pair_distance p) (threshold p.0.net)
 
 pub record Figures : Type 0 where
-  pub least : Gap
+  pub least : (Option Float)
   pub violations : ℕ
 
 -- SCOPE 3.5, 3.6: "least distance .., absent if there is none", and the number of violations

@@ -1,15 +1,14 @@
 // What a call answers, from what its walks returned.
 ghost use Rattle.clearance.specs.Inner.State.{Answers};
 
-use crate::report::{ClearanceAnswer, EdgeNodeClearance};
-use crate::visit::Walked;
+use crate::report::EdgeNodeClearance;
 use drawing::{Refusal, gap_of_float, visits_used};
 
-pub fn answer_of(walked: Walked, allowance: usize) -> ClearanceAnswer
+pub fn answer_of(walked: Result<Walking, Refusal>, allowance: usize) -> Result<EdgeNodeClearance, Refusal>
     ensures { Answers walked allowance result }
 {
-    let Walked::Went(state) = walked else {
-        return ClearanceAnswer::Refused(Refusal::WorkLimitExceeded);
+    let Ok(state) = walked else {
+        return Err(Refusal::WorkLimitExceeded);
     };
     let least = gap_of_float(state.least);
     let visits = visits_used(allowance, state.remaining);
@@ -18,5 +17,5 @@ pub fn answer_of(walked: Walked, allowance: usize) -> ClearanceAnswer
         violations: state.violations,
         visits: visits,
     };
-    ClearanceAnswer::Report(report)
+    Ok(report)
 }

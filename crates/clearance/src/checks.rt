@@ -4,7 +4,7 @@ ghost use Rattle.drawing.specs.Refusals.{first_of};
 ghost use Rattle.drawing.specs.Entries.{segment_columns, node_columns, exemption_columns};
 ghost use Rattle.clearance.specs.Conditions.{clearance_conditions};
 
-use drawing::{Check, Refusal, threshold_unfit};
+use drawing::{Refusal, threshold_unfit};
 use list_checks::{check_entries, check_lists, short_scratch};
 
 // The checks of the lists, the scratch of the given number of words, the entries and the threshold.
@@ -23,7 +23,7 @@ pub fn check_clearance(
     exempt_node: &[u32],
     threshold: f64,
     words: usize,
-) -> Check
+) -> Result<(), Refusal>
     ensures { result ≡ first_of (clearance_conditions (segment_columns net.now orientation.now fixed.now start.now end.now) (node_columns id.now x.now y.now width.now height.now) (exemption_columns exempt_net.now exempt_node.now) threshold words) }
 {
     let first = check_lists(
@@ -40,18 +40,18 @@ pub fn check_clearance(
         exempt_net,
         exempt_node,
     );
-    let Check::Passed = first else {
+    let Ok(()) = first else {
         return first;
     };
     if short_scratch(words, net.len(), id.len()) {
-        return Check::Refused(Refusal::ShortScratch);
+        return Err(Refusal::ShortScratch);
     }
     let second = check_entries(net, orientation, fixed, start, end, id, x, y, width, height);
-    let Check::Passed = second else {
+    let Ok(()) = second else {
         return second;
     };
     if threshold_unfit(threshold) {
-        return Check::Refused(Refusal::InvalidInput);
+        return Err(Refusal::InvalidInput);
     }
-    Check::Passed
+    Ok(())
 }

@@ -13,5 +13,5 @@ pub use answer::answer_of;
 pub use checks::check_clearance;
 pub use halves::{Halves, Subtree, nearer_first};
 pub use pruning::{clearance_subtree_can_contribute, edges_below};
-pub use report::{ClearanceAnswer, EdgeNodeClearance};
-pub use visit::{Walked, Walking, at_start, visit_pair};
+pub use report::EdgeNodeClearance;
+pub use visit::{Walking, at_start, visit_pair};

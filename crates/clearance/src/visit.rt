@@ -36,11 +36,11 @@ pub fn at_start(allowance: usize) -> Walking
 }
 
 // The visit of a pair at the given distance: charged first, then counted unless the pair is exempt (SCOPE 5.7). The walk passes distances of boxes, which are numbers, and states whose violations and remaining visits together fit a word, so no count wraps.
-pub fn visit_pair(exempt: bool, distance: f64, threshold: f64, state: Walking) -> Walked
+pub fn visit_pair(exempt: bool, distance: f64, threshold: f64, state: Walking) -> Result<Walking, Refusal>
     ensures { Number distance → state.violations + state.remaining < 2 ^ 64 → outcome_of result ≡ within state.remaining (visit (free (with_pair exempt threshold distance (so_far state)))) }
 {
     if state.remaining == 0 {
-        return Walked::Spent;
+        return Err(Refusal::WorkLimitExceeded);
     }
     let remaining = state.remaining - 1;
     let charged = Walking {
@@ -49,18 +49,18 @@ pub fn visit_pair(exempt: bool, distance: f64, threshold: f64, state: Walking) -
         remaining: remaining,
     };
     if exempt {
-        return Walked::Went(charged);
+        return Ok(charged);
     }
     let least = least_with(state.least, distance);
     if distance < threshold {
         let violations = wrapping_add_usize(state.violations, 1);
-        Walked::Went(Walking {
+        Ok(Walking {
             violations: violations,
             least: least,
             remaining: remaining,
         })
     } else {
-        Walked::Went(Walking {
+        Ok(Walking {
             violations: state.violations,
             least: least,
             remaining: remaining,

@@ -1,4 +1,7 @@
 -- The visits of the leaves of a part, one after another: the loop, step by step; and that they are the part's walk where its farthest edges are below the threshold. Assumes nothing.
+use Rattle.drawing.specs.declared.refusal.Refusal.TheVariants.{WorkLimitExceeded}
+use Rattle.drawing.specs.declared.refusal.Refusal.{Refusal}
+use Rattle.std.specs.Prelude.{Result, Ok, Err}
 use mathlib.Core.Path.{◌≡◌, sym, ap, subst, ◌∙◌}
 use mathlib.Core.Bool.{Bool, true}
 use mathlib.Core.List.{List, ◌∷◌}
@@ -19,8 +22,6 @@ use Rattle.boxes.specs.Inner.Fitting.{FitBox}
 use Rattle.boxes.proofs.BoxLaws.{within_self}
 use Rattle.boxes.proofs.AnyBoxes.{any_distance_good}
 use Rattle.clearance.specs.declared.visit.Walking.{Walking}
-use Rattle.clearance.specs.declared.visit.Walked.{Walked}
-use Rattle.clearance.specs.declared.visit.Walked.TheVariants.{Spent, Went}
 use Rattle.clearance.specs.Figures.{Figures, exempt}
 use Rattle.clearance.specs.Tree.{bounds_of}
 use Rattle.clearance_call.specs.Inner.Stored.{box_at, leaf_at, stored_tree, leaves_from}
@@ -62,7 +63,7 @@ module _ (t : Float) (w : List ℕ) (i n : ℕ) (p : Aabb) (marks groups : List 
     onwards = λ ex net l. let e : i + n - i ≡ n = omega arith in record { come = ap (λ (z : ℕ). within from.remaining (runs (leaf_visit ex t net p) (so_far from) (leaves_from w i z))) e };
   }
 
-  module _ (state : Walking) (j : ℕ) (u : Visiting state j) (less : j < i + n) (b : Aabb) (box : b ≡ box_at w (9 * j)) (d : Float) (e : d ≡ distance p b) (r : Walked)
+  module _ (state : Walking) (j : ℕ) (u : Visiting state j) (less : j < i + n) (b : Aabb) (box : b ≡ box_at w (9 * j)) (d : Float) (e : d ≡ distance p b) (r : (Result Walking Refusal))
       (h : outcome_of r ≡ within state.remaining (visit (free (with_pair (member marks (get_or groups j 0)) t d (so_far state))))) where
     now_visited : (ex : List Exemption) (net : ℕ) → MarksOf marks groups w ex net → outcome_of r ≡ within state.remaining (leaf_visit ex t net p (so_far state) (leaf_at w j))
     now_visited ex net l = by_mark marks groups w ex net l j (omega (arith, u.part.inside)) t d state.remaining (so_far state) (outcome_of r) h ∙ ap (λ (z : Float). within state.remaining (visit (free (with_pair (exempt ex net (leaf_at w j).id) t z (so_far state))))) (e ∙ ap (distance p) box)
@@ -74,11 +75,11 @@ module _ (t : Float) (w : List ℕ) (i n : ℕ) (p : Aabb) (marks groups : List 
         let place : suc j ≡ j + 1 = omega arith in
         ap (leaves_from w j) more ∙ ap (λ (z : ℕ). leaf_at w j ∷ leaves_from w z (i + n - (j + 1))) place
 
-    pub visiting_stopped : r ≡ Spent → (ex : List Exemption) (net : ℕ) → MarksOf marks groups w ex net → outcome_of Spent ≡ whole ex net
+    pub visiting_stopped : r ≡ (Err WorkLimitExceeded) → (ex : List Exemption) (net : ℕ) → MarksOf marks groups w ex net → outcome_of (Err WorkLimitExceeded) ≡ whole ex net
     unfolding outcome_of
     visiting_stopped x ex net l = sym (loop_stops (u.onwards ex net l) next (sym (ap outcome_of (sym x) ∙ now_visited ex net l)))
 
-    pub visiting_next : NetMarks marks groups w → (v : Walking) → r ≡ Went v → Visiting v (j + 1)
+    pub visiting_next : NetMarks marks groups w → (v : Walking) → r ≡ Ok v → Visiting v (j + 1)
     unfolding outcome_of
     visiting_next some v x = record {
       part = u.part;
@@ -88,7 +89,7 @@ module _ (t : Float) (w : List ℕ) (i n : ℕ) (p : Aabb) (marks groups : List 
       onwards = λ ex net l. loop_next (u.onwards ex net l) next (sym (ap outcome_of (sym x) ∙ now_visited ex net l));
     }
 
-  pub visiting_all : (state : Walking) (j : ℕ) → Visiting state j → i + n ≤ j → (ex : List Exemption) (net : ℕ) → MarksOf marks groups w ex net → outcome_of (Went state) ≡ whole ex net
+  pub visiting_all : (state : Walking) (j : ℕ) → Visiting state j → i + n ≤ j → (ex : List Exemption) (net : ℕ) → MarksOf marks groups w ex net → outcome_of (Ok state) ≡ whole ex net
   unfolding outcome_of leaves_from
   visiting_all state j u h ex net l = let e : i + n - j ≡ 0 = omega arith in sym (loop_ends (u.onwards ex net l) (ap (leaves_from w j) e))
 
@@ -113,7 +114,7 @@ number-gap nan h = tt
 number-gap (inf s) h = (h, tt)
 number-gap (fin s m e) h = (h, tt)
 
-pub walks_unpruned : (ex : List Exemption) (t : Float) (w : List ℕ) (i n : ℕ) (p : Aabb) (net : ℕ) (st : Walking) (r : Walked) → T (fits binary64 st.least) → ((k : ℕ) → n ≤ k → TreeBelow p t (stored_tree k w i n))
+pub walks_unpruned : (ex : List Exemption) (t : Float) (w : List ℕ) (i n : ℕ) (p : Aabb) (net : ℕ) (st : Walking) (r : (Result Walking Refusal)) → T (fits binary64 st.least) → ((k : ℕ) → n ≤ k → TreeBelow p t (stored_tree k w i n))
     → outcome_of r ≡ within st.remaining (runs (leaf_visit ex t net p) (so_far st) (leaves_from w i n)) → Walks ex t w i n p net st r
 walks_unpruned ex t w i n p net st r h below e s on of k q =
     e

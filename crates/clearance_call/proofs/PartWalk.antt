@@ -1,4 +1,7 @@
 -- The walk of the part that is next and then of the parts that wait, the last one first, is the rest of the whole walk: the loop, step by step. Assumes nothing.
+use Rattle.drawing.specs.declared.refusal.Refusal.TheVariants.{WorkLimitExceeded}
+use Rattle.drawing.specs.declared.refusal.Refusal.{Refusal}
+use Rattle.std.specs.Prelude.{Result, Ok, Err}
 use mathlib.Core.Path.{◌≡◌, refl, sym, ap, subst, ◌∙◌}
 use mathlib.Core.Logic.{inl, inr}
 use mathlib.Core.Bool.{true}
@@ -22,8 +25,6 @@ use Rattle.clearance.specs.declared.halves.Subtree.{Subtree}
 use Rattle.clearance.specs.declared.halves.Halves.{Halves}
 use Rattle.clearance_call.specs.declared.walk.Step.{Step}
 use Rattle.clearance_call.specs.declared.walk.Step.TheVariants.{Stopped, Done, Split}
-use Rattle.clearance.specs.declared.visit.Walked.{Walked}
-use Rattle.clearance.specs.declared.visit.Walked.TheVariants.{Spent, Went}
 use Rattle.boxes.specs.Boxes.{segment_box}
 use Rattle.clearance.specs.Figures.{Figures}
 use Rattle.clearance.specs.Tree.{Tree}
@@ -37,9 +38,9 @@ use Rattle.clearance_call.proofs.NestedTrees.{stored_same}
 use Rattle.clearance_call.proofs.StoredWalk.{onward_stopped, onward-went, next_room, half_walkable}
 
 -- the step at a part whose leaves were visited
-pub steps-visited : (ex : List Exemption) (t : Float) (w : List ℕ) (p : Aabb) (net : ℕ) (part : Subtree) (state : Walking) (r : Walked) (q : Step) → q ≡ step_of r → Walks ex t w part.first part.count p net state r → Steps ex t w p net part state q
-steps-visited ex t w p net part state Spent q e h = rw e h
-steps-visited ex t w p net part state (Went v) q e h = rw e h
+pub steps-visited : (ex : List Exemption) (t : Float) (w : List ℕ) (p : Aabb) (net : ℕ) (part : Subtree) (state : Walking) (r : (Result Walking Refusal)) (q : Step) → q ≡ step_of r → Walks ex t w part.first part.count p net state r → Steps ex t w p net part state q
+steps-visited ex t w p net part state (Err WorkLimitExceeded) q e h = rw e h
+steps-visited ex t w p net part state (Ok v) q e h = rw e h
 
 -- ---- how many parts wait: a half has at most half of the leaves, rounded up, so after j halvings a part has at most 2 ^ (12 - j)
 half_power : (j : ℕ) → j < 12 → 2 ^ (12 - j) ≡ 2 * 2 ^ (12 - (j + 1))
@@ -140,7 +141,7 @@ module _ (t : Float) (w : List ℕ) (p : Aabb) where
     }
 
     -- what the whole walk returns, for every bound of the tree's depth
-    answers : (r : Walked) → ((ex : List Exemption) (s : Segment) → MarksOf marks groups w ex s.net → segment_box s ≡ p → outcome_of r ≡ within from.remaining (walk ex t s (tree whole) (so_far from)))
+    answers : (r : (Result Walking Refusal)) → ((ex : List Exemption) (s : Segment) → MarksOf marks groups w ex s.net → segment_box s ≡ p → outcome_of r ≡ within from.remaining (walk ex t s (tree whole) (so_far from)))
         → (ex : List Exemption) (net : ℕ) → MarksOf marks groups w ex net → Walks ex t w whole.first whole.count p net from r
     answers r h ex net l s on of k q = h ex s (rw of l) on ∙ ap (λ (z : Tree). within from.remaining (walk ex t s z (so_far from))) (stored_same whole.count k w whole.first whole.count (le_refl whole.count) q)
 
@@ -150,16 +151,16 @@ module _ (t : Float) (w : List ℕ) (p : Aabb) where
           → onward (within state.remaining (walk ex t s (tree part) (so_far state))) (λ g m. within m (rest_walk ex s l top g)) ≡ within from.remaining (walk ex t s (tree whole) (so_far from))
       onward-rest-walk ex s k on = sym (within-after state.remaining (walk ex t s (tree part) (so_far state)) (λ f. rest_walk ex s l top f)) ∙ u.onwards ex s k on
 
-      pub underway_stopped : q ≡ Stopped → (ex : List Exemption) (net : ℕ) → MarksOf marks groups w ex net → Walks ex t w whole.first whole.count p net from Spent
-      underway_stopped e = answers Spent (λ ex s k on. onward_stopped _ _ Spent refl ((rw e at h ex s.net k) s on refl part.count (le_refl part.count)) ∙ onward-rest-walk ex s k on)
+      pub underway_stopped : q ≡ Stopped → (ex : List Exemption) (net : ℕ) → MarksOf marks groups w ex net → Walks ex t w whole.first whole.count p net from (Err WorkLimitExceeded)
+      underway_stopped e = answers (Err WorkLimitExceeded) (λ ex s k on. onward_stopped _ _ (Err WorkLimitExceeded) refl ((rw e at h ex s.net k) s on refl part.count (le_refl part.count)) ∙ onward-rest-walk ex s k on)
 
       module _ (v : Walking) (e : q ≡ Done v) where
         went : (ex : List Exemption) (s : Segment) → MarksOf marks groups w ex s.net → segment_box s ≡ p → within v.remaining (rest_walk ex s l top (so_far v)) ≡ within from.remaining (walk ex t s (tree whole) (so_far from))
-        went ex s k on = onward-went _ (λ g m. within m (rest_walk ex s l top g)) (Went v) v refl ((rw e at h ex s.net k) s on refl part.count (le_refl part.count)) ∙ onward-rest-walk ex s k on
+        went ex s k on = onward-went _ (λ g m. within m (rest_walk ex s l top g)) (Ok v) v refl ((rw e at h ex s.net k) s on refl part.count (le_refl part.count)) ∙ onward-rest-walk ex s k on
 
-        pub underway_done : top ≡ 0 → (ex : List Exemption) (net : ℕ) → MarksOf marks groups w ex net → Walks ex t w whole.first whole.count p net from (Went v)
+        pub underway_done : top ≡ 0 → (ex : List Exemption) (net : ℕ) → MarksOf marks groups w ex net → Walks ex t w whole.first whole.count p net from (Ok v)
         unfolding rest_walk outcome_of
-        underway_done z = answers (Went v) (λ ex s k on. sym (ap (λ (y : ℕ). within v.remaining (rest_walk ex s l y (so_far v))) z ∙ within-free v.remaining (so_far v)) ∙ went ex s k on)
+        underway_done z = answers (Ok v) (λ ex s k on. sym (ap (λ (y : ℕ). within v.remaining (rest_walk ex s l y (so_far v))) z ∙ within-free v.remaining (so_far v)) ∙ went ex s k on)
 
         -- the last of the waiting parts is the next part
         module _ (j : ℕ) (z : top ≡ suc j) (next : Subtree) (x : next ≡ get_or l j no_part) where
@@ -167,7 +168,7 @@ module _ (t : Float) (w : List ℕ) (p : Aabb) where
           unfolding rest_walk
           underway_next some =
               let y = u.waits j (omega arith) in
-              let room = next_room some.ex t u.ready some.net (Went v) (rw e at h some.ex some.net some.marked) v refl in
+              let room = next_room some.ex t u.ready some.net (Ok v) (rw e at h some.ex some.net some.marked) v refl in
               rw x
               (record {
                 ready = record { part = y.part; near = y.near; room = omega (arith, u.ready.room, room); segment = u.ready.segment; box = u.ready.box; fit = u.ready.fit; nested = y.nested };

@@ -1,4 +1,5 @@
 -- Where every box of a tree is nearer than the threshold nothing is pruned, whatever the least distance is: the walk visits each leaf once, and equals the visits of the leaves from left to right. Assumes nothing.
+use Rattle.std.specs.Prelude.{Option, Some, None}
 use mathlib.Core.Path.{◌≡◌, refl, sym, ap, ◌∙◌}
 use mathlib.Core.Logic.{inl, inr}
 use mathlib.Core.Bool.{Bool, true, false}
@@ -19,8 +20,6 @@ use Rattle.floats.specs.TotalOrder.{key_of}
 use Rattle.floats.proofs.Rank.{rank, Num, lt_rank}
 use Rattle.floats.proofs.Gaps.{Good}
 use Rattle.floats.proofs.Extremes.{lesser, picked}
-use Rattle.drawing.specs.declared.gap.Gap.{Gap}
-use Rattle.drawing.specs.declared.gap.Gap.TheVariants.{Absent, Present}
 use Rattle.drawing.specs.Entries.{Segment, Exemption}
 use Rattle.drawing.specs.Gaps.{lesser_gap}
 use Rattle.boxes.specs.declared.aabb.Aabb.{Aabb}
@@ -58,19 +57,19 @@ module _ (x a b : Float) (p : Num binary64 x) (q : Good a) (r : Good b) where
   ]
 
 -- a least distance that is absent or a number
-abbrev pub NumberGap : Gap → Type 0
-NumberGap Absent = Unit {0}
-NumberGap (Present x) = Num binary64 x
+abbrev pub NumberGap : (Option Float) → Type 0
+NumberGap None = Unit {0}
+NumberGap (Some x) = Num binary64 x
 
-gap-turn : (g : Gap) (a b : Float) → NumberGap g → Good a → Good b → lesser_gap (lesser_gap g (Present a)) (Present b) ≡ lesser_gap (lesser_gap g (Present b)) (Present a)
+gap-turn : (g : (Option Float)) (a b : Float) → NumberGap g → Good a → Good b → lesser_gap (lesser_gap g (Some a)) (Some b) ≡ lesser_gap (lesser_gap g (Some b)) (Some a)
 unfolding lesser_gap
-gap-turn Absent a b p q r = ap Present (lesser.comm a b q r)
-gap-turn (Present x) a b p q r = ap Present (lesser-turn x a b p q r)
+gap-turn None a b p q r = ap Some (lesser.comm a b q r)
+gap-turn (Some x) a b p q r = ap Some (lesser-turn x a b p q r)
 
-gap-number : (g : Gap) (a : Float) → NumberGap g → Good a → NumberGap (lesser_gap g (Present a))
+gap-number : (g : (Option Float)) (a : Float) → NumberGap g → Good a → NumberGap (lesser_gap g (Some a))
 unfolding lesser_gap lesser_of
-gap-number Absent a p q = q.num
-gap-number (Present x) a p q = picked (Num binary64) (lt a x) x a p q.num
+gap-number None a p q = q.num
+gap-number (Some x) a p q = picked (Num binary64) (lt a x) x a p q.num
 
 -- ---- two pairs more, in either order
 pair_turn : (t c d : Float) → Good c → Good d → (g : Figures) → NumberGap g.least → (e f : Bool) → with_pair f t d (with_pair e t c g) ≡ with_pair e t c (with_pair f t d g)
@@ -113,10 +112,10 @@ module _ (ex : List Exemption) (t : Float) (net : ℕ) (p : Aabb) where
   runs-perm (via q r) g h = runs-perm q g h ∙ runs-perm r g h
 
 -- ---- the walk
-below-contributes : (d t : Float) (g : Gap) → lt d t ≡ true → contributes d t g ≡ true
+below-contributes : (d t : Float) (g : (Option Float)) → lt d t ≡ true → contributes d t g ≡ true
 unfolding contributes
-below-contributes d t Absent e = refl
-below-contributes d t (Present x) e = or_left (lt d t) (lt d x) e
+below-contributes d t None e = refl
+below-contributes d t (Some x) e = or_left (lt d t) (lt d x) e
 
 module _ (ex : List Exemption) (t : Float) (s : Segment) where
   abbrev run : Figures → List IndexedNode → Charged Figures

@@ -1,4 +1,7 @@
 -- The walks of all segments, one after another: the loop, step by step. Assumes nothing.
+use Rattle.drawing.specs.declared.refusal.Refusal.TheVariants.{WorkLimitExceeded}
+use Rattle.drawing.specs.declared.refusal.Refusal.{Refusal}
+use Rattle.std.specs.Prelude.{Result, Ok, Err}
 use mathlib.Core.Path.{◌≡◌, refl, sym, ap, subst, ◌∙◌}
 use mathlib.Core.List.{List, ◌∷◌, map}
 use Prim.Native.Nat.{ℕ, ◌+◌, ◌-◌, ◌≤◌, ◌<◌, ◌^◌}
@@ -15,8 +18,6 @@ use Rattle.drawing.specs.Inner.Entries.{segment_at}
 use Rattle.drawing.specs.Inner.LeastFloats.{gap_of_float}
 use Rattle.boxes.specs.declared.aabb.Aabb.{Aabb}
 use Rattle.clearance.specs.declared.visit.Walking.{Walking}
-use Rattle.clearance.specs.declared.visit.Walked.{Walked}
-use Rattle.clearance.specs.declared.visit.Walked.TheVariants.{Spent, Went}
 use Rattle.boxes.specs.Boxes.{segment_box, distance}
 use Rattle.boxes.specs.Inner.Fitting.{FitBox}
 use Rattle.clearance.specs.Figures.{Figures}
@@ -66,16 +67,16 @@ module _ (t : ℕ → Float) (w : List ℕ) (m : ℕ) (order packed groups : Lis
   unfolding gap_of_float
   turned_none p h state e v l marks long = record { turns = p; room = omega arith; below = omega arith; long = long; low = omega arith; stand = λ ex a b h. absurd (omega arith); onwards = λ ex a b. record { come = λ i. within (l i) (runs (step ex) (record { least = gap_of_float (e i); violations = v i }) (rest 0)) } }
 
-  module _ (state : Walking) (marks : List ℕ) (used marked q : ℕ) (u : Turned state marks used marked q) (less : q < length c.net) (r : Walked)
+  module _ (state : Walking) (marks : List ℕ) (used marked q : ℕ) (u : Turned state marks used marked q) (less : q < length c.net) (r : (Result Walking Refusal))
       (e : (ex : List Exemption) → Holds packed ex → length ex ≡ k → outcome_of r ≡ within state.remaining (walk ex (t (segment_at c (get_or order q 0)).net) (segment_at c (get_or order q 0)) (stored_tree m w 0 m) (so_far state))) where
     next : rest q ≡ segment_at c (get_or order q 0) ∷ rest (q + 1)
     next = table_next 0 (segment_at c) (length c.net) order u.turns.inside (rest 0) refl q less
 
-    pub turned_stopped : r ≡ Spent → (ex : List Exemption) → Holds packed ex → length ex ≡ k → outcome_of Spent ≡ within allowance (all_walks ex t w m order c)
+    pub turned_stopped : r ≡ (Err WorkLimitExceeded) → (ex : List Exemption) → Holds packed ex → length ex ≡ k → outcome_of (Err WorkLimitExceeded) ≡ within allowance (all_walks ex t w m order c)
     unfolding outcome_of
     turned_stopped x ex a b = sym (loop_stops (u.onwards ex a b) next (sym (ap outcome_of (sym x) ∙ e ex a b)))
 
-    pub turned_next : HoldsCount packed k → (after : List ℕ) (n net : ℕ) → length after ≡ 64 → n ≤ 64 → ((ex : List Exemption) → Holds packed ex → length ex ≡ k → MarksOf (take n after) groups w ex net) → (v : Walking) → r ≡ Went v → Turned v after n net (q + 1)
+    pub turned_next : HoldsCount packed k → (after : List ℕ) (n net : ℕ) → length after ≡ 64 → n ≤ 64 → ((ex : List Exemption) → Holds packed ex → length ex ≡ k → MarksOf (take n after) groups w ex net) → (v : Walking) → r ≡ Ok v → Turned v after n net (q + 1)
     unfolding outcome_of
     turned_next held after n net long low fresh v x = record {
       turns = u.turns;
@@ -87,6 +88,6 @@ module _ (t : ℕ → Float) (w : List ℕ) (m : ℕ) (order packed groups : Lis
       onwards = λ ex a b. loop_next (u.onwards ex a b) next (sym (ap outcome_of (sym x) ∙ e ex a b));
     }
 
-  pub turned_all : (state : Walking) (marks : List ℕ) (used marked q : ℕ) → Turned state marks used marked q → length c.net ≤ q → (ex : List Exemption) → Holds packed ex → length ex ≡ k → outcome_of (Went state) ≡ within allowance (all_walks ex t w m order c)
+  pub turned_all : (state : Walking) (marks : List ℕ) (used marked q : ℕ) → Turned state marks used marked q → length c.net ≤ q → (ex : List Exemption) → Holds packed ex → length ex ≡ k → outcome_of (Ok state) ≡ within allowance (all_walks ex t w m order c)
   unfolding outcome_of
   turned_all state marks used marked q u h ex a b = sym (loop_ends (u.onwards ex a b) (table_none 0 (segment_at c) (length c.net) order u.turns.inside (rest 0) refl q h))

@@ -1,4 +1,5 @@
 -- A call whose checks have passed: what is known of its lists, what the scratch holds, and that the walks in it are the definition's. Assumes nothing.
+use Rattle.std.specs.Prelude.{Result, Ok, Err}
 use mathlib.Core.Path.{◌≡◌, refl, sym, ap, subst, ◌∙◌}
 use mathlib.Core.Bool.{false}
 use mathlib.Core.List.{List, [], ◌∷◌, ◌++◌, map, map-map}
@@ -20,8 +21,6 @@ use Rattle.laws.proofs.Parts.{tail_lent, part_same}
 use Rattle.laws.proofs.Runs.{within-free}
 use Rattle.sorting.specs.Inner.Sorted.{up_to}
 use Rattle.sorting.proofs.Entries.{length-up_to, up_to-placed}
-use Rattle.drawing.specs.declared.refusal.Check.{Check}
-use Rattle.drawing.specs.declared.refusal.Check.TheVariants.{Refused as Stopped}
 use Rattle.drawing.specs.declared.refusal.Refusal.{Refusal}
 use Rattle.drawing.specs.declared.refusal.Refusal.TheVariants.{WorkLimitExceeded}
 use Rattle.drawing.specs.Refusals.{first_of}
@@ -35,10 +34,6 @@ use Rattle.drawing.proofs.EntryLaws.{length-segments, length-nodes, segments-at,
 use Rattle.drawing.proofs.FirstRefusal.{passed_head, few, segments-agree, nodes-agree}
 use Rattle.drawing.specs.Held.{NodeHeld, FitSegment}
 use Rattle.clearance.specs.declared.visit.Walking.{Walking}
-use Rattle.clearance.specs.declared.visit.Walked.{Walked}
-use Rattle.clearance.specs.declared.visit.Walked.TheVariants.{Went}
-use Rattle.clearance.specs.declared.report.ClearanceAnswer.{ClearanceAnswer}
-use Rattle.clearance.specs.declared.report.ClearanceAnswer.TheVariants.{Refused}
 use Rattle.clearance.specs.Conditions.{clearance_conditions}
 use Rattle.clearance.specs.Figures.{Figures}
 use Rattle.clearance.specs.Tree.{indexed, Tree, empty, build, tree_of}
@@ -108,7 +103,7 @@ unfolding tree_of build
 no_tree ns h = ap (λ (k : ℕ). build k (map indexed (nodes_in_order ns))) h
 
 pub walked_none : (ex : List Exemption) (t : ℕ → Float) (ss : List Segment) (n : NodeColumns) → NodesAgree n → length n.id ≡ 0 → (allowance : ℕ) (state : Walking) → state ≡ at_start allowance
-    → outcome_of (Went state) ≡ within allowance (walk_all ex t ss (nodes n))
+    → outcome_of (Ok state) ≡ within allowance (walk_all ex t ss (nodes n))
 unfolding gap_of_float outcome_of walk_all
 walked_none ex t ss n a h allowance state e =
     let tree = no_tree (nodes n) (length-nodes n a ∙ h) in
@@ -120,7 +115,7 @@ no_entries [] h = refl
 no_entries (x ∷ l) h = absurd (omega arith)
 
 pub walked_no_segment : (ex : List Exemption) (t : ℕ → Float) (s : SegmentColumns) (ns : List Node) → SegmentsAgree s → length s.net ≡ 0 → (allowance : ℕ) (state : Walking) → state ≡ at_start allowance
-    → outcome_of (Went state) ≡ within allowance (walk_all ex t (segments s) ns)
+    → outcome_of (Ok state) ≡ within allowance (walk_all ex t (segments s) ns)
 unfolding gap_of_float outcome_of walk_all segments_in_order sort_by runs
 walked_no_segment ex t s ns a h allowance state e =
     let none = no_entries (segments s) (length-segments s a ∙ h) in
@@ -222,7 +217,7 @@ module _ (s : SegmentColumns) (n : NodeColumns) (e : ExemptionColumns) (words : 
         let e = length-nodes n z.nodes in
         subst Nested (sym (ap (λ (l : List ℕ). stored_tree m l 0 m) tree-words ∙ grown_tree n g z.nodes f w)) (nested-tree (nodes n) (omega arith) f)
 
-    pub walked_all : (t : ℕ → Float) (packed p₀ : List ℕ) → Gathered e p₀ packed → All FitSegment (segments s) → All FitNode (nodes n) → TreeStored n g → (allowance : ℕ) (r : Walked)
+    pub walked_all : (t : ℕ → Float) (packed p₀ : List ℕ) → Gathered e p₀ packed → All FitSegment (segments s) → All FitNode (nodes n) → TreeStored n g → (allowance : ℕ) (r : (Result Walking Refusal))
         → ((ex : List Exemption) → Holds packed ex → length ex ≡ length e.net → outcome_of r ≡ within allowance (all_walks ex t tree m (mid_of 0 (length s₂ - 0) s₂) s))
         → outcome_of r ≡ within allowance (walk_all (exemptions e) t (segments s) (nodes n))
     walked_all t packed p₀ gathered fs f w allowance r h =
@@ -237,13 +232,13 @@ pub held_of : (e : ExemptionColumns) (p₀ packed : List ℕ) → Gathered e p�
 held_of e p₀ packed g = record { ex = exemptions e; holds = g.holds; count = g.count }
 
 -- ---- the call
-pub refused-answer : (s : SegmentColumns) (n : NodeColumns) (e : ExemptionColumns) (t : Float) (allowance words : ℕ) (c : Check) (r : Refusal) → c ≡ first_of (clearance_conditions s n e t words) → c ≡ Stopped r → Refused r ≡ clearance_answer s n e t allowance words
+pub refused-answer : (s : SegmentColumns) (n : NodeColumns) (e : ExemptionColumns) (t : Float) (allowance words : ℕ) (c : (Result Unit Refusal)) (r : Refusal) → c ≡ first_of (clearance_conditions s n e t words) → c ≡ Err r → Err r ≡ clearance_answer s n e t allowance words
 unfolding clearance_answer
 refused-answer s n e t allowance words c r h g = sym (rw (sym h ∙ g))
 
-pub passed_answer : (s : SegmentColumns) (n : NodeColumns) (e : ExemptionColumns) (t : Float) (allowance words : ℕ) → passes s n e t words → Lent s n t → (w : Walked) → outcome_of w ≡ within allowance (walk_all (exemptions e) (λ net. t) (segments s) (nodes n))
-    → (a : ClearanceAnswer) → Answers w allowance a → a ≡ clearance_answer s n e t allowance words
+pub passed_answer : (s : SegmentColumns) (n : NodeColumns) (e : ExemptionColumns) (t : Float) (allowance words : ℕ) → passes s n e t words → Lent s n t → (w : (Result Walking Refusal)) → outcome_of w ≡ within allowance (walk_all (exemptions e) (λ net. t) (segments s) (nodes n))
+    → (a : (Result EdgeNodeClearance Refusal)) → Answers w allowance a → a ≡ clearance_answer s n e t allowance words
 unfolding clearance_answer
 passed_answer s n e t allowance words p lent w h a k =
     let f = fit_call s n e t words lent p in
-    rw p (k ∙ ap (reply accepted (Refused WorkLimitExceeded) allowance) h ∙ reply-within (exemptions e) (λ net. t) (segments s) (nodes n) (λ net. f.threshold-fit) f.segments-fit f.nodes-fit allowance)
+    rw p (k ∙ ap (reply accepted (Err WorkLimitExceeded) allowance) h ∙ reply-within (exemptions e) (λ net. t) (segments s) (nodes n) (λ net. f.threshold-fit) f.segments-fit f.nodes-fit allowance)

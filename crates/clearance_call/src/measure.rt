@@ -1,7 +1,6 @@
 // The clearance measure by columns (SCOPE 6.1).
-ghost use Rattle.std.specs.Prelude.{◌≡◌, length};
+ghost use Rattle.std.specs.Prelude.{◌≡◌, length, Ok};
 ghost use Rattle.laws.specs.Inner.Allowance.{within};
-ghost use Rattle.drawing.specs.declared.refusal.Check.TheVariants.{Passed};
 ghost use Rattle.drawing.specs.Refusals.{first_of, scratch_after};
 ghost use Rattle.drawing.specs.Entries.{segment_columns, node_columns, exemption_columns, segments, nodes, exemptions};
 ghost use Rattle.drawing.specs.Held.{Binary64, SegmentsHeld, NodesHeld};
@@ -13,8 +12,8 @@ ghost use Rattle.clearance.specs.Answer.{clearance_answer};
 use crate::prepare::prepare_nodes;
 use crate::tables::order_segments;
 use crate::walk_all::walk_all;
-use clearance::{ClearanceAnswer, Walked, answer_of, at_start, check_clearance};
-use drawing::{Check, clear};
+use clearance::{answer_of, at_start, check_clearance};
+use drawing::clear;
 use exemptions::gather;
 
 // The walks of all segments of a fit drawing. Without segments or without nodes there are no pairs, and nothing is put in order. Otherwise the scratch holds 6 words for each segment, for their order, then 20 for each node, for the tree and the groups of its leaves.
@@ -34,16 +33,16 @@ fn walk_segments(
     threshold: f64,
     allowance: usize,
     scratch: &mut [u64],
-) -> Walked
-    requires { first_of (clearance_conditions (segment_columns net.now orientation.now fixed.now start.now end.now) (node_columns id.now x.now y.now width.now height.now) (exemption_columns exempt_net.now exempt_node.now) threshold (length scratch.old)) ≡ Passed }
+) -> Result<Walking, Refusal>
+    requires { first_of (clearance_conditions (segment_columns net.now orientation.now fixed.now start.now end.now) (node_columns id.now x.now y.now width.now height.now) (exemption_columns exempt_net.now exempt_node.now) threshold (length scratch.old)) ≡ (Ok tt) }
     ensures { outcome_of result ≡ within allowance (walk_all (exemptions (exemption_columns exempt_net.now exempt_node.now)) (λ _. threshold) (segments (segment_columns net.now orientation.now fixed.now start.now end.now)) (nodes (node_columns id.now x.now y.now width.now height.now))) }
 {
     if net.len() == 0 {
-        return Walked::Went(at_start(allowance));
+        return Ok(at_start(allowance));
     }
     let m = id.len();
     if m == 0 {
-        return Walked::Went(at_start(allowance));
+        return Ok(at_start(allowance));
     }
     let mut packed = [0; 4096];
     gather(&mut packed, exempt_net, exempt_node);
@@ -86,7 +85,7 @@ pub fn measure_edge_node_clearance_bounded(
     threshold: f64,
     allowance: usize,
     scratch: &mut [u64],
-) -> ClearanceAnswer
+) -> Result<EdgeNodeClearance, Refusal>
     ensures { let lent_segments = segment_columns net.now orientation.now fixed.now start.now end.now in
         let lent_nodes = node_columns id.now x.now y.now width.now height.now in
         let lent_exemptions = exemption_columns exempt_net.now exempt_node.now in
@@ -94,7 +93,7 @@ pub fn measure_edge_node_clearance_bounded(
         let refusal = first_of (clearance_conditions lent_segments lent_nodes lent_exemptions threshold words) in
         (result ≡ clearance_answer lent_segments lent_nodes lent_exemptions threshold allowance words)
         × (scratch.new ≡ scratch_after refusal scratch.old)
-        × (refusal ≡ Passed → SegmentsHeld lent_segments × NodesHeld lent_nodes × Binary64 threshold) }
+        × (refusal ≡ (Ok tt) → SegmentsHeld lent_segments × NodesHeld lent_nodes × Binary64 threshold) }
 {
     let words = scratch.len();
     let check = check_clearance(
@@ -113,8 +112,8 @@ pub fn measure_edge_node_clearance_bounded(
         threshold,
         words,
     );
-    if let Check::Refused(why) = check {
-        return ClearanceAnswer::Refused(why);
+    if let Err(why) = check {
+        return Err(why);
     }
     let walked = walk_segments(
         net,

@@ -17,10 +17,7 @@ ghost use Rattle.clearance_call.specs.Inner.Marks.{MarksOf};
 use crate::marks::is_marked;
 use crate::stored::fit_box_from;
 use boxes::Aabb;
-use clearance::{
-    Halves, Subtree, Walked, Walking, clearance_subtree_can_contribute, edges_below, nearer_first,
-    visit_pair,
-};
+use clearance::{Halves, Subtree, Walking, clearance_subtree_can_contribute, edges_below, nearer_first, visit_pair};
 
 // The box around the n leaves from leaf i on.
 pub(crate) fn bounds_of(words: &[u64], i: usize, n: usize) -> Aabb
@@ -43,7 +40,7 @@ fn visit_leaf(
     distance: f64,
     threshold: f64,
     state: Walking,
-) -> Walked
+) -> Result<Walking, Refusal>
     requires i_in_bounds { i < length groups.now }
     requires number { Number distance }
     requires remaining_bound { state.violations + state.remaining < 2 ^ 64 }
@@ -51,7 +48,7 @@ fn visit_leaf(
 {
     // `visit_pair` tests this too. With the test before the mark is read, the compiler bounds the loop over leaves by the remaining visits, so the test costs nothing there.
     if state.remaining == 0 {
-        return Walked::Spent;
+        return Err(Refusal::WorkLimitExceeded);
     }
     // Each branch calls with a constant: with the mark itself as an argument, `visit_pair` would test it once more.
     if is_marked(marks, groups, i) {
@@ -105,7 +102,7 @@ fn visit_leaves(
     marks: &[u64],
     groups: &[u64],
     start: Walking,
-) -> Walked
+) -> Result<Walking, Refusal>
     requires part { Part words.now i n }
     requires net_marks { NetMarks marks.now groups.now words.now }
     requires remaining_bound { start.violations + start.remaining < 2 ^ 64 }
@@ -117,13 +114,13 @@ fn visit_leaves(
     while j < i + n {
         let distance = bounds.distance(fit_box_from(words, 9 * j));
         let walked = visit_leaf(marks, groups, j, distance, threshold, state);
-        let Walked::Went(next) = walked else {
-            return Walked::Spent;
+        let Ok(next) = walked else {
+            return Err(Refusal::WorkLimitExceeded);
         };
         state = next;
         j += 1;
     }
-    Walked::Went(state)
+    Ok(state)
 }
 
 // The outcome of the step at a part: the walk stops, or the part is done, or its halves are to be walked.
@@ -135,10 +132,10 @@ enum Step {
 }
 
 // The step at a part whose leaves were visited: the part is done, or the walk stopped there.
-fn step_of(walked: Walked) -> Step
+fn step_of(walked: Result<Walking, Refusal>) -> Step
     ensures { result ≡ step_of walked }
 {
-    let Walked::Went(state) = walked else {
+    let Ok(state) = walked else {
         return Step::Stopped;
     };
     Step::Done(state)
@@ -192,7 +189,7 @@ pub(crate) fn visit_segment_candidates(
     marks: &[u64],
     groups: &[u64],
     start: Walking,
-) -> Walked
+) -> Result<Walking, Refusal>
     requires walkable { Walkable words.now whole.first whole.count whole.lower bounds start × (whole.count ≤ 4096) }
     requires net_marks { NetMarks marks.now groups.now words.now }
     ensures { (ex : List Exemption) (net : ℕ) → MarksOf marks.now groups.now words.now ex net → Walks ex threshold words.now whole.first whole.count bounds net start result }
@@ -215,7 +212,7 @@ pub(crate) fn visit_segment_candidates(
         );
         match step {
             Step::Stopped => {
-                return Walked::Spent;
+                return Err(Refusal::WorkLimitExceeded);
             }
             Step::Split(halves) => {
                 let farther = halves.farther;
@@ -227,7 +224,7 @@ pub(crate) fn visit_segment_candidates(
             Step::Done(next) => {
                 state = next;
                 if top == 0 {
-                    return Walked::Went(state);
+                    return Ok(state);
                 }
                 top -= 1;
                 part = waiting[top];

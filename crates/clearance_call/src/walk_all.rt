@@ -15,7 +15,7 @@ ghost use Rattle.clearance_call.specs.Inner.Walking.{Part, NetMarks, HoldsCount,
 use crate::marks::{MARK_WORDS, renew_marks};
 use crate::walk::{bounds_of, visit_segment_candidates};
 use boxes::Aabb;
-use clearance::{Subtree, Walked, Walking, at_start};
+use clearance::{Subtree, Walking, at_start};
 
 // The walk of one segment, its ends in either order, over the m leaves of the tree; the marks are those of its net.
 fn walk_segment(
@@ -30,7 +30,7 @@ fn walk_segment(
     marks: &[u64],
     groups: &[u64],
     state: Walking,
-) -> Walked
+) -> Result<Walking, Refusal>
     requires part { Part tree.now 0 m × (m ≤ 4096) }
     requires net_marks { NetMarks marks.now groups.now tree.now }
     requires remaining_bound { state.violations + state.remaining < 2 ^ 64 }
@@ -65,7 +65,7 @@ pub(crate) fn walk_all(
     ids: &[u64],
     groups: &[u64],
     allowance: usize,
-) -> Walked
+) -> Result<Walking, Refusal>
     requires part { Part tree.now 0 m × (m ≤ 4096) }
     requires segment_places { SegmentPlaces order.now (segment_columns net.now orientation.now fixed.now start.now end.now) }
     requires held_and_grouped { HoldsCount packed.now k × (0 < k → Grouped ids.now groups.now tree.now m) × (length tree.now ≤ 9 * length groups.now) }
@@ -95,11 +95,11 @@ pub(crate) fn walk_all(
             groups,
             state,
         );
-        let Walked::Went(next) = walked else {
-            return Walked::Spent;
+        let Ok(next) = walked else {
+            return Err(Refusal::WorkLimitExceeded);
         };
         state = next;
         q += 1;
     }
-    Walked::Went(state)
+    Ok(state)
 }

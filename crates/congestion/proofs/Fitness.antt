@@ -1,4 +1,6 @@
 -- What the checks of congestion leave: few segments on the grid, each with its start below its end. Assumes nothing.
+use Rattle.drawing.specs.declared.refusal.Refusal.{Refusal}
+use Rattle.std.specs.Prelude.{Result, Ok, Err}
 use mathlib.Core.Path.{◌≡◌, refl, sym, ◌∙◌, subst}
 use mathlib.Core.List.{List, [], ◌∷◌, map}
 use mathlib.Core.Bool.{false, not, ◌||◌}
@@ -20,8 +22,6 @@ use Rattle.drawing.specs.Conditions.{unfit_segment, unfit_cutoff, off_grid_field
 use Rattle.drawing.specs.Checks.{segment_conditions}
 use Rattle.drawing.specs.Inner.Lengths.{SegmentsAgree}
 use Rattle.drawing.specs.declared.refusal.Refusal.TheVariants.{InvalidInput, OffGrid}
-use Rattle.drawing.specs.declared.refusal.Check.{Check}
-use Rattle.drawing.specs.declared.refusal.Check.TheVariants.{Passed, Refused}
 use Rattle.drawing.proofs.EntryLaws.{length-segments}
 use Rattle.drawing.proofs.Fit.{line_of}
 use Rattle.drawing.proofs.FirstRefusal.{then, first-append, passed_head, SegmentsPass, segments_pass}
@@ -75,22 +75,22 @@ fit-segment s e g =
       rises = ltb→lt (unit s.start) (unit s.end) (subst T (lt_units s.start s.end b d) l.rising);
     }
 
-both_passed : (a b : Check) → then a b ≡ Passed → (a ≡ Passed) × (b ≡ Passed)
-both_passed Passed b e = (refl, e)
-both_passed (Refused r) b e = (e, absurd (subst is-refused e tt))
+both_passed : (a b : (Result Unit Refusal)) → then a b ≡ (Ok tt) → (a ≡ (Ok tt)) × (b ≡ (Ok tt))
+both_passed (Ok tt) b e = (refl, e)
+both_passed (Err r) b e = (e, absurd (subst is-refused e tt))
   where
-    is-refused : Check → Type 0
-    is-refused Passed = ⊥
-    is-refused (Refused r) = Unit {0}
+    is-refused : (Result Unit Refusal) → Type 0
+    is-refused (Ok tt) = ⊥
+    is-refused (Err r) = Unit {0}
 
-module _ (s : SegmentColumns) (cutoff : Float) (words : ℕ) (passed : first_of (congestion_conditions s cutoff words) ≡ Passed) where
+module _ (s : SegmentColumns) (cutoff : Float) (words : ℕ) (passed : first_of (congestion_conditions s cutoff words) ≡ (Ok tt)) where
   -- the conditions of segments and scratch come first
   pub segments_passed : SegmentsPass s words
   unfolding congestion_conditions
   segments_passed = segments_pass s words (both_passed (first_of (segment_conditions s words)) _ (sym (first-append (segment_conditions s words) _) ∙ passed)).0
 
   -- then the cutoff, and the grid
-  last-three : first_of ((unfit_cutoff cutoff, InvalidInput) ∷ (some_of off_grid_segment (segments s), OffGrid) ∷ (off_grid_cutoff cutoff, OffGrid) ∷ []) ≡ Passed
+  last-three : first_of ((unfit_cutoff cutoff, InvalidInput) ∷ (some_of off_grid_segment (segments s), OffGrid) ∷ (off_grid_cutoff cutoff, OffGrid) ∷ []) ≡ (Ok tt)
   unfolding congestion_conditions
   last-three = (both_passed (first_of (segment_conditions s words)) _ (sym (first-append (segment_conditions s words) _) ∙ passed)).1
 

@@ -1,4 +1,5 @@
 -- The Rust's sweep over wires measures the figures over all pairs, and its visits are the formula. Assumes nothing.
+use Rattle.std.specs.Prelude.{Option}
 use mathlib.Core.Path.{◌≡◌, refl, sym, ap, ap₂, ◌∙◌, subst}
 use mathlib.Core.Logic.{inl, inr}
 use mathlib.Core.List.{List, [], ◌∷◌}
@@ -16,7 +17,6 @@ use Rattle.laws.specs.Charged.{Charged, free, after}
 use Rattle.laws.proofs.Tests.{decide, cond_true, cond_false}
 use Rattle.laws.proofs.ListLaws.{mem_pairs}
 use Rattle.laws.proofs.Folds.{plus, greatest, fold-unit, count-at_most}
-use Rattle.drawing.specs.declared.gap.Gap.{Gap}
 use Rattle.congestion.specs.declared.report.ParallelCongestion.{ParallelCongestion}
 use Rattle.congestion.specs.Wires.{Wire}
 use Rattle.congestion.specs.Cells.{cells, covers}
@@ -109,10 +109,10 @@ one_way c pos h l v = elim (decide (ltb (length (only h l)) 2)) [
 
 -- ---- the whole sweep
 -- figures given in 64ths, at a cost
-abbrev pub gathered : ℕ → ℕ → ℕ → ℕ → Option ℕ → ℕ → Charged (ParallelCongestion × Gap)
+abbrev pub gathered : ℕ → ℕ → ℕ → ℕ → Option ℕ → ℕ → Charged (ParallelCongestion × (Option Float))
 gathered t c o p g n = record { value = (lengths t c o p, gap_of_units g); cost = n }
 
-abbrev pub found : ℕ → List Wire → Charged (ParallelCongestion × Gap)
+abbrev pub found : ℕ → List Wire → Charged (ParallelCongestion × (Option Float))
 found c l = gathered (total l) (congested c l) (pair_overlap c l) (peak c l) (least_units c l) (visits c l)
 
 -- SCOPE 3.16, 4.5: "Cutoff 0 or less gives total length, zeros and an absent gap", at no cost

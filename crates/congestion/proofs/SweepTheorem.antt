@@ -1,4 +1,5 @@
 -- The Rust's sweep, its segments in the order of SCOPE 9.4, finds the all-pairs report of a fit drawing and costs its visit count; and both are the same for every order of the segments. Assumes nothing.
+use Rattle.std.specs.Prelude.{None}
 use mathlib.Core.Path.{◌≡◌, sym, ◌∙◌}
 use mathlib.Core.Bool.{false}
 use mathlib.Core.List.{List, map}
@@ -14,7 +15,6 @@ use Rattle.floats.specs.Grid.{on_grid, unit}
 use Rattle.floats.proofs.Units.{lt_units}
 use Rattle.drawing.specs.Entries.{Segment}
 use Rattle.drawing.specs.Orders.{segments_in_order}
-use Rattle.drawing.specs.declared.gap.Gap.TheVariants.{Absent}
 use Rattle.drawing.proofs.ListOrders.{segments-in_order-perm}
 use Rattle.congestion.specs.Wires.{wire_of, cutoff_of}
 use Rattle.congestion.specs.Figures.{total, congested, pair_overlap, peak}
@@ -48,7 +48,7 @@ module _ (cutoff : Float) (grid : T (on_grid cutoff)) where
       ∙ all-pairs-order p g
 
   -- SCOPE 3.16, 4.5: "Cutoff 0 or less gives total length, zeros and an absent gap": the cutoff is not above 0
-  pub no_cutoff : lt plus_zero cutoff ≡ false → (l : List Segment) → FitList l → all_pairs cutoff l ≡ record { value = (lengths (total (map wire_of l)) 0 0 0, Absent); cost = 0 }
+  pub no_cutoff : lt plus_zero cutoff ≡ false → (l : List Segment) → FitList l → all_pairs cutoff l ≡ record { value = (lengths (total (map wire_of l)) 0 0 0, None); cost = 0 }
   unfolding cutoff_of
   no_cutoff e l f =
       let z = zero_stands in

@@ -1,5 +1,5 @@
 -- The sums of lengths as the Rust's sweep takes them, with IEEE 754's rounded steps (SCOPE 1.3, 5.12, 8.2, 9.1).
-use Rattle.std.specs.Prelude.{List, [], ◌∷◌, map, Bool, true, false, ◌&&◌, cond, ℕ, pos, ltb, Float, length, get_or}
+use Rattle.std.specs.Prelude.{List, [], ◌∷◌, map, Bool, true, false, ◌&&◌, cond, ℕ, pos, ltb, Float, length, get_or, Option, None}
 use Rattle.std.specs.Bool.{beq}
 use Rattle.std.specs.Float.{binary64}
 use Rattle.std.specs.Float.Ieee.{add, sub, mul, lt, of_int}
@@ -7,8 +7,6 @@ use Rattle.laws.specs.Lists.{chosen, keep}
 use Rattle.floats.specs.Values.{plus_zero, canonical_zero, gap_of}
 use Rattle.drawing.specs.Entries.{Segment}
 use Rattle.drawing.specs.Gaps.{least_gap, lesser_gap}
-use Rattle.drawing.specs.declared.gap.Gap.{Gap}
-use Rattle.drawing.specs.declared.gap.Gap.TheVariants.{Absent}
 use Rattle.congestion.specs.Wires.{wire_of}
 use Rattle.congestion.specs.Walk.{Item, numbered, WireEvent, wire_events, in_order, State, neighbor, step, begin}
 
@@ -26,7 +24,7 @@ pub record Amounts : Type 0 where
   pub congested_length : Float
   pub pair_overlap_length : Float
   pub previous : Float
-  pub minimum_positive : Gap
+  pub minimum_positive : (Option Float)
 
 -- `congested_length += congested_active as f64 * (coordinate.0 - previous)`, and the same for the pairs; then the least of the separations of the neighbors that are `> 0.0`
 unfoldable pub rounded_step : ℕ → Coordinates → State → Amounts → WireEvent → Amounts
@@ -44,8 +42,8 @@ rounded_run c x st a (e ∷ q) = rounded_run c x (step c st e).value (rounded_st
 
 -- before the first event: the sums are 0, and `previous` is its coordinate
 abbrev pub first_amounts : Coordinates → List WireEvent → Amounts
-first_amounts x [] = record { congested_length = plus_zero; pair_overlap_length = plus_zero; previous = plus_zero; minimum_positive = Absent }
-first_amounts x (e ∷ q) = record { congested_length = plus_zero; pair_overlap_length = plus_zero; previous = coordinate x e; minimum_positive = Absent }
+first_amounts x [] = record { congested_length = plus_zero; pair_overlap_length = plus_zero; previous = plus_zero; minimum_positive = None }
+first_amounts x (e ∷ q) = record { congested_length = plus_zero; pair_overlap_length = plus_zero; previous = coordinate x e; minimum_positive = None }
 
 -- the floats of a list of segments, by index, zeros made +0
 abbrev pub coordinates_of : List Segment → Coordinates
@@ -67,7 +65,7 @@ only_of h l = keep (λ s. beq h (wire_of s).horizontal) l
 
 -- `congested_length`, `pair_overlap_length` and `minimum_positive_separation`
 abbrev pub Sums : Type 0
-Sums = Float × Float × Gap
+Sums = Float × Float × (Option Float)
 
 -- one orientation's figures join them `if oriented.len() >= 2`
 unfoldable pub rounded_join : ℕ → Sums → List Segment → Sums
@@ -77,4 +75,4 @@ rounded_join c s l =
 
 -- `for horizontal in [true, false]`
 unfoldable pub rounded_sweep : ℕ → List Segment → Sums
-rounded_sweep c l = rounded_join c (rounded_join c (plus_zero, plus_zero, Absent) (only_of true l)) (only_of false l)
+rounded_sweep c l = rounded_join c (rounded_join c (plus_zero, plus_zero, None) (only_of true l)) (only_of false l)

@@ -1,5 +1,5 @@
 -- The Rust's sweep with no limit (SCOPE 5.12), over wires: a state for each event, and the visits that each event costs.
-use Rattle.std.specs.Prelude.{List, [], ◌∷◌, map, Bool, true, false, not, ◌&&◌, cond, ℕ, suc, ◌+◌, ◌-◌, ◌*◌, max, ltb, eqb, Float, length}
+use Rattle.std.specs.Prelude.{List, [], ◌∷◌, map, Bool, true, false, not, ◌&&◌, cond, ℕ, suc, ◌+◌, ◌-◌, ◌*◌, max, ltb, eqb, Float, length, Option, Some, None}
 use Rattle.std.proofs.Math.Option.{Option, none, some}
 use Rattle.std.specs.Bool.{beq}
 use Rattle.laws.specs.Lists.{keep, bit, fold, count}
@@ -10,8 +10,6 @@ use Rattle.laws.specs.Charged.{Charged, free, after, runs}
 use Rattle.floats.specs.Grid.{zero_unit, of_units}
 use Rattle.drawing.specs.Entries.{Segment}
 use Rattle.drawing.specs.Orders.{segments_in_order}
-use Rattle.drawing.specs.declared.gap.Gap.{Gap}
-use Rattle.drawing.specs.declared.gap.Gap.TheVariants.{Absent, Present}
 use Rattle.congestion.specs.declared.report.ParallelCongestion.{ParallelCongestion}
 use Rattle.congestion.specs.Wires.{Wire, wire_of, cutoff_of}
 use Rattle.congestion.specs.Figures.{apart, other, total}
@@ -167,19 +165,19 @@ abbrev pub only : Bool → List Wire → List Wire
 only h l = keep (λ s. beq h s.horizontal) l
 
 -- the gap of a number of 64ths
-abbrev pub gap_of_units : Option ℕ → Gap
-gap_of_units none = Absent
-gap_of_units (some n) = Present (of_units n)
+abbrev pub gap_of_units : Option ℕ → (Option Float)
+gap_of_units none = None
+gap_of_units (some n) = Some (of_units n)
 
 -- SCOPE 3.16, 5.12: `measure_parallel_profile_bounded` with no limit; on an empty list, where the Rust returns early too, all is 0
-unfoldable pub sweep_wires : ℕ → List Wire → Charged (ParallelCongestion × Gap)
+unfoldable pub sweep_wires : ℕ → List Wire → Charged (ParallelCongestion × (Option Float))
 sweep_wires c l =
-    cond (eqb c 0) (free (lengths (total l) 0 0 0, Absent))
+    cond (eqb c 0) (free (lengths (total l) 0 0 0, None))
     (after (along c (only true l)) (λ h. after (along c (only false l)) (λ v. free (
       lengths (total l) (h.congested_length + v.congested_length) (h.pair_overlap_length + v.pair_overlap_length) (max h.peak_close_neighbors v.peak_close_neighbors),
       gap_of_units (lesser ltb h.minimum_positive v.minimum_positive),
     ))))
 
 -- SCOPE 9.4: "Each measure walks as if its segments came in the order net, orientation byte, fixed, start, end"
-unfoldable pub walk_all : Float → List Segment → Charged (ParallelCongestion × Gap)
+unfoldable pub walk_all : Float → List Segment → Charged (ParallelCongestion × (Option Float))
 walk_all cutoff l = sweep_wires (cutoff_of cutoff) (map wire_of (segments_in_order l))

@@ -2,16 +2,15 @@
 ghost use Rattle.std.specs.Prelude.{◌≡◌};
 ghost use Rattle.congestion.specs.Inner.Answering.{answer_of, answer_without_density};
 
-use crate::found::Swept;
-use crate::report::{CongestionAnswer, CongestionReport, ParallelCongestion};
+use crate::report::{CongestionReport, ParallelCongestion};
 use drawing::{Refusal, visits_used};
 
 // The answer of a call whose checks passed, for this total length.
-pub fn answer_of(swept: Swept, total: f64, allowance: usize) -> CongestionAnswer
+pub fn answer_of(swept: Result<Found, Refusal>, total: f64, allowance: usize) -> Result<CongestionReport, Refusal>
     ensures { result ≡ answer_of swept total allowance }
 {
-    let Swept::Went(found) = swept else {
-        return CongestionAnswer::Refused(Refusal::WorkLimitExceeded);
+    let Ok(found) = swept else {
+        return Err(Refusal::WorkLimitExceeded);
     };
     let minimum = found.minimum_positive;
     let visits = visits_used(allowance, found.remaining);
@@ -26,14 +25,14 @@ pub fn answer_of(swept: Swept, total: f64, allowance: usize) -> CongestionAnswer
         minimum_positive: minimum,
         visits: visits,
     };
-    CongestionAnswer::Report(report)
+    Ok(report)
 }
 
 // The answer with pair overlap and peak zero.
-pub fn without_density(answer: CongestionAnswer) -> CongestionAnswer
+pub fn without_density(answer: Result<CongestionReport, Refusal>) -> Result<CongestionReport, Refusal>
     ensures { result ≡ answer_without_density answer }
 {
-    let CongestionAnswer::Report(report) = answer else {
+    let Ok(report) = answer else {
         return answer;
     };
     let congestion = report.congestion;
@@ -44,7 +43,7 @@ pub fn without_density(answer: CongestionAnswer) -> CongestionAnswer
         pair_overlap_length: 0.0,
         peak_close_neighbors: 0,
     };
-    CongestionAnswer::Report(CongestionReport {
+    Ok(CongestionReport {
         congestion: lengths,
         minimum_positive: minimum,
         visits: report.visits,

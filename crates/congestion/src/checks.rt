@@ -7,7 +7,7 @@ ghost use Rattle.drawing.specs.Inner.Lengths.{SegmentsAgree};
 ghost use Rattle.drawing.specs.Conditions.{off_grid_fields, off_grid_segment};
 ghost use Rattle.congestion.specs.Conditions.{congestion_conditions};
 
-use drawing::{Check, Refusal};
+use drawing::Refusal;
 use floats::{is_finite, on_grid};
 use list_checks::check_segments;
 
@@ -53,21 +53,21 @@ pub fn check_congestion(
     end: &[f64],
     cutoff: f64,
     words: usize,
-) -> Check
+) -> Result<(), Refusal>
     ensures { result ≡ first_of (congestion_conditions (segment_columns net.now orientation.now fixed.now start.now end.now) cutoff words) }
 {
     let first = check_segments(net, orientation, fixed, start, end, words);
-    let Check::Passed = first else {
+    let Ok(()) = first else {
         return first;
     };
     if !is_finite(cutoff) {
-        return Check::Refused(Refusal::InvalidInput);
+        return Err(Refusal::InvalidInput);
     }
     if segments_off_grid(net, orientation, fixed, start, end) {
-        return Check::Refused(Refusal::OffGrid);
+        return Err(Refusal::OffGrid);
     }
     if !on_grid(cutoff) {
-        return Check::Refused(Refusal::OffGrid);
+        return Err(Refusal::OffGrid);
     }
-    Check::Passed
+    Ok(())
 }

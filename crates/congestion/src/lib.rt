@@ -9,6 +9,6 @@ pub mod total;
 
 pub use answer::{answer_of, without_density};
 pub use checks::check_congestion;
-pub use found::{Found, Swept};
-pub use report::{CongestionAnswer, CongestionReport, ParallelCongestion};
+pub use found::Found;
+pub use report::{CongestionReport, ParallelCongestion};
 pub use total::total_length;

@@ -2,7 +2,7 @@
 ghost use Rattle.std.specs.Prelude.{◌≡◌};
 ghost use Rattle.congestion.specs.Ratio as Ratio;
 
-use drawing::{Gap, Refusal};
+use drawing::Refusal;
 
 // The lengths of all wires and of those close to other nets, and the peak (SCOPE 3.11, 3.12, 3.13, 3.14).
 #[derive(Clone, Copy)]
@@ -47,7 +47,7 @@ fn clamp(x: f64, low: f64, high: f64) -> f64
 #[derive(Clone, Copy)]
 pub struct CongestionReport {
     pub congestion: ParallelCongestion,
-    pub minimum_positive: Gap,
+    pub minimum_positive: Option<f64>,
     pub visits: usize,
 }
 

@@ -1,4 +1,6 @@
 -- The answers of the two calls that rest on the density profile, from its answer. Assumes nothing.
+use Rattle.drawing.specs.declared.refusal.Refusal.{Refusal}
+use Rattle.std.specs.Prelude.{Result, Ok, Err}
 use mathlib.Core.Path.{◌≡◌, refl, sym, ◌∙◌}
 use mathlib.Core.Bool.{Bool, true, false, cond}
 use Prim.Native.Nat.{ℕ, ◌≤◌}
@@ -7,11 +9,9 @@ use lib.Ieee.{Float}
 use Rattle.laws.specs.Charged.{reaches, settle}
 use Rattle.laws.proofs.Runs.{settle-reached}
 use Rattle.drawing.specs.declared.refusal.Refusal.TheVariants.{WorkLimitExceeded}
-use Rattle.drawing.specs.declared.refusal.Check.{Check}
 use Rattle.drawing.specs.declared.refusal.Check.TheVariants as Checked
 use Rattle.drawing.specs.Entries.{SegmentColumns, segments}
 use Rattle.drawing.specs.Refusals.{first_of, checked}
-use Rattle.congestion.specs.declared.report.CongestionAnswer.TheVariants.{Report, Refused}
 use Rattle.congestion.specs.Conditions.{congestion_conditions}
 use Rattle.congestion.specs.AllPairs.{all_pairs}
 use Rattle.congestion.specs.Answer.{report_of, settled, density_answer, without_density, profile_answer, congestion_answer}
@@ -24,9 +24,9 @@ pub plain-answer : (c : SegmentColumns) (cutoff : Float) (allowance words : ℕ)
 unfolding density_answer profile_answer settled settle
 plain-answer c cutoff allowance words = go (first_of (congestion_conditions c cutoff words)) (reaches allowance (all_pairs cutoff (segments c)))
   where
-    go : (k : Check) (b : Bool)
-        → answer_without_density (checked Refused k (cond b (Report (report_of (all_pairs cutoff (segments c)).value (all_pairs cutoff (segments c)).cost)) (Refused WorkLimitExceeded)))
-        ≡ checked Refused k (cond b (Report (report_of (without_density (all_pairs cutoff (segments c))).value (all_pairs cutoff (segments c)).cost)) (Refused WorkLimitExceeded))
+    go : (k : (Result Unit Refusal)) (b : Bool)
+        → answer_without_density (checked Err k (cond b (Ok (report_of (all_pairs cutoff (segments c)).value (all_pairs cutoff (segments c)).cost)) (Err WorkLimitExceeded)))
+        ≡ checked Err k (cond b (Ok (report_of (without_density (all_pairs cutoff (segments c))).value (all_pairs cutoff (segments c)).cost)) (Err WorkLimitExceeded))
     go (Checked.Refused r) b = refl
     go Checked.Passed true = refl
     go Checked.Passed false = refl
@@ -36,10 +36,10 @@ pub great_allowance : (c : SegmentColumns) (cutoff : Float) (m words : ℕ) → 
 unfolding settled
 great_allowance c cutoff m words h = go (first_of (congestion_conditions c cutoff words)) refl
   where
-    go : (k : Check) → first_of (congestion_conditions c cutoff words) ≡ k → density_answer c cutoff m words ≡ congestion_answer c cutoff words
+    go : (k : (Result Unit Refusal)) → first_of (congestion_conditions c cutoff words) ≡ k → density_answer c cutoff m words ≡ congestion_answer c cutoff words
     go (Checked.Refused r) e = density_settles.earlier c cutoff m words r e ∙ sym (congestion-earlier c cutoff words r e)
     go Checked.Passed e =
         let few = (fit_list c cutoff words e).few in
         density_settles.behind c cutoff m words e
-        ∙ settle-reached (λ p n. Report (report_of p n)) (Refused WorkLimitExceeded) m (all_pairs cutoff (segments c)) (le_trans (cost-at_most cutoff (segments c)) (le_trans (mul-le-mul few few) h))
+        ∙ settle-reached (λ p n. Ok (report_of p n)) (Err WorkLimitExceeded) m (all_pairs cutoff (segments c)) (le_trans (cost-at_most cutoff (segments c)) (le_trans (mul-le-mul few few) h))
         ∙ sym (congestion-reached c cutoff words e)

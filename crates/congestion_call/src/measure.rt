@@ -1,13 +1,12 @@
 // The congestion profile and the congestion by columns, from the density profile.
-ghost use Rattle.std.specs.Prelude.{◌≡◌, length};
-ghost use Rattle.drawing.specs.declared.refusal.Check.TheVariants.{Passed};
+ghost use Rattle.std.specs.Prelude.{◌≡◌, length, Ok};
 ghost use Rattle.drawing.specs.Refusals.{first_of, scratch_after};
 ghost use Rattle.drawing.specs.Entries.{segment_columns};
 ghost use Rattle.drawing.specs.Held.{Binary64, SegmentsHeld};
 ghost use Rattle.congestion.specs.Conditions.{congestion_conditions};
 ghost use Rattle.congestion.specs.Answer.{profile_answer, congestion_answer};
 
-use congestion::{CongestionAnswer, without_density};
+use congestion::without_density;
 use density_call::measure_parallel_density_profile_bounded;
 
 pub fn measure_parallel_congestion_profile_bounded(
@@ -19,13 +18,13 @@ pub fn measure_parallel_congestion_profile_bounded(
     cutoff: f64,
     allowance: usize,
     scratch: &mut [u64],
-) -> CongestionAnswer
+) -> Result<CongestionReport, Refusal>
     ensures { let lent = segment_columns net.now orientation.now fixed.now start.now end.now in
         let words = length scratch.old in
         let refusal = first_of (congestion_conditions lent cutoff words) in
         (result ≡ profile_answer lent cutoff allowance words)
         × (scratch.new ≡ scratch_after refusal scratch.old)
-        × (refusal ≡ Passed → SegmentsHeld lent × Binary64 cutoff) }
+        × (refusal ≡ (Ok tt) → SegmentsHeld lent × Binary64 cutoff) }
 {
     let answer = measure_parallel_density_profile_bounded(
         net,
@@ -49,13 +48,13 @@ pub fn measure_parallel_congestion(
     end: &[f64],
     cutoff: f64,
     scratch: &mut [u64],
-) -> CongestionAnswer
+) -> Result<CongestionReport, Refusal>
     ensures { let lent = segment_columns net.now orientation.now fixed.now start.now end.now in
         let words = length scratch.old in
         let refusal = first_of (congestion_conditions lent cutoff words) in
         (result ≡ congestion_answer lent cutoff words)
         × (scratch.new ≡ scratch_after refusal scratch.old)
-        × (refusal ≡ Passed → SegmentsHeld lent × Binary64 cutoff) }
+        × (refusal ≡ (Ok tt) → SegmentsHeld lent × Binary64 cutoff) }
 {
     measure_parallel_density_profile_bounded(
         net,

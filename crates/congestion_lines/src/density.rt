@@ -1,6 +1,5 @@
 // Congestion's density profile of a list of segments: they are copied into columns, and the call by columns does all else, its refusals included.
-ghost use Rattle.std.specs.Prelude.{◌≡◌, map, length, take};
-ghost use Rattle.drawing.specs.declared.refusal.Check.TheVariants.{Passed};
+ghost use Rattle.std.specs.Prelude.{◌≡◌, map, length, take, Ok};
 ghost use Rattle.drawing.specs.Refusals.{first_of, scratch_after};
 ghost use Rattle.drawing.specs.Entries.{columns_of};
 ghost use Rattle.drawing.specs.Held.{Binary64, SegmentsHeld};
@@ -8,7 +7,6 @@ ghost use Rattle.congestion.specs.Conditions.{congestion_conditions};
 ghost use Rattle.congestion.specs.Answer.{density_answer};
 ghost use Rattle.lines.specs.Inner.Lines.{entry_of};
 
-use congestion::CongestionAnswer;
 use density_call::measure_parallel_density_profile_bounded;
 use lines::{Line, unpack};
 
@@ -18,13 +16,13 @@ pub fn density_of_lines(
     cutoff: f64,
     allowance: usize,
     scratch: &mut [u64],
-) -> CongestionAnswer
+) -> Result<CongestionReport, Refusal>
     ensures { let lent = columns_of (map entry_of (take n lines)) in
         let words = length scratch.old in
         let refusal = first_of (congestion_conditions lent cutoff words) in
         (result ≡ density_answer lent cutoff allowance words)
         × (scratch.new ≡ scratch_after refusal scratch.old)
-        × (refusal ≡ Passed → SegmentsHeld lent × Binary64 cutoff) }
+        × (refusal ≡ (Ok tt) → SegmentsHeld lent × Binary64 cutoff) }
 {
     let mut net = [0; 4097];
     let mut orientation = [0; 4097];

@@ -1,6 +1,5 @@
 // Congestion without an allowance of a list of segments: they are copied into columns, and the call by columns does all else, its refusals included.
-ghost use Rattle.std.specs.Prelude.{◌≡◌, map, length, take};
-ghost use Rattle.drawing.specs.declared.refusal.Check.TheVariants.{Passed};
+ghost use Rattle.std.specs.Prelude.{◌≡◌, map, length, take, Ok};
 ghost use Rattle.drawing.specs.Refusals.{first_of, scratch_after};
 ghost use Rattle.drawing.specs.Entries.{columns_of};
 ghost use Rattle.drawing.specs.Held.{Binary64, SegmentsHeld};
@@ -8,7 +7,6 @@ ghost use Rattle.congestion.specs.Conditions.{congestion_conditions};
 ghost use Rattle.congestion.specs.Answer.{congestion_answer};
 ghost use Rattle.lines.specs.Inner.Lines.{entry_of};
 
-use congestion::CongestionAnswer;
 use congestion_call::measure_parallel_congestion;
 use lines::{Line, unpack};
 
@@ -17,13 +15,13 @@ pub fn congestion_of_lines(
     n: usize,
     cutoff: f64,
     scratch: &mut [u64],
-) -> CongestionAnswer
+) -> Result<CongestionReport, Refusal>
     ensures { let lent = columns_of (map entry_of (take n lines)) in
         let words = length scratch.old in
         let refusal = first_of (congestion_conditions lent cutoff words) in
         (result ≡ congestion_answer lent cutoff words)
         × (scratch.new ≡ scratch_after refusal scratch.old)
-        × (refusal ≡ Passed → SegmentsHeld lent × Binary64 cutoff) }
+        × (refusal ≡ (Ok tt) → SegmentsHeld lent × Binary64 cutoff) }
 {
     let mut net = [0; 4097];
     let mut orientation = [0; 4097];

@@ -1,4 +1,5 @@
 -- The facts of clearance. Assumes nothing.
+use Rattle.std.specs.Prelude.{Err}
 use mathlib.Core.Path.{◌≡◌, ap}
 use mathlib.Core.Bool.{cond}
 use Prim.Native.Nat.{ℕ}
@@ -8,7 +9,6 @@ use lib.Ieee.{Float}
 use Rattle.laws.specs.Lists.{All}
 use Rattle.laws.specs.Charged.{Charged, settle}
 use Rattle.drawing.specs.declared.refusal.Refusal.{Refusal}
-use Rattle.drawing.specs.declared.refusal.Check.TheVariants.{Refused}
 use Rattle.drawing.specs.Entries.{segments, nodes, exemptions}
 use Rattle.drawing.specs.Refusals.{number_of, first_of}
 use Rattle.drawing.proofs.AnyOrder.{lent_taken}
@@ -26,7 +26,7 @@ use Rattle.demands.proofs.Facts.{Passes, Same, Facts}
 fit : (d : Lists) (t : Float) (words : ℕ) → clearance.Held d t → Passes clearance d t words → FitCall d.segments d.nodes t
 fit d t words h p = fit_call d.segments d.nodes d.exemptions t words (record { segments-held = h.0; nodes-held = h.1; threshold-held = h.2 }) p
 
-refuses : (d : Lists) (t : Float) (a words : ℕ) (r : Refusal) → first_of (clearance.conditions d t words) ≡ Refused r → clearance.result (clearance.answer d t a words) ≡ clearance.refused (number_of r)
+refuses : (d : Lists) (t : Float) (a words : ℕ) (r : Refusal) → first_of (clearance.conditions d t words) ≡ Err r → clearance.result (clearance.answer d t a words) ≡ clearance.refused (number_of r)
 unfolding clearance_answer result_of
 refuses d t a words r e = rw e
 

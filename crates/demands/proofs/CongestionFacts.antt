@@ -1,4 +1,5 @@
 -- The facts of the three congestion calls. Assumes nothing.
+use Rattle.std.specs.Prelude.{Option, Result, Ok, Err}
 use mathlib.Core.Path.{◌≡◌, refl, sym, ap, subst, ◌∙◌}
 use mathlib.Core.Bool.{Bool, cond}
 use mathlib.Core.List.{List}
@@ -12,16 +13,12 @@ use Rattle.laws.proofs.ListLaws.{mem_all, mem_pairs, all-chosen}
 use Rattle.floats.specs.Values.{plus_zero, gap_of}
 use Rattle.floats.proofs.Gaps.{Good, zero_good}
 use Rattle.floats.proofs.Units.{gap_units}
-use Rattle.drawing.specs.declared.gap.Gap.{Gap}
 use Rattle.drawing.specs.declared.refusal.Refusal.{Refusal}
-use Rattle.drawing.specs.declared.refusal.Check.TheVariants.{Passed, Refused as Stopped}
 use Rattle.drawing.specs.Entries.{SegmentColumns, segments}
 use Rattle.drawing.specs.Refusals.{number_of, first_of}
 use Rattle.drawing.proofs.AnyOrder.{lent_taken}
 use Rattle.congestion.specs.declared.report.ParallelCongestion.{ParallelCongestion}
 use Rattle.congestion.specs.declared.report.CongestionReport.{CongestionReport}
-use Rattle.congestion.specs.declared.report.CongestionAnswer.{CongestionAnswer}
-use Rattle.congestion.specs.declared.report.CongestionAnswer.TheVariants.{Report, Refused}
 use Rattle.congestion.specs.Conditions.{congestion_conditions}
 use Rattle.congestion.specs.AllPairs.{lengths, least_nonzero, all_pairs}
 use Rattle.congestion.specs.Answer.{report_of, density_answer, without_density, profile_answer, congestion_answer, zeros, result_of}
@@ -34,21 +31,21 @@ use Rattle.demands.proofs.Facts.{Facts}
 
 -- figures and the least gap, at a cost
 abbrev Charges : Type 0
-Charges = Charged (ParallelCongestion × Gap)
+Charges = Charged (ParallelCongestion × (Option Float))
 
-refused-result : (r : Refusal) → result_of (Refused r) ≡ (number_of r, zeros)
+refused-result : (r : Refusal) → result_of (Err r) ≡ (number_of r, zeros)
 unfolding result_of
 refused-result r = refl
 
-reported : (r : CongestionReport) → result_of (Report r) ≡ (0, r)
+reported : (r : CongestionReport) → result_of (Ok r) ≡ (0, r)
 unfolding result_of
 reported r = refl
 
 -- the floats of the report: lengths of whole 64ths, and a gap of two coordinates on the grid
-abbrev floats_of : ParallelCongestion × Gap → List Float
+abbrev floats_of : ParallelCongestion × (Option Float) → List Float
 floats_of f = density.floats f
 
-all-numbers : (s : SegmentColumns) (cutoff : Float) (words : ℕ) → first_of (congestion_conditions s cutoff words) ≡ Passed → All Reported (floats_of (all_pairs cutoff (segments s)).value)
+all-numbers : (s : SegmentColumns) (cutoff : Float) (words : ℕ) → first_of (congestion_conditions s cutoff words) ≡ (Ok tt) → All Reported (floats_of (all_pairs cutoff (segments s)).value)
 unfolding all_pairs lengths least_nonzero
 all-numbers s cutoff words p =
     let f = fit_list s cutoff words p in (
@@ -66,11 +63,11 @@ all-numbers s cutoff words p =
     )
 
 -- one call, whose figures are a part of the report that costs the same
-module _ (part : Charges → Charges) (A : Type 0) (reach : A → ℕ → Bool) (answers : SegmentColumns → Float → A → ℕ → CongestionAnswer)
+module _ (part : Charges → Charges) (A : Type 0) (reach : A → ℕ → Bool) (answers : SegmentColumns → Float → A → ℕ → (Result CongestionReport Refusal))
     (costs : (c : Charges) → (part c).cost ≡ c.cost)
     (parts : (c : Charges) → All Reported (floats_of c.value) → All Reported (floats_of (part c).value))
-    (refuses : (s : SegmentColumns) (cutoff : Float) (a : A) (words : ℕ) (r : Refusal) → first_of (congestion_conditions s cutoff words) ≡ Stopped r → answers s cutoff a words ≡ Refused r)
-    (settles : (s : SegmentColumns) (cutoff : Float) (a : A) (words : ℕ) → first_of (congestion_conditions s cutoff words) ≡ Passed → result_of (answers s cutoff a words) ≡ cond (reach a (all_pairs cutoff (segments s)).cost) (0, report_of (part (all_pairs cutoff (segments s))).value (all_pairs cutoff (segments s)).cost) (7, zeros)) where
+    (refuses : (s : SegmentColumns) (cutoff : Float) (a : A) (words : ℕ) (r : Refusal) → first_of (congestion_conditions s cutoff words) ≡ Err r → answers s cutoff a words ≡ Err r)
+    (settles : (s : SegmentColumns) (cutoff : Float) (a : A) (words : ℕ) → first_of (congestion_conditions s cutoff words) ≡ (Ok tt) → result_of (answers s cutoff a words) ≡ cond (reach a (all_pairs cutoff (segments s)).cost) (0, report_of (part (all_pairs cutoff (segments s))).value (all_pairs cutoff (segments s)).cost) (7, zeros)) where
   facts : Facts (of_congestion part A reach answers)
   unfolding all_pairs
   facts = record {
@@ -87,8 +84,8 @@ module _ (part : Charges → Charges) (A : Type 0) (reach : A → ℕ → Bool) 
   }
 
 -- a call with an allowance
-module _ (part : Charges → Charges) (answers : SegmentColumns → Float → ℕ → ℕ → CongestionAnswer) (costs : (c : Charges) → (part c).cost ≡ c.cost) (parts : (c : Charges) → All Reported (floats_of c.value) → All Reported (floats_of (part c).value)) (d : Settles answers (λ cutoff l. part (all_pairs cutoff l))) where
-  settled : (s : SegmentColumns) (cutoff : Float) (a words : ℕ) → first_of (congestion_conditions s cutoff words) ≡ Passed
+module _ (part : Charges → Charges) (answers : SegmentColumns → Float → ℕ → ℕ → (Result CongestionReport Refusal)) (costs : (c : Charges) → (part c).cost ≡ c.cost) (parts : (c : Charges) → All Reported (floats_of c.value) → All Reported (floats_of (part c).value)) (d : Settles answers (λ cutoff l. part (all_pairs cutoff l))) where
+  settled : (s : SegmentColumns) (cutoff : Float) (a words : ℕ) → first_of (congestion_conditions s cutoff words) ≡ (Ok tt)
       → result_of (answers s cutoff a words) ≡ cond (leb (part (all_pairs cutoff (segments s))).cost a) (0, report_of (part (all_pairs cutoff (segments s))).value (part (all_pairs cutoff (segments s))).cost) (7, zeros)
   unfolding settle
   settled s cutoff a words p = ap result_of (d.behind s cutoff a words p) ∙ result_settles a (part (all_pairs cutoff (segments s)))

@@ -1,4 +1,5 @@
 -- A segment may be given in either direction. Assumes nothing.
+use Rattle.std.specs.Prelude.{Some}
 use mathlib.Core.Path.{◌≡◌, refl, sym, ap, subst, ◌∙◌}
 use mathlib.Core.Logic.{◌↔◌, inl, inr}
 use mathlib.Core.Bool.{Bool, true, false, not, ◌||◌}
@@ -14,7 +15,6 @@ use Rattle.laws.proofs.ListLaws.{all_map, none-all, mem_some, map_mem}
 use Rattle.floats.specs.Values.{lesser_of, greater_of}
 use Rattle.floats.proofs.Extremes.{picked}
 use Rattle.floats.proofs.Trichotomy.{lt_asym, kept-lesser, kept_greater, rise_once, equal_not_rising, rise_unless_equal}
-use Rattle.drawing.specs.declared.gap.Gap.TheVariants.{Present}
 use Rattle.drawing.specs.declared.refusal.Refusal.TheVariants.{InvalidInput}
 use Rattle.drawing.specs.Entries.{Segment, SegmentColumns, NodeColumns, ExemptionColumns, segment_columns, segments_of, as_lent, as_taken, segments, columns_of, nodes, exemptions}
 use Rattle.drawing.specs.Refusals.{number_of, first_of, scratch_after}
@@ -289,9 +289,9 @@ both : {A B : Type 0} (f : A → B) {x y v w : A} → (x ≡ v) × (y ≡ w) →
 both f p = (ap f p.0, ap f p.1)
 
 module _ (s : SegmentColumns) (n : NodeColumns)
-    (c : (result_on clearance (record { segments = s; nodes = n; exemptions = D_exemptions }) two 2 160 ≡ clearance_is (Present one) 1 2) × (result_on clearance (record { segments = s; nodes = n; exemptions = D_exemptions }) two 1 160 ≡ clearance.refused 7))
-    (p : (result_on separation s tt 16 128 ≡ separation_is (Present four) (Present four) 16) × (result_on separation s tt 15 128 ≡ separation.refused 7))
-    (g : (result_on density s six 4 128 ≡ congestion_is twenty ten five 1 (Present four) 4) × (result_on density s six 3 128 ≡ density.refused 7)) where
+    (c : (result_on clearance (record { segments = s; nodes = n; exemptions = D_exemptions }) two 2 160 ≡ clearance_is (Some one) 1 2) × (result_on clearance (record { segments = s; nodes = n; exemptions = D_exemptions }) two 1 160 ≡ clearance.refused 7))
+    (p : (result_on separation s tt 16 128 ≡ separation_is (Some four) (Some four) 16) × (result_on separation s tt 15 128 ≡ separation.refused 7))
+    (g : (result_on density s six 4 128 ≡ congestion_is twenty ten five 1 (Some four) 4) × (result_on density s six 3 128 ≡ density.refused 7)) where
   as_D : MeasuredAsD s n
   as_D = record { clearance-accepted = c.0; clearance-refused = c.1; separation-accepted = p.0; separation-refused = p.1; congestion-accepted = g.0; congestion-refused = g.1 }
 

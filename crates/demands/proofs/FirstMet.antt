@@ -1,4 +1,5 @@
 -- The first refusal that applies is what the checks return. Assumes nothing.
+use Rattle.std.specs.Prelude.{Some, Ok, Err}
 use mathlib.Core.Path.{◌≡◌, refl, sym, ap, subst, ◌∙◌}
 use mathlib.Core.Logic.{◌⊎◌, inl, inr}
 use mathlib.Core.Bool.{Bool, true, false}
@@ -10,7 +11,6 @@ use Rattle.laws.specs.Lists.{Mem, All}
 use Rattle.laws.proofs.Tests.{decide, clash}
 use Rattle.drawing.specs.declared.refusal.Refusal.{Refusal}
 use Rattle.drawing.specs.declared.refusal.Refusal.TheVariants.{MalformedFile, ColumnsDiffer, TooManyEntries, ShortScratch, InvalidInput, OffGrid, WorkLimitExceeded, ShortOutput}
-use Rattle.drawing.specs.declared.refusal.Check.TheVariants.{Passed, Refused}
 use Rattle.drawing.specs.Refusals.{first_of}
 use Rattle.drawing.proofs.FirstRefusal.{first_yes, first_no, first-none}
 use Rattle.demands.specs.Applies.{First, NoneApplies, place_in_list, InOrder}
@@ -20,11 +20,11 @@ behind : (before l : List (Bool × Refusal)) → NoneApplies before → first_of
 behind [] l h = refl
 behind (c ∷ before) l h = first_no c.0 c.1 (before ++ l) h.0 ∙ behind before l h.1
 
-pub first-refused : (l : List (Bool × Refusal)) (why : Refusal) → First l why → first_of l ≡ Refused why
+pub first-refused : (l : List (Bool × Refusal)) (why : Refusal) → First l why → first_of l ≡ Err why
 first-refused l why f = ap first_of f.it ∙ behind f.before ((true, why) ∷ f.after) f.none_before ∙ first_yes true why f.after refl
 
 -- where none applies the checks pass
-pub none_passed : (l : List (Bool × Refusal)) → NoneApplies l → first_of l ≡ Passed
+pub none_passed : (l : List (Bool × Refusal)) → NoneApplies l → first_of l ≡ (Ok tt)
 none_passed [] h = first-none
 none_passed (c ∷ l) h = first_no c.0 c.1 l h.0 ∙ none_passed l h.1
 

@@ -1,4 +1,5 @@
 -- The demands of one measure, from its facts. Assumes nothing.
+use Rattle.std.specs.Prelude.{Some, Result}
 use mathlib.Core.Path.{◌≡◌, refl, sym, ap, ◌∙◌}
 use mathlib.Core.Logic.{◌⊎◌, inl, inr, ◌↔◌}
 use mathlib.Core.Bool.{Bool, true, false, cond}
@@ -6,7 +7,6 @@ use lib.ListN.{length}
 use Rattle.laws.specs.Charged.{Charged}
 use Rattle.laws.proofs.Tests.{cond_true, cond_false}
 use Rattle.drawing.specs.declared.refusal.Refusal.{Refusal}
-use Rattle.drawing.specs.declared.refusal.Check.{Check}
 use Rattle.drawing.specs.Refusals.{number_of, scratch_after}
 use Rattle.demands.specs.Applies.{First, NoneApplies}
 use Rattle.demands.specs.Measures.{Measure, Run, result_of_run, visit_count, earlier, all_pairs_report}
@@ -34,7 +34,7 @@ module _ (m : Measure) (facts : Facts m) where
   -- and the scratch after it
   clears : (r : Run m) → NoneApplies (earlier m r) → r.after ≡ cleared r.before
   unfolding scratch_after
-  clears r h = r.says.leaves ∙ ap (λ (c : Check). scratch_after c r.before) (passes r h)
+  clears r h = r.says.leaves ∙ ap (λ (c : (Result Unit Refusal)). scratch_after c r.before) (passes r h)
 
   -- ---- demand 1
   some-unfit : (r : Run m) → Some (earlier m r) ⊎ NoneApplies (earlier m r) → Unfit m r ⊎ NoneApplies (earlier m r)
@@ -47,7 +47,7 @@ module _ (m : Measure) (facts : Facts m) where
       let is = first-refused (earlier m r) why f in
       record {
         returned = ap m.result r.says.answers ∙ facts.refuses r.drawing r.settings r.allowance (length r.before) why is;
-        left = r.says.leaves ∙ ap (λ (c : Check). scratch_after c r.before) is;
+        left = r.says.leaves ∙ ap (λ (c : (Result Unit Refusal)). scratch_after c r.before) is;
       }
 
   pub refusing : Refusing m

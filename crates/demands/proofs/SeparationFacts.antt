@@ -1,4 +1,5 @@
 -- The facts of separation. Assumes nothing.
+use Rattle.std.specs.Prelude.{Err}
 use mathlib.Core.Path.{◌≡◌, ap}
 use mathlib.Core.Bool.{cond}
 use Prim.Native.Nat.{ℕ}
@@ -8,7 +9,6 @@ use Rattle.laws.specs.Lists.{All}
 use Rattle.laws.specs.Charged.{Charged, settle}
 use Rattle.laws.proofs.ListLaws.{all_append}
 use Rattle.drawing.specs.declared.refusal.Refusal.{Refusal}
-use Rattle.drawing.specs.declared.refusal.Check.TheVariants.{Refused}
 use Rattle.drawing.specs.Entries.{SegmentColumns, segments}
 use Rattle.drawing.specs.Refusals.{number_of, first_of}
 use Rattle.drawing.specs.Gaps.{least_gap}
@@ -24,7 +24,7 @@ use Rattle.demands.specs.Measures.{Reported, present, separation}
 use Rattle.demands.proofs.Numbers.{least_reported}
 use Rattle.demands.proofs.Facts.{Passes, Same, Facts}
 
-refuses : (s : SegmentColumns) (none : Unit {0}) (a words : ℕ) (r : Refusal) → first_of (separation.conditions s none words) ≡ Refused r → separation.result (separation.answer s none a words) ≡ separation.refused (number_of r)
+refuses : (s : SegmentColumns) (none : Unit {0}) (a words : ℕ) (r : Refusal) → first_of (separation.conditions s none words) ≡ Err r → separation.result (separation.answer s none a words) ≡ separation.refused (number_of r)
 unfolding separation_answer result_of
 refuses s none a words r e = rw e
 

@@ -1,4 +1,5 @@
 -- The programs that are shut out, from the marked cases and the facts of each measure. Assumes nothing.
+use Rattle.std.specs.Prelude.{Option, Result, Ok, Err}
 use mathlib.Core.Path.{◌≡◌, refl, sym, ap, ◌∙◌}
 use mathlib.Core.Bool.{Bool, true, false, cond}
 use mathlib.Core.List.{List}
@@ -9,11 +10,8 @@ use lib.Ieee.{Float}
 use lib.ListN.{length}
 use Rattle.laws.specs.Charged.{Charged}
 use Rattle.laws.proofs.Tests.{cond_true, cond_false, ltb_same}
-use Rattle.drawing.specs.declared.gap.Gap.{Gap}
 use Rattle.drawing.specs.declared.refusal.Refusal.{Refusal}
 use Rattle.drawing.specs.declared.refusal.Refusal.TheVariants.{MalformedFile, ColumnsDiffer, TooManyEntries, ShortScratch, InvalidInput, OffGrid, WorkLimitExceeded, ShortOutput}
-use Rattle.drawing.specs.declared.refusal.Check.{Check}
-use Rattle.drawing.specs.declared.refusal.Check.TheVariants.{Passed, Refused}
 use Rattle.drawing.specs.Entries.{SegmentColumns}
 use Rattle.drawing.specs.Refusals.{number_of, first_of, scratch_after}
 use Rattle.drawing.specs.Conditions.{short_scratch}
@@ -21,7 +19,6 @@ use Rattle.drawing.specs.Checks.{segment_conditions}
 use Rattle.clearance.specs.Conditions.{clearance_conditions}
 use Rattle.separation.specs.Conditions.{separation_conditions}
 use Rattle.congestion.specs.declared.report.ParallelCongestion.{ParallelCongestion}
-use Rattle.congestion.specs.declared.report.CongestionAnswer.{CongestionAnswer}
 use Rattle.congestion.specs.Conditions.{congestion_conditions}
 use Rattle.congestion.specs.Answer.{density_answer, profile_answer, congestion_answer, without_density}
 use Rattle.demands.specs.Measures.{Measure, Run, result_of_run, earlier, visits_reach, Lists, clearance, separation, of_congestion, density, profile, congestion}
@@ -56,7 +53,7 @@ record Results (m : Measure) : Type 0 where
 -- the checks refuse by that number
 record Stops (l : List (Bool × Refusal)) (k : ℕ) : Type 0 where
   refusal : Refusal
-  first : first_of l ≡ Refused refusal
+  first : first_of l ≡ Err refusal
   numbered : number_of refusal ≡ k
 
 -- the checks are the same for every scratch that is long enough
@@ -67,8 +64,8 @@ module _ (m : Measure) (facts : Facts m) (results : Results m) (d : m.Drawing) (
   returns : (r : Run m) → On m d s words r → result_of_run m r ≡ m.result (m.answer d s r.allowance (length r.before))
   returns r on = ap m.result r.says.answers ∙ (λ i. m.result (m.answer (on.same-drawing i) (on.same-settings i) r.allowance (length r.before)))
 
-  leaves : (r : Run m) → On m d s words r → (c : Check) → first_of (m.conditions d s words) ≡ c → r.after ≡ scratch_after c r.before
-  leaves r on c e = r.says.leaves ∙ ap (λ (x : Check). scratch_after x r.before) (checks r on ∙ e)
+  leaves : (r : Run m) → On m d s words r → (c : (Result Unit Refusal)) → first_of (m.conditions d s words) ≡ c → r.after ≡ scratch_after c r.before
+  leaves r on c e = r.says.leaves ∙ ap (λ (x : (Result Unit Refusal)). scratch_after x r.before) (checks r on ∙ e)
 
   passes-there : Passes m d s words → (w : ℕ) → words ≤ w → Passes m d s w
   passes-there p w h = ap first_of (sym (roomy w h)) ∙ p
@@ -86,14 +83,14 @@ module _ (m : Measure) (facts : Facts m) (results : Results m) (d : m.Drawing) (
       walk = λ h. facts.walks d s words h passes ∙ (λ i. record { value = figures-are i; cost = count-is i });
       accepted = λ r on t. settled r on ∙ cond_true (m.reaches r.allowance n) _ _ t;
       spent = λ r on t. settled r on ∙ cond_false (m.reaches r.allowance n) _ _ t;
-      scratch = λ r on. leaves r on Passed passes;
+      scratch = λ r on. leaves r on (Ok tt) passes;
     }
 
   -- ---- the same from the result of one call, with a scratch of this length or longer
   module _ (long : ℕ) (room : words ≤ long) (a : m.Allowance) (f : m.Figures) (n : ℕ) (is : result_on m d s a long ≡ m.accepted f n) where
-    passed : (c : Check) → first_of (m.conditions d s long) ≡ c → first_of (m.conditions d s long) ≡ Passed
-    passed Passed e = e
-    passed (Refused x) e = absurd (not_zero x (sym (results.of_report f n) ∙ ap results.number (sym is) ∙ ap results.number (facts.refuses d s a long x e) ∙ results.of-refusal (number_of x)))
+    passed : (c : (Result Unit Refusal)) → first_of (m.conditions d s long) ≡ c → first_of (m.conditions d s long) ≡ (Ok tt)
+    passed (Ok tt) e = e
+    passed (Err x) e = absurd (not_zero x (sym (results.of_report f n) ∙ ap results.number (sym is) ∙ ap results.number (facts.refuses d s a long x e) ∙ results.of-refusal (number_of x)))
 
     passes-long : Passes m d s long
     passes-long = passed (first_of (m.conditions d s long)) refl
@@ -116,7 +113,7 @@ module _ (m : Measure) (facts : Facts m) (results : Results m) (d : m.Drawing) (
   unfolding scratch_after
   refused-by k x r on = record {
     returned = returns r on ∙ facts.refuses d s r.allowance (length r.before) x.refusal (ap first_of (sym (roomy (length r.before) on.enough)) ∙ x.first) ∙ ap m.refused x.numbered;
-    left = leaves r on (Refused x.refusal) x.first;
+    left = leaves r on (Err x.refusal) x.first;
   }
 
   -- and that from the result of one call
@@ -128,9 +125,9 @@ module _ (m : Measure) (facts : Facts m) (results : Results m) (d : m.Drawing) (
     not_settled true g = not-0 (sym (results.of_report _ _) ∙ g)
     not_settled false g = not-7 (sym (results.of-refusal 7) ∙ g)
 
-    which : (c : Check) → first_of (m.conditions d s long) ≡ c → Stops (m.conditions d s words) k
-    which (Refused x) e = record { refusal = x; first = ap first_of (roomy long room) ∙ e; numbered = sym (results.of-refusal (number_of x)) ∙ number_is _ (facts.refuses d s a long x e) }
-    which Passed e = absurd (not_settled (m.reaches a (m.count d s)) (number_is _ (facts.settles d s a long e)))
+    which : (c : (Result Unit Refusal)) → first_of (m.conditions d s long) ≡ c → Stops (m.conditions d s words) k
+    which (Err x) e = record { refusal = x; first = ap first_of (roomy long room) ∙ e; numbered = sym (results.of-refusal (number_of x)) ∙ number_is _ (facts.refuses d s a long x e) }
+    which (Ok tt) e = absurd (not_settled (m.reaches a (m.count d s)) (number_is _ (facts.settles d s a long e)))
 
     stops : Stops (m.conditions d s words) k
     stops = which (first_of (m.conditions d s long)) refl
@@ -152,7 +149,7 @@ separation_results = record {
   one_report = λ f g i j e. ((λ x. record { least = (e x).1.minimum; least_nonzero = (e x).1.minimum_positive }), ap (λ r. r.1.visits) e);
 }
 
-module _ (part : Charged (ParallelCongestion × Gap) → Charged (ParallelCongestion × Gap)) (A : Type 0) (reach : A → ℕ → Bool) (answers : SegmentColumns → Float → A → ℕ → CongestionAnswer) where
+module _ (part : Charged (ParallelCongestion × (Option Float)) → Charged (ParallelCongestion × (Option Float))) (A : Type 0) (reach : A → ℕ → Bool) (answers : SegmentColumns → Float → A → ℕ → (Result CongestionReport Refusal)) where
   congestion_results : Results (of_congestion part A reach answers)
   congestion_results = record {
     number = λ r. r.0;
@@ -199,7 +196,7 @@ by-separation : (s : SegmentColumns) (words : ℕ) → 32 * (length s.net + 0) +
 by-separation s words h a f n e = from_told separation separation_facts separation_results s tt words (separation_roomy s words h) words (le_refl words) a f n e
 
 -- the three calls have one count, and their figures are parts of one report
-by-congestion : (s : SegmentColumns) (cutoff : Float) (words : ℕ) → 32 * (length s.net + 0) + 64 ≤ words → (a : ℕ) (f : ParallelCongestion × Gap) (n : ℕ) → result_on density s cutoff a words ≡ density.accepted f n → Congestion s cutoff words f n
+by-congestion : (s : SegmentColumns) (cutoff : Float) (words : ℕ) → 32 * (length s.net + 0) + 64 ≤ words → (a : ℕ) (f : ParallelCongestion × (Option Float)) (n : ℕ) → result_on density s cutoff a words ≡ density.accepted f n → Congestion s cutoff words f n
 by-congestion s cutoff words h a f n e =
     let room = congestion_roomy s cutoff words h in
     let p = passes density density_facts density_results s cutoff words room words (le_refl words) a f n e in

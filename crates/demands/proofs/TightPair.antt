@@ -1,12 +1,9 @@
 -- The tight pair. Assumes nothing.
+use Rattle.std.specs.Prelude.{Option, Some, None, Result, Ok, Err}
 use mathlib.Core.Path.{◌≡◌, refl, ap, ◌∙◌}
 use mathlib.Core.Option.{none}
 use lib.Ieee.{Float}
-use Rattle.drawing.specs.declared.gap.Gap.{Gap}
-use Rattle.drawing.specs.declared.gap.Gap.TheVariants.{Absent, Present}
 use Rattle.drawing.specs.declared.refusal.Refusal.{Refusal}
-use Rattle.drawing.specs.declared.refusal.Check.{Check}
-use Rattle.drawing.specs.declared.refusal.Check.TheVariants.{Passed, Refused as Stopped}
 use Rattle.drawing.specs.Entries.{SegmentColumns, NodeColumns, ExemptionColumns, segments, nodes, exemptions}
 use Rattle.drawing.specs.Gaps.{least_gap}
 use Rattle.drawing.specs.Refusals.{number_of, first_of, checked}
@@ -22,22 +19,22 @@ use Rattle.demands.proofs.CheckingOrder.{of-tight-pair}
 
 module _ (s : SegmentColumns) (n : NodeColumns) (e : ExemptionColumns) (r : TightPair) (a : Answered s n e r) where
   -- from the outcome of the checks, and from the least clearance
-  answered : (c : Check) → first_of (tight_pair_conditions s n e) ≡ c → (g : Gap) → least_gap (distances (exemptions e) (segments s) (nodes n)) ≡ g → r ≡ checked tightPair.Refused c (pair_if_any g a.choice)
+  answered : (c : (Result Unit Refusal)) → first_of (tight_pair_conditions s n e) ≡ c → (g : (Option Float)) → least_gap (distances (exemptions e) (segments s) (nodes n)) ≡ g → r ≡ checked tightPair.Refused c (pair_if_any g a.choice)
   unfolding tight_pair_answer
   answered c p g q = a.is ∙ (λ i. checked tightPair.Refused (p i) (pair_if_any (q i) a.choice))
 
   unfit : (why : Refusal) → First (tight_pair_conditions s n e) why → result_of r ≡ (number_of why, none)
   unfolding result_of
-  unfit why f = ap result_of (answered (Stopped why) (first-refused (tight_pair_conditions s n e) why f) _ refl)
+  unfit why f = ap result_of (answered (Err why) (first-refused (tight_pair_conditions s n e) why f) _ refl)
 
-  no_pair : NoneApplies (tight_pair_conditions s n e) → (threshold : Float) → (figures (exemptions e) (λ net. threshold) (segments s) (nodes n)).least ≡ Absent → result_of r ≡ (0, none)
+  no_pair : NoneApplies (tight_pair_conditions s n e) → (threshold : Float) → (figures (exemptions e) (λ net. threshold) (segments s) (nodes n)).least ≡ None → result_of r ≡ (0, none)
   unfolding pair_if_any result_of figures
-  no_pair h threshold g = ap result_of (answered Passed (none_passed (tight_pair_conditions s n e) h) Absent g)
+  no_pair h threshold g = ap result_of (answered (Ok tt) (none_passed (tight_pair_conditions s n e) h) None g)
 
-  some_pair : NoneApplies (tight_pair_conditions s n e) → (threshold d : Float) → (figures (exemptions e) (λ net. threshold) (segments s) (nodes n)).least ≡ Present d → Pair s n e r
+  some_pair : NoneApplies (tight_pair_conditions s n e) → (threshold d : Float) → (figures (exemptions e) (λ net. threshold) (segments s) (nodes n)).least ≡ Some d → Pair s n e r
   unfolding pair_if_any result_of figures
   some_pair h threshold d g =
-      let is : r ≡ tightPair.Pair a.choice.0 a.choice.1 = answered Passed (none_passed (tight_pair_conditions s n e) h) (Present d) g in
+      let is : r ≡ tightPair.Pair a.choice.0 a.choice.1 = answered (Ok tt) (none_passed (tight_pair_conditions s n e) h) (Some d) g in
       record { segment = a.choice.0; node = a.choice.1; returned = ap result_of is; tight = a.tight a.choice.0 a.choice.1 is }
 
 pub tight-pairs : TightPairs

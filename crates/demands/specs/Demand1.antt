@@ -1,8 +1,7 @@
 -- SCOPE 8.1, demand 1: "Where an input is unfit, the call returns the first refusal that applies in document 01's list and touches no lent memory; where the allowance runs out it returns that refusal and a cleared scratch; every call ends, for all inputs, with no condition laid on its caller."
 -- `proofs/Demand1.antt` proves `Demand1`; that every call ends, and requires nothing of its caller, is stated of the functions themselves, in `readability`, specs/Calls. Lists and settings are lent or passed to be read only: the scratch is the one part of lent memory that a call may write. The tight pair's refusals are in `TightPair`; it is lent nothing that it may write.
-use Rattle.std.specs.Prelude.{◌≡◌, Bool, true, false, ◌⊎◌, List, ℕ, length, replicate}
+use Rattle.std.specs.Prelude.{◌≡◌, Bool, true, false, ◌⊎◌, List, ℕ, length, replicate, Result}
 use Rattle.drawing.specs.declared.refusal.Refusal.{Refusal}
-use Rattle.drawing.specs.declared.refusal.Check.{Check}
 use Rattle.drawing.specs.Refusals.{number_of, number_of_check, first_of}
 use Rattle.demands.specs.Applies.{First, NoneApplies, InOrder}
 use Rattle.demands.specs.Measures.{Measure, Run, result_of_run, visit_count, earlier, all_pairs_report, Call, measure_of}
@@ -32,7 +31,7 @@ pub record Refusing (m : Measure) : Type 0 where
   pub accepted : (r : Run m) → NoneApplies (earlier m r) → m.reaches r.allowance (visit_count m r) ≡ true → Returns m r (all_pairs_report m r) (cleared r.before)
 
 -- what a check of these conditions returns, by its number: that of the first refusal that applies, or 0
-pub record Checking (l : List (Bool × Refusal)) (answer : Check) : Type 0 where
+pub record Checking (l : List (Bool × Refusal)) (answer : (Result Unit Refusal)) : Type 0 where
   pub unfit : (refusal : Refusal) → First l refusal → number_of_check answer ≡ number_of refusal
   pub fit : NoneApplies l → number_of_check answer ≡ 0
 
@@ -41,4 +40,4 @@ pub record Demand1 : Type 0 where
   -- SCOPE 7.0, "in document 01's list": the conditions of each call are in the order of that list, so the first of them that holds is the first there
   pub in_order : (call : Call) (d : (measure_of call).Drawing) (s : (measure_of call).Settings) (words : ℕ) → InOrder 0 ((measure_of call).conditions d s words)
   -- the public checks: the contract of each is that it returns `first_of` of its conditions
-  pub of_checks : (l : List (Bool × Refusal)) (answer : Check) → answer ≡ first_of l → Checking l answer
+  pub of_checks : (l : List (Bool × Refusal)) (answer : (Result Unit Refusal)) → answer ≡ first_of l → Checking l answer

@@ -1,10 +1,9 @@
 -- SCOPE 2.8, 9.6, request No. 1: "A segment with start above end is now taken as if its two ends had been given in rising order, by every measure and the tight pair, and no call, later ones included, gives 5 for that alone. Start equal to end still gives 5. A drawing that was accepted keeps its report".
 -- `proofs/Directions.antt` proves `Directions`.
-use Rattle.std.specs.Prelude.{◌≡◌, ◌↔◌, true, false, List, [], ◌∷◌, map, ◌≤◌, ltb, Float}
+use Rattle.std.specs.Prelude.{◌≡◌, ◌↔◌, true, false, List, [], ◌∷◌, map, ◌≤◌, ltb, Float, Some}
 use Rattle.std.specs.Float.Ieee.{lt, eq}
 use Rattle.std.specs.Float.Ieee.Scale.{finite}
 use Rattle.laws.specs.Lists.{Mem, All, some_of}
-use Rattle.drawing.specs.declared.gap.Gap.TheVariants.{Present}
 use Rattle.drawing.specs.Entries.{Segment, SegmentColumns, NodeColumns, ExemptionColumns, segment_columns, node_columns, as_lent, ends_in_order, as_taken, segments, columns_of}
 use Rattle.drawing.specs.Conditions.{unfit_segment}
 use Rattle.tight_pair.specs.declared.TightPair.{TightPair}
@@ -65,11 +64,11 @@ pub record FitOtherwise (s : Segment) : Type 0 where
 
 -- ---- drawing D (SCOPE 11.5) in other directions: its figures and visits, and 7 with one visit less
 pub record MeasuredAsD (s : SegmentColumns) (n : NodeColumns) : Type 0 where
-  pub clearance-accepted : result_on clearance (record { segments = s; nodes = n; exemptions = D_exemptions }) two 2 160 ≡ clearance_is (Present one) 1 2
+  pub clearance-accepted : result_on clearance (record { segments = s; nodes = n; exemptions = D_exemptions }) two 2 160 ≡ clearance_is (Some one) 1 2
   pub clearance-refused : result_on clearance (record { segments = s; nodes = n; exemptions = D_exemptions }) two 1 160 ≡ clearance.refused 7
-  pub separation-accepted : result_on separation s tt 16 128 ≡ separation_is (Present four) (Present four) 16
+  pub separation-accepted : result_on separation s tt 16 128 ≡ separation_is (Some four) (Some four) 16
   pub separation-refused : result_on separation s tt 15 128 ≡ separation.refused 7
-  pub congestion-accepted : result_on density s six 4 128 ≡ congestion_is twenty ten five 1 (Present four) 4
+  pub congestion-accepted : result_on density s six 4 128 ≡ congestion_is twenty ten five 1 (Some four) 4
   pub congestion-refused : result_on density s six 3 128 ≡ density.refused 7
 
 -- D upright, x and y exchanged

@@ -1,9 +1,8 @@
 -- SCOPE 16, request No. 2: "Add a joiner: from segment columns it writes, into lent output columns, the fewest pieces of each net, orientation and fixed coordinate that cover the same points of the real line". What holds of the joined list is `JoinedLists`, in the crate `joining`; here it is said of every run of the call. `proofs/Joining.antt` proves `Joining`.
-use Rattle.std.specs.Prelude.{◌≡◌, ◌⊎◌, false, ℕ, ◌-◌, length, take}
+use Rattle.std.specs.Prelude.{◌≡◌, ◌⊎◌, false, ℕ, ◌-◌, length, take, Ok}
 use Rattle.laws.specs.Lists.{All}
 use Rattle.laws.specs.Perm.{Perm}
 use Rattle.drawing.specs.declared.refusal.Refusal.{Refusal}
-use Rattle.drawing.specs.declared.refusal.Check.TheVariants.{Passed}
 use Rattle.drawing.specs.Conditions.{short_output}
 use Rattle.drawing.specs.Checks.{segment_list_conditions}
 use Rattle.drawing.specs.Entries.{SegmentColumns, segment_columns, as_lent, segments}
@@ -22,7 +21,7 @@ use Rattle.demands.specs.Directions.{columns_as_taken}
 pub record JoinSays (lent before : SegmentColumns) (returned : JoinAnswer) (after : SegmentColumns) : Type 0 where
   pub answers : returned ≡ join_answer lent before
   pub leaves : after ≡ output_after lent before
-  pub held : first_of (segment_list_conditions lent) ≡ Passed → SegmentsHeld lent
+  pub held : first_of (segment_list_conditions lent) ≡ (Ok tt) → SegmentsHeld lent
 
 -- a call of the joiner
 pub record JoinRun : Type 0 where

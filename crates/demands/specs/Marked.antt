@@ -1,10 +1,8 @@
 -- The marked cases of SCOPE 13, (a) to (l), each as the result of a measure's definition on a drawing. `proofs/Marked.antt` proves `Marked`.
 -- Where SCOPE 13 gives no visits the equation states those that the definition counts.
-use Rattle.std.specs.Prelude.{◌≡◌, [], ◌∷◌, ℕ, Float}
+use Rattle.std.specs.Prelude.{◌≡◌, [], ◌∷◌, ℕ, Float, Option, Some, None}
 use Rattle.std.specs.Float.{binary64}
 use Rattle.std.specs.Float.Ieee.{of_bits}
-use Rattle.drawing.specs.declared.gap.Gap.{Gap}
-use Rattle.drawing.specs.declared.gap.Gap.TheVariants.{Absent, Present}
 use Rattle.drawing.specs.Entries.{SegmentColumns, NodeColumns, ExemptionColumns, segment_columns, node_columns, exemption_columns}
 use Rattle.demands.specs.Measures.{Measure, clearance, separation, density}
 
@@ -92,44 +90,44 @@ abbrev pub result_on : (m : Measure) → m.Drawing → m.Settings → m.Allowanc
 result_on m drawing settings allowance words = m.result (m.answer drawing settings allowance words)
 
 -- separation: least, least nonzero, visits
-abbrev pub separation_is : Gap → Gap → ℕ → separation.Result
+abbrev pub separation_is : (Option Float) → (Option Float) → ℕ → separation.Result
 separation_is g h n = separation.accepted (record { least = g; least_nonzero = h }) n
 
 -- clearance: least, violations, visits
-abbrev pub clearance_is : Gap → ℕ → ℕ → clearance.Result
+abbrev pub clearance_is : (Option Float) → ℕ → ℕ → clearance.Result
 clearance_is g v n = clearance.accepted (record { least = g; violations = v }) n
 
 -- congestion: total, congested, pair overlap, peak, least nonzero close gap, visits
-abbrev pub congestion_is : Float → Float → Float → ℕ → Gap → ℕ → density.Result
+abbrev pub congestion_is : Float → Float → Float → ℕ → (Option Float) → ℕ → density.Result
 congestion_is t c o p g n = density.accepted (record { total_length = t; congested_length = c; pair_overlap_length = o; peak_close_neighbors = p }, g) n
 
 pub record Marked : Type 0 where
   -- SCOPE 13.a: "(a) one segment, allowance 0: separation absent, 0 visits"
-  pub a : result_on separation (alone 1 zero zero ten) tt 0 96 ≡ separation_is Absent Absent 0
+  pub a : result_on separation (alone 1 zero zero ten) tt 0 96 ≡ separation_is None None 0
   -- SCOPE 13.b: "(b) D's separation accepted at 16, refused at 15"
-  pub b-accepted : result_on separation D tt 16 128 ≡ separation_is (Present four) (Present four) 16
+  pub b-accepted : result_on separation D tt 16 128 ≡ separation_is (Some four) (Some four) 16
   pub b-refused : result_on separation D tt 15 128 ≡ separation.refused 7
   -- SCOPE 13.c: "(c) D's congestion at 4 and 3"
-  pub c-accepted : result_on density D six 4 128 ≡ congestion_is twenty ten five 1 (Present four) 4
+  pub c-accepted : result_on density D six 4 128 ≡ congestion_is twenty ten five 1 (Some four) 4
   pub c-refused : result_on density D six 3 128 ≡ density.refused 7
   -- SCOPE 13.d: "(d) 0 to 5 and 5 to 9, nets 1 and 2: absent"
-  pub d : result_on separation (pair 1 2 (zero, zero, five) (four, five, nine)) tt 1000 128 ≡ separation_is Absent Absent 14
+  pub d : result_on separation (pair 1 2 (zero, zero, five) (four, five, nine)) tt 1000 128 ≡ separation_is None None 14
   -- SCOPE 13.e: "(e) equal fixed, overlapping, two nets: least 0, nonzero absent"
-  pub e : result_on separation (pair 1 2 (four, zero, ten) (four, five, nine)) tt 1000 128 ≡ separation_is (Present zero) Absent 10
+  pub e : result_on separation (pair 1 2 (four, zero, ten) (four, five, nine)) tt 1000 128 ≡ separation_is (Some zero) None 10
   -- SCOPE 13.f: "(f) one net, gap 1: absent"
-  pub f : result_on separation (pair 1 1 (zero, zero, ten) (one, five, nine)) tt 1000 128 ≡ separation_is Absent Absent 14
+  pub f : result_on separation (pair 1 1 (zero, zero, ten) (one, five, nine)) tt 1000 128 ≡ separation_is None None 14
   -- SCOPE 13.g: "(g) distance 2, threshold 2: no violation"
-  pub g : result_on clearance (record { segments = alone 1 zero zero ten; nodes = node_7 two; exemptions = D_exemptions }) two 1000 160 ≡ clearance_is (Present two) 0 1
+  pub g : result_on clearance (record { segments = alone 1 zero zero ten; nodes = node_7 two; exemptions = D_exemptions }) two 1000 160 ≡ clearance_is (Some two) 0 1
   -- SCOPE 13.h: "(h) no nodes, threshold -1: 5"
   pub h : result_on clearance (record { segments = D; nodes = no_nodes; exemptions = D_exemptions }) minus_one 1000 160 ≡ clearance.refused 5
   -- SCOPE 13.i: "(i) no segments, threshold 0: absent, 0, 0"
-  pub i : result_on clearance (record { segments = no_segments; nodes = node_7 one; exemptions = D_exemptions }) zero 0 160 ≡ clearance_is Absent 0 0
+  pub i : result_on clearance (record { segments = no_segments; nodes = node_7 one; exemptions = D_exemptions }) zero 0 160 ≡ clearance_is None 0 0
   -- SCOPE 13.j: "(j) gap 4, cutoff 4, two overlapping segments: congested 0, 2 visits"
-  pub j : result_on density D four 2 128 ≡ congestion_is twenty zero zero 0 Absent 2
+  pub j : result_on density D four 2 128 ≡ congestion_is twenty zero zero 0 None 2
   -- SCOPE 13.k: "(k) 1/64 and 1,048,576 pass, 1/128 gives 6"
-  pub k_passes : result_on density (alone 1 the_most a_64th a_32nd) a_64th 0 96 ≡ congestion_is a_64th zero zero 0 Absent 0
+  pub k_passes : result_on density (alone 1 the_most a_64th a_32nd) a_64th 0 96 ≡ congestion_is a_64th zero zero 0 None 0
   pub k_off_the_grid : result_on density (alone 1 the_most a_128th a_32nd) a_64th 0 96 ≡ density.refused 6
   -- SCOPE 13.l: "(l) fixed -1 and -0, cutoff 1: not close"
-  pub l : result_on density (pair 1 2 (minus_one, zero, ten) (minus_zero, zero, ten)) one 2 128 ≡ congestion_is twenty zero zero 0 Absent 2
+  pub l : result_on density (pair 1 2 (minus_one, zero, ten) (minus_zero, zero, ten)) one 2 128 ≡ congestion_is twenty zero zero 0 None 2
   -- SCOPE 11.5, D's sheet: "clearance 3ff0000000000000 1 2", "separation 4010000000000000 4010000000000000 16", "congestion 4034000000000000 4024000000000000 4014000000000000 1 4010000000000000 4"; the last two are (b) and (c)
-  pub sheet : result_on clearance (record { segments = D; nodes = node_7 one; exemptions = D_exemptions }) two 1000 160 ≡ clearance_is (Present one) 1 2
+  pub sheet : result_on clearance (record { segments = D; nodes = node_7 one; exemptions = D_exemptions }) two 1000 160 ≡ clearance_is (Some one) 1 2

@@ -1,31 +1,25 @@
 -- The five measures (SCOPE 6.1), each as its crate defines it, and what is meant by a run of one.
 -- SCOPE 6.1, 6.2: "A measure is one of the four calls above whose names end in `_bounded`, or `measure_parallel_congestion`, which counts as having an allowance that always reaches".
-use Rattle.std.specs.Prelude.{◌≡◌, Bool, true, false, not, List, [], ◌∷◌, ◌++◌, ℕ, leb, Float, length}
+use Rattle.std.specs.Prelude.{◌≡◌, Bool, true, false, not, List, [], ◌∷◌, ◌++◌, ℕ, leb, Float, length, Option, Some, None, Result, Ok}
 use Rattle.std.specs.Float.{nan, inf, fin}
 use Rattle.laws.specs.Perm.{Perm}
 use Rattle.laws.specs.Charged.{Charged}
 use Rattle.drawing.specs.declared.refusal.Refusal.{Refusal}
-use Rattle.drawing.specs.declared.refusal.Check.TheVariants.{Passed}
-use Rattle.drawing.specs.declared.gap.Gap.{Gap}
-use Rattle.drawing.specs.declared.gap.Gap.TheVariants.{Absent, Present}
 use Rattle.drawing.specs.Entries.{SegmentColumns, NodeColumns, ExemptionColumns, as_lent, segments, nodes, exemptions}
 use Rattle.drawing.specs.Held.{Binary64, SegmentsHeld, NodesHeld}
 use Rattle.drawing.specs.Refusals.{first_of, scratch_after}
 use Rattle.clearance.specs.declared.report.EdgeNodeClearance.{EdgeNodeClearance}
-use Rattle.clearance.specs.declared.report.ClearanceAnswer.{ClearanceAnswer}
 use Rattle.clearance.specs.Conditions.{clearance_conditions}
 use Rattle.clearance.specs.Figures as ofClearance
 use Rattle.clearance.specs.Walk as clearanceWalk
 use Rattle.clearance.specs.Answer as clearanceCall
 use Rattle.separation.specs.declared.report.ParallelSeparation.{ParallelSeparation}
-use Rattle.separation.specs.declared.report.SeparationAnswer.{SeparationAnswer}
 use Rattle.separation.specs.Conditions.{separation_conditions}
 use Rattle.separation.specs.Figures as ofSeparation
 use Rattle.separation.specs.Walk as separationWalk
 use Rattle.separation.specs.Answer as separationCall
 use Rattle.congestion.specs.declared.report.ParallelCongestion.{ParallelCongestion}
 use Rattle.congestion.specs.declared.report.CongestionReport.{CongestionReport}
-use Rattle.congestion.specs.declared.report.CongestionAnswer.{CongestionAnswer}
 use Rattle.congestion.specs.Conditions.{congestion_conditions}
 use Rattle.congestion.specs.Visits as congestionVisits
 use Rattle.congestion.specs.AllPairs.{all_pairs}
@@ -82,9 +76,9 @@ abbrev pub Reported : Float → Type 0
 Reported x = Binary64 x × (unsigned x ≡ true)
 
 -- the float of a gap, where there is one
-abbrev pub present : Gap → List Float
-present Absent = []
-present (Present x) = x ∷ []
+abbrev pub present : (Option Float) → List Float
+present None = []
+present (Some x) = x ∷ []
 
 -- ---- `measure_edge_node_clearance_bounded`
 pub record Lists : Type 0 where
@@ -106,7 +100,7 @@ clearance = record {
   floats = λ f. present f.least;
   walk = λ d threshold. clearanceWalk.walk_all (exemptions d.exemptions) (λ net. threshold) (segments d.segments) (nodes d.nodes);
   count = λ d threshold. clearanceWalk.visit_count (exemptions d.exemptions) (λ net. threshold) (segments d.segments) (nodes d.nodes);
-  Answer = ClearanceAnswer;
+  Answer = (Result EdgeNodeClearance Refusal);
   answer = λ d threshold allowance words. clearanceCall.clearance_answer d.segments d.nodes d.exemptions threshold allowance words;
   Result = ℕ × EdgeNodeClearance;
   result = clearanceCall.result_of;
@@ -129,7 +123,7 @@ separation = record {
   floats = λ f. present f.least ++ present f.least_nonzero;
   walk = λ s none. separationWalk.walk_all (segments s);
   count = λ s none. separationWalk.visit_count (segments s);
-  Answer = SeparationAnswer;
+  Answer = (Result ParallelSeparation Refusal);
   answer = λ s none allowance words. separationCall.separation_answer s allowance words;
   Result = ℕ × ParallelSeparation;
   result = separationCall.result_of;
@@ -138,7 +132,7 @@ separation = record {
 }
 
 -- ---- the three calls of congestion (SCOPE 6.2), whose figures are a part of one report
-abbrev pub of_congestion : (Charged (ParallelCongestion × Gap) → Charged (ParallelCongestion × Gap)) → (A : Type 0) → (A → ℕ → Bool) → (SegmentColumns → Float → A → ℕ → CongestionAnswer) → Measure
+abbrev pub of_congestion : (Charged (ParallelCongestion × (Option Float)) → Charged (ParallelCongestion × (Option Float))) → (A : Type 0) → (A → ℕ → Bool) → (SegmentColumns → Float → A → ℕ → (Result CongestionReport Refusal)) → Measure
 of_congestion part A reach answers = record {
   Drawing = SegmentColumns;
   Reordered = λ s t. Perm (as_lent s) (as_lent t);
@@ -147,12 +141,12 @@ of_congestion part A reach answers = record {
   Allowance = A;
   reaches = reach;
   conditions = λ s cutoff words. congestion_conditions s cutoff words;
-  Figures = ParallelCongestion × Gap;
+  Figures = ParallelCongestion × (Option Float);
   figures = λ s cutoff. (part (all_pairs cutoff (segments s))).value;
   floats = λ f. f.0.total_length ∷ f.0.congested_length ∷ f.0.pair_overlap_length ∷ present f.1;
   walk = λ s cutoff. part (congestionWalk.walk_all cutoff (segments s));
   count = λ s cutoff. congestionVisits.visit_count cutoff (segments s);
-  Answer = CongestionAnswer;
+  Answer = (Result CongestionReport Refusal);
   answer = answers;
   Result = ℕ × CongestionReport;
   result = result_of;
@@ -187,7 +181,7 @@ measure_of parallel_congestion = congestion
 pub record Says (m : Measure) (drawing : m.Drawing) (settings : m.Settings) (allowance : m.Allowance) (before : List ℕ) (returned : m.Answer) (after : List ℕ) : Type 0 where
   pub answers : returned ≡ m.answer drawing settings allowance (length before)
   pub leaves : after ≡ scratch_after (first_of (m.conditions drawing settings (length before))) before
-  pub held : first_of (m.conditions drawing settings (length before)) ≡ Passed → m.Held drawing settings
+  pub held : first_of (m.conditions drawing settings (length before)) ≡ (Ok tt) → m.Held drawing settings
 
 -- a run of a measure: a call of which its contract holds, by columns or by a thin entry, whose list of records is read as columns (SCOPE 2.6). `readability`, specs/Calls, shows that the functions' own contracts imply it of every call.
 pub record Run (m : Measure) : Type 0 where

@@ -1,8 +1,6 @@
 -- SCOPE 14.1 to 14.6: "These are shut out: 5 or 6 for drawings that are fit (demand 2); absent gaps for every drawing (2); a sweep that handles its first event and copies that to the rest (2); a visit total not taken from the walk (3); 7 before the first visit though the allowance suffices (3); 7 for all drawings (3); a call that leaves its scratch as found (1)."
 -- What every call that meets its contract does on drawing D, on the drawings of the marked cases and on one where a node is pruned, by columns or by records, whatever its allowance and whatever its scratch holds, of any length from the least of SCOPE 2.7 on: a program of these kinds does otherwise on one of them. `proofs/ShutOut.antt` proves `ShutOut`.
-use Rattle.std.specs.Prelude.{◌≡◌, true, false, [], ◌∷◌, ℕ, ◌≤◌, Float, length}
-use Rattle.drawing.specs.declared.gap.Gap.{Gap}
-use Rattle.drawing.specs.declared.gap.Gap.TheVariants.{Absent, Present}
+use Rattle.std.specs.Prelude.{◌≡◌, true, false, [], ◌∷◌, ℕ, ◌≤◌, Float, length, Option, Some, None}
 use Rattle.drawing.specs.Entries.{SegmentColumns, NodeColumns, node_columns}
 use Rattle.congestion.specs.declared.report.ParallelCongestion.{ParallelCongestion}
 use Rattle.congestion.specs.Answer.{without_density}
@@ -33,10 +31,10 @@ RefusedWith m drawing settings words number = (r : Run m) → On m drawing setti
 
 -- ---- congestion, by all three calls
 -- total, congested, pair overlap, peak; and the least nonzero close gap
-abbrev congestion_figures : Float → Float → Float → ℕ → Gap → ParallelCongestion × Gap
+abbrev congestion_figures : Float → Float → Float → ℕ → (Option Float) → ParallelCongestion × (Option Float)
 congestion_figures t c o p g = (record { total_length = t; congested_length = c; pair_overlap_length = o; peak_close_neighbors = p }, g)
 
-pub record Congestion (drawing : SegmentColumns) (cutoff : Float) (words : ℕ) (figures : ParallelCongestion × Gap) (visits : ℕ) : Type 0 where
+pub record Congestion (drawing : SegmentColumns) (cutoff : Float) (words : ℕ) (figures : ParallelCongestion × (Option Float)) (visits : ℕ) : Type 0 where
   pub by-density : Measured density drawing cutoff words figures visits
   -- SCOPE 6.2: "is the same with pair overlap and peak zero"
   pub by-profile : Measured profile drawing cutoff words (without_density (record { value = figures; cost = visits })).value visits
@@ -54,20 +52,20 @@ nodes_7_and_8 = node_columns (7 ∷ 8 ∷ []) (two ∷ two ∷ []) (one ∷ twen
 
 pub record ShutOut : Type 0 where
   -- ---- drawing D (SCOPE 11.5), each line of its sheet: every gap is present. Its sweeps begin with net 1 alone: the first event finds no pair.
-  pub D_clearance : Measured clearance (record { segments = D; nodes = node_7 one; exemptions = D_exemptions }) two 160 (record { least = Present one; violations = 1 }) 2
-  pub D_separation : Measured separation D tt 128 (record { least = Present four; least_nonzero = Present four }) 16
-  pub D_congestion : Congestion D six 128 (congestion_figures twenty ten five 1 (Present four)) 4
+  pub D_clearance : Measured clearance (record { segments = D; nodes = node_7 one; exemptions = D_exemptions }) two 160 (record { least = Some one; violations = 1 }) 2
+  pub D_separation : Measured separation D tt 128 (record { least = Some four; least_nonzero = Some four }) 16
+  pub D_congestion : Congestion D six 128 (congestion_figures twenty ten five 1 (Some four)) 4
   -- a node that the walk prunes: one visit for one segment and two nodes
-  pub one_pruned : Measured clearance (record { segments = alone 1 zero zero ten; nodes = nodes_7_and_8; exemptions = D_exemptions }) zero 160 (record { least = Present one; violations = 0 }) 1
+  pub one_pruned : Measured clearance (record { segments = alone 1 zero zero ten; nodes = nodes_7_and_8; exemptions = D_exemptions }) zero 160 (record { least = Some one; violations = 0 }) 1
   -- ---- the drawings of SCOPE 13, by the letters of the cases; (b) and (c) are D's
-  pub a : Measured separation (alone 1 zero zero ten) tt 96 (record { least = Absent; least_nonzero = Absent }) 0
-  pub d : Measured separation (pair 1 2 (zero, zero, five) (four, five, nine)) tt 128 (record { least = Absent; least_nonzero = Absent }) 14
-  pub e : Measured separation (pair 1 2 (four, zero, ten) (four, five, nine)) tt 128 (record { least = Present zero; least_nonzero = Absent }) 10
-  pub f : Measured separation (pair 1 1 (zero, zero, ten) (one, five, nine)) tt 128 (record { least = Absent; least_nonzero = Absent }) 14
-  pub g : Measured clearance (record { segments = alone 1 zero zero ten; nodes = node_7 two; exemptions = D_exemptions }) two 128 (record { least = Present two; violations = 0 }) 1
+  pub a : Measured separation (alone 1 zero zero ten) tt 96 (record { least = None; least_nonzero = None }) 0
+  pub d : Measured separation (pair 1 2 (zero, zero, five) (four, five, nine)) tt 128 (record { least = None; least_nonzero = None }) 14
+  pub e : Measured separation (pair 1 2 (four, zero, ten) (four, five, nine)) tt 128 (record { least = Some zero; least_nonzero = None }) 10
+  pub f : Measured separation (pair 1 1 (zero, zero, ten) (one, five, nine)) tt 128 (record { least = None; least_nonzero = None }) 14
+  pub g : Measured clearance (record { segments = alone 1 zero zero ten; nodes = node_7 two; exemptions = D_exemptions }) two 128 (record { least = Some two; violations = 0 }) 1
   pub h : RefusedWith clearance (record { segments = D; nodes = no_nodes; exemptions = D_exemptions }) minus_one 128 5
-  pub i : Measured clearance (record { segments = no_segments; nodes = node_7 one; exemptions = D_exemptions }) zero 96 (record { least = Absent; violations = 0 }) 0
-  pub j : Congestion D four 128 (congestion_figures twenty zero zero 0 Absent) 2
-  pub k_passes : Congestion (alone 1 the_most a_64th a_32nd) a_64th 96 (congestion_figures a_64th zero zero 0 Absent) 0
+  pub i : Measured clearance (record { segments = no_segments; nodes = node_7 one; exemptions = D_exemptions }) zero 96 (record { least = None; violations = 0 }) 0
+  pub j : Congestion D four 128 (congestion_figures twenty zero zero 0 None) 2
+  pub k_passes : Congestion (alone 1 the_most a_64th a_32nd) a_64th 96 (congestion_figures a_64th zero zero 0 None) 0
   pub k_off_the_grid : OffTheGrid (alone 1 the_most a_128th a_32nd) a_64th 96
-  pub l : Congestion (pair 1 2 (minus_one, zero, ten) (minus_zero, zero, ten)) one 128 (congestion_figures twenty zero zero 0 Absent) 2
+  pub l : Congestion (pair 1 2 (minus_one, zero, ten) (minus_zero, zero, ten)) one 128 (congestion_figures twenty zero zero 0 None) 2

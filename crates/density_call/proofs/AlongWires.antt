@@ -1,4 +1,6 @@
 -- One orientation, from rows in order to the tables, with the words after them cleared: the sweep may begin. Assumes nothing.
+use Rattle.drawing.specs.declared.refusal.Refusal.{Refusal}
+use Rattle.std.specs.Prelude.{None, Result, Ok}
 use mathlib.Core.Path.{◌≡◌, refl, sym, ap, ◌∙◌, subst}
 use mathlib.Core.Logic.{inl, inr}
 use mathlib.Core.List.{List, [], map}
@@ -24,7 +26,6 @@ use Rattle.laws.proofs.RowLaws.{row_more}
 use Rattle.laws.proofs.SortedLists.{sorted-at}
 use Rattle.laws.proofs.Runs.{within-free}
 use Rattle.drawing.specs.Entries.{SegmentColumns, segments}
-use Rattle.drawing.specs.declared.gap.Gap.TheVariants.{Absent}
 use Rattle.rows.specs.Rows.{Row, words, rows_in_order}
 use Rattle.rows.specs.Rows as rows
 use Rattle.rows.specs.Inner.Placed.{row_count, rows_placed, rows_spread, events_placed}
@@ -34,8 +35,6 @@ use Rattle.rows.proofs.Oriented.{oriented-sorted}
 use Rattle.rows.proofs.LentRows.{rows-count, rows_few, rows_behind, rows-kept}
 use Rattle.rows.proofs.SpreadTables.{Spread, rows-spread}
 use Rattle.rows.proofs.EventTables.{EventsOrdered, later_column, events-placed}
-use Rattle.congestion.specs.declared.found.Swept.{Swept}
-use Rattle.congestion.specs.declared.found.Swept.TheVariants.{Went}
 use Rattle.congestion.specs.Wires.{Wire, cutoff_of}
 use Rattle.congestion.specs.Walk.{begin, sweep, along}
 use Rattle.congestion.specs.Inner.Keys.{Key}
@@ -184,11 +183,11 @@ module _ (s e : List ℕ) (o n : ℕ) (c : SegmentColumns) (a : AtColumns (lengt
   count = rows-count s e o n c a.agree narrow orders
 
   -- fewer than two wires cost nothing
-  pub few_swept : (b : Bool) (cut allowance : ℕ) (z : Float) → z ≡ of_units 0 → n < 2 → Went (record { congested_length = z; pair_overlap_length = z; peak_close_neighbors = 0; minimum_positive = Absent; remaining = allowance }) ≡ swept_of (within allowance (along cut (map (wire_of_row b) l)))
+  pub few_swept : (b : Bool) (cut allowance : ℕ) (z : Float) → z ≡ of_units 0 → n < 2 → Ok (record { congested_length = z; pair_overlap_length = z; peak_close_neighbors = 0; minimum_positive = None; remaining = allowance }) ≡ swept_of (within allowance (along cut (map (wire_of_row b) l)))
   unfolding along swept_of
   few_swept b cut allowance z u h =
       let k : length (map (wire_of_row b) l) < 2 = omega (arith, length-map l (wire_of_row b), count) in
-      (λ i. Went (record { congested_length = u i; pair_overlap_length = u i; peak_close_neighbors = 0; minimum_positive = Absent; remaining = allowance }))
+      (λ i. Ok (record { congested_length = u i; pair_overlap_length = u i; peak_close_neighbors = 0; minimum_positive = None; remaining = allowance }))
       ∙ sym (ap swept_of (within-free allowance (begin [])))
       ∙ ap (λ r. swept_of (within allowance r)) (sym (cond_true (ltb (length (map (wire_of_row b) l)) 2) (free (begin [])) (sweep cut (map (wire_of_row b) l)) (lt-ltb (length (map (wire_of_row b) l)) 2 k)))
 
@@ -216,7 +215,7 @@ module _ (s e : List ℕ) (o n : ℕ) (c : SegmentColumns) (a : AtColumns (lengt
           room = omega (arith, rows-kept s e o n c a.agree narrow orders kept);
         }
 
-    pub more_swept : (b : Bool) (cut allowance : ℕ) (r : Swept) → ((x : AtRows u n from (length c.net)) → r ≡ swept_of (within allowance (sweep cut (map (wire_of_row x.across) x.l)))) → r ≡ swept_of (within allowance (along cut (map (wire_of_row b) l)))
+    pub more_swept : (b : Bool) (cut allowance : ℕ) (r : (Result Found Refusal)) → ((x : AtRows u n from (length c.net)) → r ≡ swept_of (within allowance (sweep cut (map (wire_of_row x.across) x.l)))) → r ≡ swept_of (within allowance (along cut (map (wire_of_row b) l)))
     unfolding along at_rows
     more_swept b cut allowance r g =
         let k : 2 ≤ length (map (wire_of_row b) l) = omega (arith, length-map l (wire_of_row b), count) in

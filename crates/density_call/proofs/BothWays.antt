@@ -1,4 +1,7 @@
 -- Both orientations, one after the other within an allowance, yield the figures over all pairs. Assumes nothing.
+use Rattle.drawing.specs.declared.refusal.Refusal.TheVariants.{WorkLimitExceeded}
+use Rattle.drawing.specs.declared.refusal.Refusal.{Refusal}
+use Rattle.std.specs.Prelude.{Option, Result, Ok, Err}
 use mathlib.Core.Path.{◌≡◌, refl, sym, ap, ◌∙◌, subst}
 use mathlib.Core.Logic.{inl, inr}
 use mathlib.Core.List.{List, map}
@@ -21,15 +24,12 @@ use Rattle.laws.proofs.Perms.{perm_sym, perm_mem, perm-length}
 use Rattle.laws.proofs.Runs.{within-enough, within-short, within-free, within-after, onward-spent, onward-left}
 use Rattle.floats.specs.Grid.{on_grid, of_units}
 use Rattle.floats.proofs.Units.{add_units}
-use Rattle.drawing.specs.declared.gap.Gap.{Gap}
 use Rattle.drawing.specs.Entries.{Segment}
 use Rattle.drawing.specs.Gaps.{lesser_gap}
 use Rattle.drawing.specs.Held.{SegmentHeld}
 use Rattle.rows.specs.Rows.{oriented, at_least_two}
 use Rattle.congestion.specs.declared.report.ParallelCongestion.{ParallelCongestion}
 use Rattle.congestion.specs.declared.found.Found.{Found}
-use Rattle.congestion.specs.declared.found.Swept.{Swept}
-use Rattle.congestion.specs.declared.found.Swept.TheVariants.{Went, Spent}
 use Rattle.congestion.specs.Wires.{wire_of, cutoff_of}
 use Rattle.congestion.specs.Figures.{total}
 use Rattle.congestion.specs.AllPairs.{lengths, all_pairs}
@@ -66,7 +66,7 @@ figures st m = record {
   remaining = m;
 }
 
-spent-is : (o : Outcome State) → Spent ≡ swept_of o → o ≡ spent
+spent-is : (o : Outcome State) → (Err WorkLimitExceeded) ≡ swept_of o → o ≡ spent
 unfolding swept_of
 spent-is spent e = refl
 spent-is (left st m) e = cc
@@ -76,7 +76,7 @@ record Reached (m : ℕ) (c : Charged State) (f : Found) : Type 0 where
   paid : within m c ≡ left c.value f.remaining
   is : f ≡ figures c.value f.remaining
 
-reached : (m : ℕ) (c : Charged State) (f : Found) → Went f ≡ swept_of (within m c) → Reached m c f
+reached : (m : ℕ) (c : Charged State) (f : Found) → Ok f ≡ swept_of (within m c) → Reached m c f
 unfolding swept_of
 reached m c f e = elim (le_or_lt c.cost m) [
   | inl h ↦
@@ -87,10 +87,10 @@ reached m c f e = elim (le_or_lt c.cost m) [
   | inr h ↦ absurd (never (e ∙ ap swept_of (within-short m c h)))
 ]
   where
-    one : (f g : Found) → Went f ≡ Went g → f ≡ g
+    one : (f g : Found) → Ok f ≡ Ok g → f ≡ g
     one f g e = cc
 
-    never : Went f ≡ Spent → ⊥
+    never : Ok f ≡ (Err WorkLimitExceeded) → ⊥
     never e = let z : ◌≡◌ {A = ℕ} 0 1 = cc in omega arith
 
 -- ---- one orientation after the other
@@ -108,10 +108,10 @@ module _ (c : ℕ) (some : 0 < c) (l : List Segment) where
   down = along c (map (wire_of_row false) (oriented 0 l))
 
   -- the figures of two states
-  abbrev together : State → State → ParallelCongestion × Gap
+  abbrev together : State → State → ParallelCongestion × (Option Float)
   together h v = (lengths (total (wires_in_rows l)) (h.congested_length + v.congested_length) (h.pair_overlap_length + v.pair_overlap_length) (max h.peak_close_neighbors v.peak_close_neighbors), gap_of_units (lesser ltb h.minimum_positive v.minimum_positive))
 
-  abbrev second : State → ℕ → Outcome (ParallelCongestion × Gap)
+  abbrev second : State → ℕ → Outcome (ParallelCongestion × (Option Float))
   second h r = onward (within r down) (λ v r. left (together h v) r)
 
   wires-within : (m : ℕ) → within m (sweep_wires c (wires_in_rows l)) ≡ onward (within m across) second
@@ -192,42 +192,42 @@ module _ (cutoff : Float) (grid : T (on_grid cutoff)) (l : List Segment) (fit : 
         let w = wires_in_rows l in
         let one : length (only true w) ≡ length (oriented 1 l) = ap length (only-across l) ∙ length-map (oriented 1 l) (wire_of_row true) in
         let other : length (only false w) ≡ length (oriented 0 l) = ap length (only-down l) ∙ length-map (oriented 0 l) (wire_of_row false) in
-        let cost : (sweep_wires c w).cost ≡ (along c (only true w)).cost + ((along c (only false w)).cost + 0) = ap (λ (x : Charged (ParallelCongestion × Gap)). x.cost) (cond_false (eqb c 0) _ _ (ne_eqb c 0 (λ e. omega arith))) in
+        let cost : (sweep_wires c w).cost ≡ (along c (only true w)).cost + ((along c (only false w)).cost + 0) = ap (λ (x : Charged (ParallelCongestion × (Option Float))). x.cost) (cond_false (eqb c 0) _ _ (ne_eqb c 0 (λ e. omega arith))) in
         rw (← one, ← other, all-pairs_are) (omega (arith, cost, (right true).cost-right, (right false).cost-right))
 
-    pub too_few : (m n : ℕ) → n ≡ at_least_two (length (oriented 1 l)) + at_least_two (length (oriented 0 l)) → m < n → Spent ≡ found_of (within m (all_pairs cutoff l))
+    pub too_few : (m n : ℕ) → n ≡ at_least_two (length (oriented 1 l)) + at_least_two (length (oriented 0 l)) → m < n → (Err WorkLimitExceeded) ≡ found_of (within m (all_pairs cutoff l))
     unfolding found_of
     too_few m n e k = sym (ap found_of (within-short m (all_pairs cutoff l) (omega (arith, cost-least))))
 
     -- ---- what the code answers, from the outcomes of its sweeps
-    module _ (m : ℕ) (first : Swept) (one : first ≡ swept_of (within m (across c some l))) where
+    module _ (m : ℕ) (first : (Result Found Refusal)) (one : first ≡ swept_of (within m (across c some l))) where
       whole : within m (all_pairs cutoff l) ≡ onward (within m (across c some l)) (second c some l)
       whole = ap (within m) all-pairs_are ∙ wires-within c some l m
 
-      pub stops : first ≡ Spent → Spent ≡ found_of (within m (all_pairs cutoff l))
+      pub stops : first ≡ (Err WorkLimitExceeded) → (Err WorkLimitExceeded) ≡ found_of (within m (all_pairs cutoff l))
       unfolding found_of
       stops e =
           let z : onward (within m (across c some l)) (second c some l) ≡ spent = rw (spent-is (within m (across c some l)) (sym e ∙ one)) (onward-spent (second c some l)) in
           sym (ap found_of (whole ∙ z))
 
-      module _ (a : Found) (went : first ≡ Went a) (next : Swept) (other : next ≡ swept_of (within a.remaining (down c some l))) where
+      module _ (a : Found) (went : first ≡ Ok a) (next : (Result Found Refusal)) (other : next ≡ swept_of (within a.remaining (down c some l))) where
         on : within m (all_pairs cutoff l) ≡ second c some l h a.remaining
         on = whole ∙ rw (reached m (across c some l) a (sym went ∙ one)).paid (onward-left h a.remaining (second c some l))
 
-        pub stops_later : next ≡ Spent → Spent ≡ found_of (within m (all_pairs cutoff l))
+        pub stops_later : next ≡ (Err WorkLimitExceeded) → (Err WorkLimitExceeded) ≡ found_of (within m (all_pairs cutoff l))
         unfolding found_of
         stops_later e =
             let z : second c some l h a.remaining ≡ spent = rw (spent-is (within a.remaining (down c some l)) (sym e ∙ other)) (onward-spent (λ w r. left (together c some l h w) r)) in
             sym (ap found_of (on ∙ z))
 
-        pub went_both : (d r : Found) → next ≡ Went d → r ≡ combined_of a d → Went r ≡ found_of (within m (all_pairs cutoff l))
+        pub went_both : (d r : Found) → next ≡ Ok d → r ≡ combined_of a d → Ok r ≡ found_of (within m (all_pairs cutoff l))
         unfolding found_of lengths
         went_both d r e t =
             let p = reached m (across c some l) a (sym went ∙ one) in
             let q = reached a.remaining (down c some l) d (sym e ∙ other) in
             let z : second c some l h a.remaining ≡ left (together c some l h v) d.remaining = rw q.paid (onward-left v d.remaining (λ w r. left (together c some l h w) r)) in
-            ap Went (t ∙ (λ i. combined_of (p.is i) (q.is i)))
-            ∙ (λ i. Went (record {
+            ap Ok (t ∙ (λ i. combined_of (p.is i) (q.is i)))
+            ∙ (λ i. Ok (record {
               congested_length = congested-sum i;
               pair_overlap_length = overlap-sum i;
               peak_close_neighbors = max h.peak_close_neighbors v.peak_close_neighbors;

@@ -1,4 +1,7 @@
 -- The loop over the events: after q events, the others from the state reached have the outcome of all. Assumes nothing.
+use Rattle.drawing.specs.declared.refusal.Refusal.TheVariants.{WorkLimitExceeded}
+use Rattle.drawing.specs.declared.refusal.Refusal.{Refusal}
+use Rattle.std.specs.Prelude.{Option, Result, Ok, Err}
 use mathlib.Core.Path.{◌≡◌, refl, sym, ap, ap₂, ◌∙◌, subst}
 use mathlib.Core.Logic.{inl, inr}
 use mathlib.Core.Bool.{Bool, false}
@@ -23,12 +26,8 @@ use Rattle.bitset.specs.Inner.Members.{member}
 use Rattle.bitset.proofs.Digits.{bit-zero}
 use Rattle.floats.specs.TotalOrder.{float_at}
 use Rattle.floats.proofs.Units.{unit_bound}
-use Rattle.drawing.specs.declared.gap.Gap.{Gap}
 use Rattle.drawing.specs.Inner.LeastFloats.{gap_of_float}
 use Rattle.density_call.specs.declared.sweep.Sweeping.{Sweeping}
-use Rattle.density_call.specs.declared.sweep.Handled.{Handled}
-use Rattle.density_call.specs.declared.sweep.Handled.TheVariants.{Went, Spent}
-use Rattle.congestion.specs.declared.found.Swept.TheVariants.{Went as Done, Spent as Over}
 use Rattle.congestion.specs.Wires.{Wire}
 use Rattle.congestion.specs.Walk.{Item, WireEvent, State, numbered, at, wire_events, in_order, step, first_at, begin, sweep}
 use Rattle.congestion.specs.Inner.Keys.{Key}
@@ -100,14 +99,14 @@ event_key c L s tabled e h = elim (le_or_lt (length L) e) [
 pub event_starts : (s : List ℕ) (n e : ℕ) (state : Sweeping) → n ≤ e → AtEvent s n e state → AtEvent s n (n + (e - n)) state
 event_starts s n e state h a = subst (λ (k : ℕ). AtEvent s n k state) (sym (add-sub_of_le h)) a
 
-pub handled_start : (s t : List ℕ) (n e : ℕ) (state : Sweeping) (r : Handled) → n ≤ e → Handles s t n (n + (e - n)) state r → Handles s t n e state r
+pub handled_start : (s t : List ℕ) (n e : ℕ) (state : Sweeping) (r : (Result Sweeping Refusal)) → n ≤ e → Handles s t n (n + (e - n)) state r → Handles s t n e state r
 handled_start s t n e state r h f = subst (λ (k : ℕ). Handles s t n k state r) (add-sub_of_le h) f
 
 -- ---- what the code's answer says
-never : {A : Type 0} (t : Sweeping) → Went t ≡ Spent → A
+never : {A : Type 0} (t : Sweeping) → Ok t ≡ (Err WorkLimitExceeded) → A
 never t e = let z : ◌≡◌ {A = ℕ} 0 1 = cc in absurd (omega arith)
 
-same_state : (t u : Sweeping) → Went t ≡ Went u → t ≡ u
+same_state : (t u : Sweeping) → Ok t ≡ Ok u → t ≡ u
 same_state t u e = cc
 
 -- ---- the loop over the events of the wires that the tables hold at the start
@@ -236,15 +235,15 @@ module _ (s₀ : List ℕ) (n allowance : ℕ) (a : AtFirst s₀ n) where
       abbrev taken : Charged State
       taken = step a.c g.st now
 
-      module _ (r : Handled) (t : List ℕ) (steps : Steps a.c a.L n g.st now t state.remaining r) where
-        pub going_stops : r ≡ Spent → Over ≡ swept_of (within allowance all)
+      module _ (r : (Result Sweeping Refusal)) (t : List ℕ) (steps : Steps a.c a.L n g.st now t state.remaining r) where
+        pub going_stops : r ≡ (Err WorkLimitExceeded) → (Err WorkLimitExceeded) ≡ swept_of (within allowance all)
         unfolding swept_of
         going_stops e = elim (le_or_lt taken.cost state.remaining) [
           | inl h ↦ never (steps.1 h).to (sym (steps.1 h).went ∙ e)
           | inr h ↦ sym (ap swept_of (loop_stops g.onwards ahead (within-short state.remaining taken h)))
         ]
 
-        pub going_next : (to : Sweeping) → r ≡ Went to → length t ≡ length s → Going to t (q + 1)
+        pub going_next : (to : Sweeping) → r ≡ Ok to → length t ≡ length s → Going to t (q + 1)
         unfolding runs
         going_next to e same = elim (le_or_lt taken.cost state.remaining) [
           | inr h ↦ never to (sym e ∙ steps.0 h)
@@ -265,12 +264,12 @@ module _ (s₀ : List ℕ) (n allowance : ℕ) (a : AtFirst s₀ n) where
         ]
 
     -- ---- after the last
-    pub going_all : 2 * n ≤ q → (r : Gap) → r ≡ gap_of_float state.minimum_positive → Done (record { congested_length = state.congested_length; pair_overlap_length = state.pair_overlap_length; peak_close_neighbors = state.peak_close_neighbors; minimum_positive = r; remaining = state.remaining }) ≡ swept_of (within allowance all)
+    pub going_all : 2 * n ≤ q → (r : (Option Float)) → r ≡ gap_of_float state.minimum_positive → Ok (record { congested_length = state.congested_length; pair_overlap_length = state.pair_overlap_length; peak_close_neighbors = state.peak_close_neighbors; minimum_positive = r; remaining = state.remaining }) ≡ swept_of (within allowance all)
     unfolding swept_of
     going_all h r f =
         let gap = f ∙ ap gap_of_float g.follows.least ∙ gap-again g.st.minimum_positive g.follows.held in
         let z : within allowance all ≡ left g.st state.remaining = loop_ends g.onwards (none_ahead s g.room g.tabled q h) in
-        (λ i. Done (record { congested_length = g.follows.congested i; pair_overlap_length = g.follows.overlap i; peak_close_neighbors = g.follows.peak i; minimum_positive = gap i; remaining = state.remaining })) ∙ sym (ap swept_of z)
+        (λ i. Ok (record { congested_length = g.follows.congested i; pair_overlap_length = g.follows.overlap i; peak_close_neighbors = g.follows.peak i; minimum_positive = gap i; remaining = state.remaining })) ∙ sym (ap swept_of z)
 
 pub first_small : (s₀ : List ℕ) (n : ℕ) → AtFirst s₀ n → get_or s₀ 0 0 < 2 * n
 first_small s₀ n a = number_small s₀ n 0 a s₀ a.room a.tabled 0 (omega (arith, a.some))
@@ -284,11 +283,11 @@ module _ (s₀ : List ℕ) (n allowance : ℕ) where
     pub run_event : AtFirst s₀ n → q < 2 * n → AtEvent s n (get_or s q 0) state
     run_event a less = event_due s₀ n allowance a state s q (g a) less
 
-    module _ (less : q < 2 * n) (r : Handled) (t : List ℕ) (f : Handles s t n (get_or s q 0) state r) where
-      pub run_stops : r ≡ Spent → (a : AtFirst s₀ n) → Over ≡ swept_of (within allowance (sweep a.c a.L))
+    module _ (less : q < 2 * n) (r : (Result Sweeping Refusal)) (t : List ℕ) (f : Handles s t n (get_or s q 0) state r) where
+      pub run_stops : r ≡ (Err WorkLimitExceeded) → (a : AtFirst s₀ n) → (Err WorkLimitExceeded) ≡ swept_of (within allowance (sweep a.c a.L))
       unfolding event_due
       run_stops e a = going_stops s₀ n allowance a state s q (g a) less r t (f (event_due s₀ n allowance a state s q (g a) less)) e
 
-      pub run_next : (to : Sweeping) → r ≡ Went to → length t ≡ length s → Runs to t (q + 1)
+      pub run_next : (to : Sweeping) → r ≡ Ok to → length t ≡ length s → Runs to t (q + 1)
       unfolding event_due
       run_next to e same a = going_next s₀ n allowance a state s q (g a) less r t (f (event_due s₀ n allowance a state s q (g a) less)) to e same

@@ -1,4 +1,7 @@
 -- An event by the code's steps is a step of the sweep. Assumes nothing.
+use Rattle.drawing.specs.declared.refusal.Refusal.TheVariants.{WorkLimitExceeded}
+use Rattle.drawing.specs.declared.refusal.Refusal.{Refusal}
+use Rattle.std.specs.Prelude.{Result, Ok, Err}
 use mathlib.Core.Path.{◌≡◌, refl, sym, ap, ap₂, ◌∙◌, subst}
 use mathlib.Core.Logic.{inl, inr}
 use mathlib.Core.Option.{none}
@@ -21,10 +24,7 @@ use Rattle.floats.specs.TotalOrder.{float_at}
 use Rattle.floats.specs.Grid.{of_units}
 use Rattle.floats.proofs.Units.{unit_bound}
 use Rattle.density_call.specs.declared.meet.Meeting.{Meeting}
-use Rattle.density_call.specs.declared.meet.Met.{Met}
-use Rattle.density_call.specs.declared.meet.Met.TheVariants.{Went as Paid, Spent as Over}
 use Rattle.density_call.specs.declared.sweep.Sweeping.{Sweeping}
-use Rattle.density_call.specs.declared.sweep.Handled.TheVariants.{Went, Spent}
 use Rattle.congestion.specs.Wires.{Wire}
 use Rattle.congestion.specs.Figures.{apart}
 use Rattle.congestion.specs.Walk.{Item, WireEvent, WireState, State, at, neighbor, neighbors, gap, least_here, was_congested, risen, fallen, after_start, after_end, step}
@@ -114,24 +114,24 @@ module _ (s : List ℕ) (n e : ℕ) (state : Sweeping) (a : AtEvent s n e state)
   tabled-then t u only e = tables_stay a.c a.L s u (subst (λ (m : ℕ). take (8 * m) u ≡ take (8 * m) s) (sym a.size) (e ∙ only.front)) a.tabled
 
 -- ---- a meeting's answer decides whether the sweep continues
-never : {A : Type 0} (m : Meeting) → Paid m ≡ Over → A
+never : {A : Type 0} (m : Meeting) → Ok m ≡ (Err WorkLimitExceeded) → A
 never m e = let z : ◌≡◌ {A = ℕ} 0 1 = cc in absurd (omega arith)
 
-same_meeting : (m k : Meeting) → Paid m ≡ Paid k → m ≡ k
+same_meeting : (m k : Meeting) → Ok m ≡ Ok k → m ≡ k
 same_meeting m k e = cc
 
 -- M is the meeting where the visits can be paid, and R what holds then
-abbrev Answered : ℕ → ℕ → Met → Meeting → Type 0 → Type 0
-Answered m cost met M R = (m < cost → met ≡ Over) × (cost ≤ m → (met ≡ Paid M) × R)
+abbrev Answered : ℕ → ℕ → (Result Meeting Refusal) → Meeting → Type 0 → Type 0
+Answered m cost met M R = (m < cost → met ≡ (Err WorkLimitExceeded)) × (cost ≤ m → (met ≡ Ok M) × R)
 
-module _ (c : ℕ) (L : List Wire) (n : ℕ) (st : State) (e : WireEvent) (m : ℕ) (met : Met) (M : Meeting) (R : Type 0) (answer : Answered m (step c st e).cost met M R) where
-  known : (meeting : Meeting) → met ≡ Paid meeting → meeting ≡ M
+module _ (c : ℕ) (L : List Wire) (n : ℕ) (st : State) (e : WireEvent) (m : ℕ) (met : (Result Meeting Refusal)) (M : Meeting) (R : Type 0) (answer : Answered m (step c st e).cost met M R) where
+  known : (meeting : Meeting) → met ≡ Ok meeting → meeting ≡ M
   known meeting h = elim (le_or_lt (step c st e).cost m) [ inl l ↦ same_meeting meeting M (sym h ∙ (answer.1 l).0) | inr l ↦ never meeting (sym h ∙ answer.0 l) ]
 
-  stops : (t : List ℕ) → met ≡ Over → Steps c L n st e t m Spent
+  stops : (t : List ℕ) → met ≡ (Err WorkLimitExceeded) → Steps c L n st e t m (Err WorkLimitExceeded)
   stops t h = (λ l. refl, λ l. never M (sym (answer.1 l).0 ∙ h))
 
-  goes : (meeting : Meeting) (to : Sweeping) (t : List ℕ) → met ≡ Paid meeting → (meeting ≡ M → R → Onward c L n (step c st e).value t (m - (step c st e).cost) (Went to)) → Steps c L n st e t m (Went to)
+  goes : (meeting : Meeting) (to : Sweeping) (t : List ℕ) → met ≡ Ok meeting → (meeting ≡ M → R → Onward c L n (step c st e).value t (m - (step c st e).cost) (Ok to)) → Steps c L n st e t m (Ok to)
   goes meeting to t h f = (λ l. never meeting (sym h ∙ answer.0 l), λ l. f (known meeting h) (answer.1 l).1)
 
 -- ---- a start
@@ -182,18 +182,18 @@ module _ (s : List ℕ) (n j : ℕ) (state : Sweeping) where
       key = key-start;
     }
 
-  module _ (t : List ℕ) (x : Float) (passed : Sweeping) (met : Met) (read : x ≡ float_at start_word) (pass : passed ≡ passed_to state x) (meets : Meets true s t n j passed.minimum_positive passed.remaining met) where
+  module _ (t : List ℕ) (x : Float) (passed : Sweeping) (met : (Result Meeting Refusal)) (read : x ≡ float_at start_word) (pass : passed ≡ passed_to state x) (meets : Meets true s t n j passed.minimum_positive passed.remaining met) where
     start-answer : (a : AtEvent s n (n + j) state) → Answered state.remaining (visits_of a.c a.L j a.st) met (met_at_start a state.remaining) (rows_at_start a t)
     start-answer a =
         subst (λ (m : ℕ). Answered m (visits_of a.c a.L j a.st) met (met_at_start a m) (rows_at_start a t)) (ap (λ (z : Sweeping). z.remaining) pass)
         (meets a.c a.L a.st a.st.minimum_positive a.size a.tabled a.stored (ap (λ (z : Sweeping). z.minimum_positive) pass ∙ a.follows.least) a.follows.held)
 
-    pub start_stops : met ≡ Over → Handles s t n (n + j) state Spent
+    pub start_stops : met ≡ (Err WorkLimitExceeded) → Handles s t n (n + j) state (Err WorkLimitExceeded)
     start_stops h a =
-        subst (λ (e : WireEvent). Steps a.c a.L n a.st e t state.remaining Spent) (sym (starts-at a.L n j a.size))
+        subst (λ (e : WireEvent). Steps a.c a.L n a.st e t state.remaining (Err WorkLimitExceeded)) (sym (starts-at a.L n j a.size))
         (stops a.c a.L n a.st (event false (starting a)) state.remaining met (met_at_start a state.remaining) (rows_at_start a t) (start-answer a) t h)
 
-    module _ (meeting : Meeting) (went : met ≡ Paid meeting) where
+    module _ (meeting : Meeting) (went : met ≡ Ok meeting) where
       -- the sums fit
       pub start_fits : AtEvent s n (n + j) state → (passed.congested_active + meeting.changed + 1 < 2 ^ 64) × (passed.close_pairs + meeting.neighbors < 2 ^ 64)
       start_fits a =
@@ -206,9 +206,9 @@ module _ (s : List ℕ) (n j : ℕ) (state : Sweeping) where
             omega (arith, a.due.pairs, count-few s n (n + j) state a j (start-inside a) (neighbor a.c (starting a).wire)),
           )
 
-      pub start_goes : (u : List ℕ) (to : Sweeping) → CountsOnly n s t → length t ≡ length s → u ≡ activated n j meeting.neighbors t → to ≡ started_by passed meeting → Handles s u n (n + j) state (Went to)
+      pub start_goes : (u : List ℕ) (to : Sweeping) → CountsOnly n s t → length t ≡ length s → u ≡ activated n j meeting.neighbors t → to ≡ started_by passed meeting → Handles s u n (n + j) state (Ok to)
       start_goes u to only long put done a =
-          subst (λ (e : WireEvent). Steps a.c a.L n a.st e u state.remaining (Went to)) (sym (starts-at a.L n j a.size))
+          subst (λ (e : WireEvent). Steps a.c a.L n a.st e u state.remaining (Ok to)) (sym (starts-at a.L n j a.size))
           (goes a.c a.L n a.st (event false (starting a)) state.remaining met (met_at_start a state.remaining) (rows_at_start a t) (start-answer a) meeting to u went (λ q rows.
           let room : 10 * n + 1 ≤ length t = omega (arith, a.room) in
           let some : 10 * n ≤ length t = omega arith in
@@ -279,18 +279,18 @@ module _ (s : List ℕ) (n j : ℕ) (state : Sweeping) (inside : j < n) where
       key = key-end;
     }
 
-  module _ (t : List ℕ) (x : Float) (own : ℕ) (passed : Sweeping) (met : Met) (read : x ≡ float_at end_word) (counted : own ≡ own_count) (pass : passed ≡ passed_to state x) (meets : Meets false s t n j passed.minimum_positive passed.remaining met) where
+  module _ (t : List ℕ) (x : Float) (own : ℕ) (passed : Sweeping) (met : (Result Meeting Refusal)) (read : x ≡ float_at end_word) (counted : own ≡ own_count) (pass : passed ≡ passed_to state x) (meets : Meets false s t n j passed.minimum_positive passed.remaining met) where
     end-answer : (a : AtEvent s n j state) → Answered state.remaining (visits_of a.c a.L j a.st) met (met_at_end a state.remaining) (rows_at_end a t)
     end-answer a =
         subst (λ (m : ℕ). Answered m (visits_of a.c a.L j a.st) met (met_at_end a m) (rows_at_end a t)) (ap (λ (z : Sweeping). z.remaining) pass)
         (meets a.c a.L a.st a.st.minimum_positive a.size a.tabled a.stored (ap (λ (z : Sweeping). z.minimum_positive) pass ∙ a.follows.least) a.follows.held)
 
-    pub end_stops : met ≡ Over → Handles s t n j state Spent
+    pub end_stops : met ≡ (Err WorkLimitExceeded) → Handles s t n j state (Err WorkLimitExceeded)
     end_stops h a =
-        subst (λ (e : WireEvent). Steps a.c a.L n a.st e t state.remaining Spent) (sym (ends-at a.L j (place a)))
+        subst (λ (e : WireEvent). Steps a.c a.L n a.st e t state.remaining (Err WorkLimitExceeded)) (sym (ends-at a.L j (place a)))
         (stops a.c a.L n a.st (event true (ending a)) state.remaining met (met_at_end a state.remaining) (rows_at_end a t) (end-answer a) t h)
 
-    module _ (meeting : Meeting) (went : met ≡ Paid meeting) where
+    module _ (meeting : Meeting) (went : met ≡ Ok meeting) where
       -- the subtractions do not go below 0
       pub end_fits : AtEvent s n j state → (bit (not (eqb own 0)) + meeting.changed ≤ passed.congested_active) × (meeting.neighbors ≤ passed.close_pairs)
       end_fits a =
@@ -302,9 +302,9 @@ module _ (s : List ℕ) (n j : ℕ) (state : Sweeping) (inside : j < n) where
           let mine : bit (not (eqb own 0)) ≡ was_congested a.c (ending a) a.st = ap (λ (k : ℕ). bit (not (eqb k 0))) counted ∙ sym (was-congested a) in
           (omega (arith, (takes a).active), omega (arith, (takes a).pairs))
 
-      pub end_goes : (u : List ℕ) (to : Sweeping) → CountsOnly n s t → length t ≡ length s → u ≡ deactivated n j t → to ≡ ended_by passed own meeting → Handles s u n j state (Went to)
+      pub end_goes : (u : List ℕ) (to : Sweeping) → CountsOnly n s t → length t ≡ length s → u ≡ deactivated n j t → to ≡ ended_by passed own meeting → Handles s u n j state (Ok to)
       end_goes u to only long put done a =
-          subst (λ (e : WireEvent). Steps a.c a.L n a.st e u state.remaining (Went to)) (sym (ends-at a.L j (place a)))
+          subst (λ (e : WireEvent). Steps a.c a.L n a.st e u state.remaining (Ok to)) (sym (ends-at a.L j (place a)))
           (goes a.c a.L n a.st (event true (ending a)) state.remaining met (met_at_end a state.remaining) (rows_at_end a t) (end-answer a) meeting to u went (λ q rows.
           let room : 10 * n + 1 ≤ length t = omega (arith, a.room) in
           let some : 10 * n ≤ length t = omega arith in

@@ -1,4 +1,6 @@
 -- The loop over the wires that an event's wire meets, for whatever wires the tables are of. Assumes nothing.
+use Rattle.drawing.specs.declared.refusal.Refusal.TheVariants.{WorkLimitExceeded}
+use Rattle.std.specs.Prelude.{Ok, Err}
 use mathlib.Core.Path.{◌≡◌, refl, sym, ap, ◌∙◌, subst}
 use mathlib.Core.List.{List}
 use mathlib.Core.Bool.{Bool}
@@ -19,7 +21,6 @@ use Rattle.bitset.proofs.Lasts.{Greatest, last_found, last_empty}
 use Rattle.bitset.proofs.Rests.{last-with}
 use Rattle.floats.specs.TotalOrder.{float_at}
 use Rattle.density_call.specs.declared.meet.Meeting.{Meeting}
-use Rattle.density_call.specs.declared.meet.Met.TheVariants.{Went, Spent}
 use Rattle.congestion.specs.Wires.{Wire}
 use Rattle.congestion.specs.Walk.{WireState}
 use Rattle.density_call.specs.Inner.Tables.{Tabled, wire_state_from}
@@ -63,7 +64,7 @@ module _ {starts : Bool} {n j : ℕ} {s₀ : List ℕ} {least₀ : Float} {allow
         ∙ ap (λ (w : List ℕ). last_with w (get_or s₀ (6 * n + j) 0) to rest) (sym (tail_lent (9 * n) s))
         ∙ sym told
 
-    pub turn-ends : r ≡ Empty → Meets starts s₀ s n j least₀ allowance (Went met)
+    pub turn-ends : r ≡ Empty → Meets starts s₀ s n j least₀ allowance (Ok met)
     turn-ends e c L st m size tabled stored f h = went-meets starts n j s₀ least₀ allowance c L size tabled known.inside st stored met s to (a.going c L size tabled) (last_empty (drop (9 * n) s) (get_or s₀ (6 * n + j) 0) to (last-is ∙ e)) m f h
 
     module _ {i x : ℕ} (found : r ≡ Found i x) where
@@ -88,7 +89,7 @@ module _ {starts : Bool} {n j : ℕ} {s₀ : List ℕ} {least₀ : Float} {allow
       few : (met.neighbors ≤ n) × (met.changed ≤ n)
       few = going_few starts n j s₀ least₀ allowance known.c known.L met s to the_going
 
-      pub turn_stops : met.remaining ≡ 0 → Meets starts s₀ s n j least₀ allowance Spent
+      pub turn_stops : met.remaining ≡ 0 → Meets starts s₀ s n j least₀ allowance (Err WorkLimitExceeded)
       turn_stops e c L st m size tabled stored f h = spent-meets starts n j s₀ least₀ allowance c L size tabled known.inside st stored (visit_stops starts n j s₀ least₀ allowance c L size tabled known.inside met s to (a.going c L size tabled) i last.0 e) m s
 
       module _ (left : met.remaining ≡ 0 → ⊥) {net : ℕ} (of : net ≡ get_or s₀ (5 * n + j) 0) where

@@ -1,4 +1,5 @@
 -- The checks of congestion leave columns and a cutoff that both orientations can be swept with; a cutoff of 0 or less leaves nothing to sweep. Assumes nothing.
+use Rattle.std.specs.Prelude.{None, Ok}
 use mathlib.Core.Path.{◌≡◌, sym, ap, ◌∙◌, subst}
 use mathlib.Core.Logic.{inl, inr}
 use mathlib.Core.List.{map}
@@ -17,14 +18,11 @@ use Rattle.laws.proofs.Runs.{within-free}
 use Rattle.floats.specs.Values.{plus_zero}
 use Rattle.floats.specs.Grid.{on_grid, unit}
 use Rattle.floats.proofs.Units.{lt_units, eq_units}
-use Rattle.drawing.specs.declared.gap.Gap.TheVariants.{Absent}
-use Rattle.drawing.specs.declared.refusal.Check.TheVariants.{Passed}
 use Rattle.drawing.specs.Entries.{SegmentColumns, segments}
 use Rattle.drawing.specs.Refusals.{first_of}
 use Rattle.drawing.proofs.EntryLaws.{length-segments}
 use Rattle.drawing.specs.Held.{SegmentHeld}
 use Rattle.rows.proofs.Oriented.{mem_oriented}
-use Rattle.congestion.specs.declared.found.Swept.TheVariants.{Went}
 use Rattle.congestion.specs.Conditions.{congestion_conditions}
 use Rattle.congestion.specs.Wires.{wire_of, cutoff_of}
 use Rattle.congestion.specs.Figures.{total}
@@ -53,15 +51,15 @@ module _ (x : Float) (g : T (on_grid x)) where
       record { grid = g; some = omega arith }
 
 -- ---- what the checks leave
-module _ (s : SegmentColumns) (cutoff : Float) (words : ℕ) (passed : first_of (congestion_conditions s cutoff words) ≡ Passed) where
+module _ (s : SegmentColumns) (cutoff : Float) (words : ℕ) (passed : first_of (congestion_conditions s cutoff words) ≡ (Ok tt)) where
   -- nothing is swept
-  pub nothing_swept : le cutoff plus_zero ≡ true → (m : ℕ) → Went (record { congested_length = plus_zero; pair_overlap_length = plus_zero; peak_close_neighbors = 0; minimum_positive = Absent; remaining = m }) ≡ found_of (within m (all_pairs cutoff (segments s)))
+  pub nothing_swept : le cutoff plus_zero ≡ true → (m : ℕ) → Ok (record { congested_length = plus_zero; pair_overlap_length = plus_zero; peak_close_neighbors = 0; minimum_positive = None; remaining = m }) ≡ found_of (within m (all_pairs cutoff (segments s)))
   unfolding found_of lengths
   nothing_swept e m =
       let g = fit-cutoff s cutoff words passed in
       let k = lt_units plus_zero cutoff zero_stands.grid g ∙ le-ltb (unit plus_zero) (unit cutoff) (not_above cutoff g e) in
-      (λ i. Went (record { congested_length = sym zero_units i; pair_overlap_length = sym zero_units i; peak_close_neighbors = 0; minimum_positive = Absent; remaining = m }))
-      ∙ sym (ap found_of (ap (within m) (no_cutoff cutoff g k (segments s) (fit_list s cutoff words passed)) ∙ within-free m (lengths (total (map wire_of (segments s))) 0 0 0, Absent)))
+      (λ i. Ok (record { congested_length = sym zero_units i; pair_overlap_length = sym zero_units i; peak_close_neighbors = 0; minimum_positive = None; remaining = m }))
+      ∙ sym (ap found_of (ap (within m) (no_cutoff cutoff g k (segments s) (fit_list s cutoff words passed)) ∙ within-free m (lengths (total (map wire_of (segments s))) 0 0 0, None)))
 
   pub cutoff-above : le cutoff plus_zero ≡ false → Cutoff cutoff
   cutoff-above = above cutoff (fit-cutoff s cutoff words passed)

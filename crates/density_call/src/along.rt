@@ -10,8 +10,8 @@ ghost use Rattle.density_call.specs.Inner.Measuring.{wire_of_row, Cutoff, AtRows
 
 use crate::ranges::fill_ranges;
 use crate::run::run_events;
-use congestion::{Found, Swept};
-use drawing::{Gap, clear};
+use congestion::Found;
+use drawing::clear;
 use rows::{order_events, order_rows, spread_rows};
 
 // Makes the tables of n rows: their indices in order are stored from word `from` on, and the rows themselves `table` words later. The words after the tables are cleared: no wire is active yet. Then the sweep runs.
@@ -22,7 +22,7 @@ fn sweep_rows(
     table: usize,
     cutoff: f64,
     allowance: usize,
-) -> Swept
+) -> Result<Found, Refusal>
     requires at_rows { AtRows s.old n from table }
     requires cutoff { Cutoff cutoff }
     ensures { (a : AtRows s.old n from table) → result ≡ swept_of (within allowance (sweep (cutoff_of cutoff) (map (wire_of_row a.across) a.l))) }
@@ -46,7 +46,7 @@ pub(crate) fn sweep_along(
     end: &[f64],
     cutoff: f64,
     allowance: usize,
-) -> Swept
+) -> Result<Found, Refusal>
     requires at_columns { AtColumns (length s.old) wanted (segment_columns net.now orientation.now fixed.now start.now end.now) }
     requires cutoff { Cutoff cutoff }
     ensures { result ≡ swept_of (within allowance (along (cutoff_of cutoff) (map (wire_of_row (eqb wanted 1)) (Rows.oriented wanted (segments (segment_columns net.now orientation.now fixed.now start.now end.now)))))) }
@@ -55,11 +55,11 @@ pub(crate) fn sweep_along(
     let from = 16 * total;
     let n = order_rows(&mut s[from..], wanted, net, orientation, fixed, start, end);
     if n < 2 {
-        return Swept::Went(Found {
+        return Ok(Found {
             congested_length: 0.0,
             pair_overlap_length: 0.0,
             peak_close_neighbors: 0,
-            minimum_positive: Gap::Absent,
+            minimum_positive: None,
             remaining: allowance,
         });
     }

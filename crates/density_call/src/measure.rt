@@ -1,7 +1,6 @@
 // The density profile by columns.
-ghost use Rattle.std.specs.Prelude.{◌≡◌, length};
+ghost use Rattle.std.specs.Prelude.{◌≡◌, length, Ok};
 ghost use Rattle.laws.specs.Inner.Allowance.{within};
-ghost use Rattle.drawing.specs.declared.refusal.Check.TheVariants.{Passed};
 ghost use Rattle.drawing.specs.Refusals.{first_of, scratch_after};
 ghost use Rattle.drawing.specs.Entries.{segment_columns, segments};
 ghost use Rattle.drawing.specs.Held.{Binary64, SegmentsHeld};
@@ -12,8 +11,8 @@ ghost use Rattle.density_call.specs.Inner.Measuring.{found_of, combined_of};
 
 use crate::along::sweep_along;
 use crate::counts::greater;
-use congestion::{CongestionAnswer, Found, Swept, answer_of, check_congestion, total_length};
-use drawing::{Check, Gap, clear, minimum_option};
+use congestion::{Found, answer_of, check_congestion, total_length};
+use drawing::{clear, minimum_option};
 use rows::segments_to_sweep;
 
 // The figures of both orientations, with the remaining visits of the second sweep.
@@ -44,21 +43,21 @@ fn walk_segments(
     cutoff: f64,
     allowance: usize,
     scratch: &mut [u64],
-) -> Swept
-    requires { first_of (congestion_conditions (segment_columns net.now orientation.now fixed.now start.now end.now) cutoff (length scratch.old)) ≡ Passed }
+) -> Result<Found, Refusal>
+    requires { first_of (congestion_conditions (segment_columns net.now orientation.now fixed.now start.now end.now) cutoff (length scratch.old)) ≡ (Ok tt) }
     ensures { result ≡ found_of (within allowance (all_pairs cutoff (segments (segment_columns net.now orientation.now fixed.now start.now end.now)))) }
 {
     if cutoff <= 0.0 {
-        return Swept::Went(Found {
+        return Ok(Found {
             congested_length: 0.0,
             pair_overlap_length: 0.0,
             peak_close_neighbors: 0,
-            minimum_positive: Gap::Absent,
+            minimum_positive: None,
             remaining: allowance,
         });
     }
     if allowance < segments_to_sweep(orientation) {
-        return Swept::Spent;
+        return Err(Refusal::WorkLimitExceeded);
     }
     let first = sweep_along(
         scratch,
@@ -71,8 +70,8 @@ fn walk_segments(
         cutoff,
         allowance,
     );
-    let Swept::Went(across) = first else {
-        return Swept::Spent;
+    let Ok(across) = first else {
+        return Err(Refusal::WorkLimitExceeded);
     };
     let second = sweep_along(
         scratch,
@@ -85,10 +84,10 @@ fn walk_segments(
         cutoff,
         across.remaining,
     );
-    let Swept::Went(down) = second else {
-        return Swept::Spent;
+    let Ok(down) = second else {
+        return Err(Refusal::WorkLimitExceeded);
     };
-    Swept::Went(combined(across, down))
+    Ok(combined(across, down))
 }
 
 pub fn measure_parallel_density_profile_bounded(
@@ -100,18 +99,18 @@ pub fn measure_parallel_density_profile_bounded(
     cutoff: f64,
     allowance: usize,
     scratch: &mut [u64],
-) -> CongestionAnswer
+) -> Result<CongestionReport, Refusal>
     ensures { let lent = segment_columns net.now orientation.now fixed.now start.now end.now in
         let words = length scratch.old in
         let refusal = first_of (congestion_conditions lent cutoff words) in
         (result ≡ density_answer lent cutoff allowance words)
         × (scratch.new ≡ scratch_after refusal scratch.old)
-        × (refusal ≡ Passed → SegmentsHeld lent × Binary64 cutoff) }
+        × (refusal ≡ (Ok tt) → SegmentsHeld lent × Binary64 cutoff) }
 {
     let words = scratch.len();
     let check = check_congestion(net, orientation, fixed, start, end, cutoff, words);
-    if let Check::Refused(why) = check {
-        return CongestionAnswer::Refused(why);
+    if let Err(why) = check {
+        return Err(why);
     }
     let total = total_length(net, orientation, fixed, start, end);
     let swept = walk_segments(

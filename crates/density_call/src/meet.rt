@@ -123,7 +123,7 @@ pub(crate) fn meet(
     starts: bool,
     least: f64,
     remaining: usize,
-) -> Met
+) -> Result<Meeting, Refusal>
     requires { Meetable starts s.old n j }
     ensures meets { Meets starts s.old s.new n j least remaining result }
     ensures counts_only { CountsOnly n s.old s.new }
@@ -143,10 +143,10 @@ pub(crate) fn meet(
     loop {
         let last = last_below(&s[9 * n..], from, to, rest);
         let Last::Found(i, below) = last else {
-            return Met::Went(meeting);
+            return Ok(meeting);
         };
         if meeting.remaining == 0 {
-            return Met::Spent;
+            return Err(Refusal::WorkLimitExceeded);
         }
         meeting = visit(s, n, i, net, here, starts, meeting);
         to = i;

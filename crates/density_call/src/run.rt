@@ -4,13 +4,13 @@ ghost use Rattle.laws.specs.Inner.Allowance.{within};
 ghost use Rattle.congestion.specs.Walk.{sweep};
 ghost use Rattle.density_call.specs.Inner.Sweeping.{AtEvent, Handles, AtFirst, swept_of};
 
-use crate::sweep::{Handled, Sweeping, end_event, start_event};
-use congestion::{Found, Swept};
+use crate::sweep::{Sweeping, end_event, start_event};
+use congestion::Found;
 use drawing::{gap_of_float, no_gap};
 use floats::float_of_key;
 
 // Event e: below n it is the end of wire e, else the start of wire e - n.
-fn handle_event(s: &mut [u64], n: usize, e: usize, state: Sweeping) -> Handled
+fn handle_event(s: &mut [u64], n: usize, e: usize, state: Sweeping) -> Result<Sweeping, Refusal>
     requires { AtEvent s.old n e state }
     ensures { Handles s.old s.new n e state result }
 {
@@ -21,7 +21,7 @@ fn handle_event(s: &mut [u64], n: usize, e: usize, state: Sweeping) -> Handled
 }
 
 // The events in order, from no active wire and the coordinate of the first one. The key of event e, be it an end or a start, is word 2 n + e.
-pub(crate) fn run_events(s: &mut [u64], n: usize, allowance: usize) -> Swept
+pub(crate) fn run_events(s: &mut [u64], n: usize, allowance: usize) -> Result<Found, Refusal>
     requires { AtFirst s.old n }
     ensures { (a : AtFirst s.old n) → result ≡ swept_of (within allowance (sweep a.c a.L)) }
 {
@@ -41,14 +41,14 @@ pub(crate) fn run_events(s: &mut [u64], n: usize, allowance: usize) -> Swept
     while q < 2 * n {
         let e = s[q] as usize;
         let handled = handle_event(s, n, e, state);
-        let Handled::Went(next) = handled else {
-            return Swept::Spent;
+        let Ok(next) = handled else {
+            return Err(Refusal::WorkLimitExceeded);
         };
         state = next;
         q += 1;
     }
     let minimum = gap_of_float(state.minimum_positive);
-    Swept::Went(Found {
+    Ok(Found {
         congested_length: state.congested_length,
         pair_overlap_length: state.pair_overlap_length,
         peak_close_neighbors: state.peak_close_neighbors,

@@ -4,7 +4,7 @@ ghost use Rattle.laws.specs.Lists.{bit};
 ghost use Rattle.density_call.specs.Inner.Sweeping.{passed_to, started_by, ended_by, activated, deactivated, AtEvent, Handles};
 
 use crate::counts::greater;
-use crate::meet::{Meeting, Met, meet};
+use crate::meet::{Meeting, meet};
 use bitset::{insert, remove};
 use floats::float_of_key;
 
@@ -115,22 +115,22 @@ fn deactivate(s: &mut [u64], n: usize, j: usize)
 }
 
 // Wire j starts: event n + j.
-pub(crate) fn start_event(s: &mut [u64], n: usize, j: usize, state: Sweeping) -> Handled
+pub(crate) fn start_event(s: &mut [u64], n: usize, j: usize, state: Sweeping) -> Result<Sweeping, Refusal>
     requires { AtEvent s.old n (n + j) state }
     ensures { Handles s.old s.new n (n + j) state result }
 {
     let coordinate = float_of_key(s[3 * n + j]);
     let passed = pass_to(state, coordinate);
     let met = meet(s, n, j, true, passed.minimum_positive, passed.remaining);
-    let Met::Went(meeting) = met else {
-        return Handled::Spent;
+    let Ok(meeting) = met else {
+        return Err(Refusal::WorkLimitExceeded);
     };
     activate(s, n, j, meeting.neighbors);
-    Handled::Went(with_start(passed, meeting))
+    Ok(with_start(passed, meeting))
 }
 
 // Wire j ends: event j.
-pub(crate) fn end_event(s: &mut [u64], n: usize, j: usize, state: Sweeping) -> Handled
+pub(crate) fn end_event(s: &mut [u64], n: usize, j: usize, state: Sweeping) -> Result<Sweeping, Refusal>
     requires at_event { AtEvent s.old n j state }
     requires j_lt_n { j < n }
     ensures { Handles s.old s.new n j state result }
@@ -139,9 +139,9 @@ pub(crate) fn end_event(s: &mut [u64], n: usize, j: usize, state: Sweeping) -> H
     let count = s[8 * n + j] as usize;
     let passed = pass_to(state, coordinate);
     let met = meet(s, n, j, false, passed.minimum_positive, passed.remaining);
-    let Met::Went(meeting) = met else {
-        return Handled::Spent;
+    let Ok(meeting) = met else {
+        return Err(Refusal::WorkLimitExceeded);
     };
     deactivate(s, n, j);
-    Handled::Went(with_end(passed, count, meeting))
+    Ok(with_end(passed, count, meeting))
 }

@@ -1,4 +1,5 @@
 -- Examples of the refusals, by computing the definitions. Assumes nothing.
+use Rattle.std.specs.Prelude.{Ok, Err}
 use mathlib.Core.Path.{◌≡◌, refl}
 use mathlib.Core.Bool.{true, false}
 use mathlib.Core.List.{[], ◌∷◌}
@@ -8,7 +9,6 @@ use Rattle.laws.specs.Lists.{some_of}
 use Rattle.floats.specs.Values.{lesser_of, greater_of}
 use Rattle.floats.specs.Grid.{on_grid}
 use Rattle.drawing.specs.declared.refusal.Refusal.TheVariants.{ShortScratch, InvalidInput}
-use Rattle.drawing.specs.declared.refusal.Check.TheVariants.{Passed, Refused}
 use Rattle.drawing.specs.Entries.{SegmentColumns, segment_columns, segments_of, segments}
 use Rattle.drawing.specs.Refusals.{first_of}
 use Rattle.drawing.specs.Conditions.{differ, too_many, short_scratch, unfit_fields, unfit_segment, unfit_threshold, off_grid_fields}
@@ -21,27 +21,27 @@ abbrev one-segment : ℕ → ℕ → ℕ → SegmentColumns
 one-segment fixed start end = segment_columns (1 ∷ []) (1 ∷ []) (float fixed ∷ []) (float start ∷ []) (float end ∷ [])
 
 -- of two faults the earlier refusal: the scratch is short, and the start is not below the end
-pub two_faults : first_of (segment_conditions (one-segment 0 0 0) 95) ≡ Refused ShortScratch
+pub two_faults : first_of (segment_conditions (one-segment 0 0 0) 95) ≡ Err ShortScratch
 unfolding first_of segment_conditions segments_differ differ some_of too_many short_scratch segments segments_of lesser_of greater_of unfit_segment unfit_fields of_bits lt
 two_faults = refl
 
 -- with one word more the second refusal is returned
-pub second_fault : first_of (segment_conditions (one-segment 0 0 0) 96) ≡ Refused InvalidInput
+pub second_fault : first_of (segment_conditions (one-segment 0 0 0) 96) ≡ Err InvalidInput
 unfolding first_of segment_conditions segments_differ differ some_of too_many short_scratch segments segments_of lesser_of greater_of unfit_segment unfit_fields of_bits lt
 second_fault = refl
 
 -- SCOPE 2.8, 7.5: a segment is fit in either direction, "Start equal to end still gives 5", and -0 equals +0 in either direction; a number that is not finite is refused wherever it is given
 pub record EndsChecked : Type 0 where
-  pub from_10_to_5 : first_of (segment_conditions (one-segment 0 0x4024_0000_0000_0000 0x4014_0000_0000_0000) 96) ≡ Passed
-  pub from_5_to_10 : first_of (segment_conditions (one-segment 0 0x4014_0000_0000_0000 0x4024_0000_0000_0000) 96) ≡ Passed
-  pub from_5_to_5 : first_of (segment_conditions (one-segment 0 0x4014_0000_0000_0000 0x4014_0000_0000_0000) 96) ≡ Refused InvalidInput
-  pub from_minus_zero_to_zero : first_of (segment_conditions (one-segment 0 0x8000_0000_0000_0000 0) 96) ≡ Refused InvalidInput
-  pub from-zero-to_minus_zero : first_of (segment_conditions (one-segment 0 0 0x8000_0000_0000_0000) 96) ≡ Refused InvalidInput
-  pub from-nan : first_of (segment_conditions (one-segment 0 0x7ff8_0000_0000_0000 0x4014_0000_0000_0000) 96) ≡ Refused InvalidInput
-  pub to-nan : first_of (segment_conditions (one-segment 0 0x4014_0000_0000_0000 0x7ff8_0000_0000_0000) 96) ≡ Refused InvalidInput
-  pub from_infinity_to_3 : first_of (segment_conditions (one-segment 0 0x7ff0_0000_0000_0000 0x4008_0000_0000_0000) 96) ≡ Refused InvalidInput
-  pub from_3_to_minus_infinity : first_of (segment_conditions (one-segment 0 0x4008_0000_0000_0000 0xfff0_0000_0000_0000) 96) ≡ Refused InvalidInput
-  pub reversed_of_orientation_2 : first_of (segment_conditions (segment_columns (1 ∷ []) (2 ∷ []) (float 0 ∷ []) (float 0x4024_0000_0000_0000 ∷ []) (float 0 ∷ [])) 96) ≡ Refused InvalidInput
+  pub from_10_to_5 : first_of (segment_conditions (one-segment 0 0x4024_0000_0000_0000 0x4014_0000_0000_0000) 96) ≡ (Ok tt)
+  pub from_5_to_10 : first_of (segment_conditions (one-segment 0 0x4014_0000_0000_0000 0x4024_0000_0000_0000) 96) ≡ (Ok tt)
+  pub from_5_to_5 : first_of (segment_conditions (one-segment 0 0x4014_0000_0000_0000 0x4014_0000_0000_0000) 96) ≡ Err InvalidInput
+  pub from_minus_zero_to_zero : first_of (segment_conditions (one-segment 0 0x8000_0000_0000_0000 0) 96) ≡ Err InvalidInput
+  pub from-zero-to_minus_zero : first_of (segment_conditions (one-segment 0 0 0x8000_0000_0000_0000) 96) ≡ Err InvalidInput
+  pub from-nan : first_of (segment_conditions (one-segment 0 0x7ff8_0000_0000_0000 0x4014_0000_0000_0000) 96) ≡ Err InvalidInput
+  pub to-nan : first_of (segment_conditions (one-segment 0 0x4014_0000_0000_0000 0x7ff8_0000_0000_0000) 96) ≡ Err InvalidInput
+  pub from_infinity_to_3 : first_of (segment_conditions (one-segment 0 0x7ff0_0000_0000_0000 0x4008_0000_0000_0000) 96) ≡ Err InvalidInput
+  pub from_3_to_minus_infinity : first_of (segment_conditions (one-segment 0 0x4008_0000_0000_0000 0xfff0_0000_0000_0000) 96) ≡ Err InvalidInput
+  pub reversed_of_orientation_2 : first_of (segment_conditions (segment_columns (1 ∷ []) (2 ∷ []) (float 0 ∷ []) (float 0x4024_0000_0000_0000 ∷ []) (float 0 ∷ [])) 96) ≡ Err InvalidInput
 
 pub ends-checked : EndsChecked
 unfolding first_of segment_conditions segments_differ differ some_of too_many short_scratch segments segments_of lesser_of greater_of unfit_segment unfit_fields of_bits lt

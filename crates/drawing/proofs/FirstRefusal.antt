@@ -1,4 +1,5 @@
 -- The first refusal that applies, condition by condition, and what is known where no condition holds. Assumes nothing.
+use Rattle.std.specs.Prelude.{Result, Ok, Err}
 use mathlib.Core.Path.{◌≡◌, refl, sym, ap, ◌∙◌}
 use mathlib.Core.Logic.{inl, inr}
 use mathlib.Core.Bool.{Bool, true, false, not, cond}
@@ -12,15 +13,13 @@ use Rattle.laws.specs.Lists.{some_of}
 use Rattle.laws.proofs.Tests.{decide, clash}
 use Rattle.laws.proofs.ListLaws.{none-all}
 use Rattle.drawing.specs.declared.refusal.Refusal.{Refusal}
-use Rattle.drawing.specs.declared.refusal.Check.{Check}
-use Rattle.drawing.specs.declared.refusal.Check.TheVariants.{Passed, Refused}
 use Rattle.drawing.specs.Refusals.{first_of, scratch_after}
 use Rattle.drawing.specs.Entries.{SegmentColumns, NodeColumns, ExemptionColumns, segments}
 use Rattle.drawing.specs.Conditions.{differ, too_many, short_scratch, unfit_segment}
 use Rattle.drawing.specs.Checks.{segments_differ, nodes_differ, segment_conditions, segment_list_conditions, list_conditions, entry_conditions}
 use Rattle.drawing.specs.Inner.Lengths.{SegmentsAgree, NodesAgree, compared_entry_conditions}
 
-pub first_yes : (b : Bool) (r : Refusal) (l : List (Bool × Refusal)) → b ≡ true → first_of ((b, r) ∷ l) ≡ Refused r
+pub first_yes : (b : Bool) (r : Refusal) (l : List (Bool × Refusal)) → b ≡ true → first_of ((b, r) ∷ l) ≡ Err r
 unfolding first_of
 first_yes b r l e = rw e
 
@@ -28,37 +27,37 @@ pub first_no : (b : Bool) (r : Refusal) (l : List (Bool × Refusal)) → b ≡ f
 unfolding first_of
 first_no b r l e = rw e
 
-pub first-none : first_of [] ≡ Passed
+pub first-none : first_of [] ≡ (Ok tt)
 unfolding first_of
 first-none = refl
 
 -- one check after another: the first that refuses decides
-abbrev pub then : Check → Check → Check
-then Passed d = d
-then (Refused r) d = Refused r
+abbrev pub then : (Result Unit Refusal) → (Result Unit Refusal) → (Result Unit Refusal)
+then (Ok tt) d = d
+then (Err r) d = Err r
 
 pub first-append : (l m : List (Bool × Refusal)) → first_of (l ++ m) ≡ then (first_of l) (first_of m)
 unfolding first_of
 first-append [] m = refl
 first-append (c ∷ l) m = go c.0 (first-append l m)
   where
-    go : (b : Bool) → first_of (l ++ m) ≡ then (first_of l) (first_of m) → cond b (Refused c.1) (first_of (l ++ m)) ≡ then (cond b (Refused c.1) (first_of l)) (first_of m)
+    go : (b : Bool) → first_of (l ++ m) ≡ then (first_of l) (first_of m) → cond b (Err c.1) (first_of (l ++ m)) ≡ then (cond b (Err c.1) (first_of l)) (first_of m)
     go true e = refl
     go false e = e
 
 -- the answer c of the first conditions is the answer, or the others decide
-pub first_stop : (l m : List (Bool × Refusal)) (c : Check) (r : Refusal) → c ≡ first_of l → c ≡ Refused r → c ≡ first_of (l ++ m)
-first_stop l m c r e g = g ∙ sym (first-append l m ∙ ap (λ (d : Check). then d (first_of m)) (sym e ∙ g))
+pub first_stop : (l m : List (Bool × Refusal)) (c : (Result Unit Refusal)) (r : Refusal) → c ≡ first_of l → c ≡ Err r → c ≡ first_of (l ++ m)
+first_stop l m c r e g = g ∙ sym (first-append l m ∙ ap (λ (d : (Result Unit Refusal)). then d (first_of m)) (sym e ∙ g))
 
-pub first_go_on : (l m : List (Bool × Refusal)) (c : Check) → c ≡ first_of l → c ≡ Passed → first_of (l ++ m) ≡ first_of m
-first_go_on l m c e g = first-append l m ∙ ap (λ (d : Check). then d (first_of m)) (sym e ∙ g)
+pub first_go_on : (l m : List (Bool × Refusal)) (c : (Result Unit Refusal)) → c ≡ first_of l → c ≡ (Ok tt) → first_of (l ++ m) ≡ first_of m
+first_go_on l m c e g = first-append l m ∙ ap (λ (d : (Result Unit Refusal)). then d (first_of m)) (sym e ∙ g)
 
 -- ---- where all pass
-abbrev is_passed : Check → Bool
-is_passed Passed = true
-is_passed (Refused r) = false
+abbrev is_passed : (Result Unit Refusal) → Bool
+is_passed (Ok tt) = true
+is_passed (Err r) = false
 
-pub passed_head : (b : Bool) (r : Refusal) (l : List (Bool × Refusal)) → first_of ((b, r) ∷ l) ≡ Passed → (b ≡ false) × (first_of l ≡ Passed)
+pub passed_head : (b : Bool) (r : Refusal) (l : List (Bool × Refusal)) → first_of ((b, r) ∷ l) ≡ (Ok tt) → (b ≡ false) × (first_of l ≡ (Ok tt))
 passed_head b r l e = elim (decide b) [
   | inl t ↦ clash true refl (ap is_passed (sym e ∙ first_yes b r l t))
   | inr f ↦ (f, sym (first_no b r l f) ∙ e)
@@ -93,7 +92,7 @@ pub record SegmentsPass (s : SegmentColumns) (words : ℕ) : Type 0 where
   pub room : 32 * length s.net + 64 ≤ words
   pub fit : some_of unfit_segment (segments s) ≡ false
 
-pub segments_pass : (s : SegmentColumns) (words : ℕ) → first_of (segment_conditions s words) ≡ Passed → SegmentsPass s words
+pub segments_pass : (s : SegmentColumns) (words : ℕ) → first_of (segment_conditions s words) ≡ (Ok tt) → SegmentsPass s words
 unfolding segment_conditions short_scratch
 segments_pass s words e =
     let a = passed_head _ _ _ e in
@@ -108,7 +107,7 @@ pub record SegmentListPasses (s : SegmentColumns) : Type 0 where
   pub few-segments : length s.net ≤ 4096
   pub fit : some_of unfit_segment (segments s) ≡ false
 
-pub segment_list_passes : (s : SegmentColumns) → first_of (segment_list_conditions s) ≡ Passed → SegmentListPasses s
+pub segment_list_passes : (s : SegmentColumns) → first_of (segment_list_conditions s) ≡ (Ok tt) → SegmentListPasses s
 unfolding segment_list_conditions
 segment_list_passes s e =
     let a = passed_head _ _ _ e in
@@ -124,7 +123,7 @@ pub record ListsPass (s : SegmentColumns) (n : NodeColumns) (x : ExemptionColumn
   pub few-nodes : length n.id ≤ 4096
   pub few-exemptions : length x.net ≤ 4096
 
-pub lists_pass : (s : SegmentColumns) (n : NodeColumns) (x : ExemptionColumns) → first_of (list_conditions s n x) ≡ Passed → ListsPass s n x
+pub lists_pass : (s : SegmentColumns) (n : NodeColumns) (x : ExemptionColumns) → first_of (list_conditions s n x) ≡ (Ok tt) → ListsPass s n x
 unfolding list_conditions
 lists_pass s n x e =
     let a = passed_head _ _ _ e in
@@ -136,7 +135,7 @@ lists_pass s n x e =
     record { segments = segments-agree s a.0; nodes = nodes-agree n b.0; few-segments = few _ d.0; few-nodes = few _ f.0; few-exemptions = few _ g.0 }
 
 -- after their checks the columns need not be compared again
-pub entries_compared : (s : SegmentColumns) (n : NodeColumns) (x : ExemptionColumns) → first_of (list_conditions s n x) ≡ Passed → first_of (compared_entry_conditions s n) ≡ first_of (entry_conditions s n)
+pub entries_compared : (s : SegmentColumns) (n : NodeColumns) (x : ExemptionColumns) → first_of (list_conditions s n x) ≡ (Ok tt) → first_of (compared_entry_conditions s n) ≡ first_of (entry_conditions s n)
 unfolding list_conditions compared_entry_conditions
 entries_compared s n x e =
     let a = passed_head _ _ _ e in
@@ -144,14 +143,14 @@ entries_compared s n x e =
     first_no _ _ _ a.0 ∙ first_no _ _ _ b.0
 
 -- what is refused does not pass
-pub not_passed : {A : Type 0} (k c : Check) (r : Refusal) → c ≡ k → c ≡ Refused r → k ≡ Passed → A
+pub not_passed : {A : Type 0} (k c : (Result Unit Refusal)) (r : Refusal) → c ≡ k → c ≡ Err r → k ≡ (Ok tt) → A
 not_passed k c r h g e = clash true refl (ap is_passed (sym e ∙ sym h ∙ g))
 
 -- ---- the scratch at exit, from what a call's checks returned
-pub refused-scratch : (k c : Check) (r : Refusal) (l : List ℕ) → c ≡ k → c ≡ Refused r → l ≡ scratch_after k l
+pub refused-scratch : (k c : (Result Unit Refusal)) (r : Refusal) (l : List ℕ) → c ≡ k → c ≡ Err r → l ≡ scratch_after k l
 unfolding scratch_after
 refused-scratch k c r l h g = sym (rw (sym h ∙ g))
 
-pub passed_scratch : (k c : Check) (l r : List ℕ) → c ≡ k → c ≡ Passed → r ≡ replicate (length l) 0 → r ≡ scratch_after k l
+pub passed_scratch : (k c : (Result Unit Refusal)) (l r : List ℕ) → c ≡ k → c ≡ (Ok tt) → r ≡ replicate (length l) 0 → r ≡ scratch_after k l
 unfolding scratch_after
 passed_scratch k c l r h g e = sym (rw (sym h ∙ g) (sym e))

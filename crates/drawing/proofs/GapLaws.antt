@@ -1,4 +1,5 @@
 -- The least of a list of gaps does not depend on the list's order, and a running least is the least of the whole. Assumes nothing.
+use Rattle.std.specs.Prelude.{Option, Some, None}
 use mathlib.Core.Path.{◌≡◌, refl, sym, ap, ◌∙◌}
 use mathlib.Core.List.{List, [], ◌∷◌, ◌++◌}
 use mathlib.Core.Option.{Option, none, some}
@@ -10,7 +11,6 @@ use Rattle.laws.proofs.Leasts.{Ranked, least-perm, least-append}
 use Rattle.floats.specs.Values.{lesser_of}
 use Rattle.floats.proofs.Rank.{mag}
 use Rattle.floats.proofs.Gaps.{Good, good_lt, good_one}
-use Rattle.drawing.specs.declared.gap.Gap.TheVariants.{Absent, Present}
 use Rattle.drawing.specs.Gaps.{gap_from, least_gap, lesser_gap}
 
 -- gaps that are not NaN and not negative are ranked by their magnitude
@@ -23,11 +23,11 @@ gap-from-lesser none b = refl
 gap-from-lesser (some x) none = refl
 gap-from-lesser (some x) (some y) = refl
 
-pub least-none : least_gap [] ≡ Absent
+pub least-none : least_gap [] ≡ None
 unfolding least_gap least gap_from
 least-none = refl
 
-pub least-one : (x : Float) → least_gap (x ∷ []) ≡ Present x
+pub least-one : (x : Float) → least_gap (x ∷ []) ≡ Some x
 unfolding least_gap least lesser gap_from
 least-one x = refl
 

@@ -1,4 +1,5 @@
 -- The least gap so far, kept as a float: which gap it encodes, and that one more gap makes it the lesser of the two. Assumes nothing.
+use Rattle.std.specs.Prelude.{Option, Some, None}
 use mathlib.Core.Path.{◌≡◌, refl, sym, ap, ◌∙◌}
 use mathlib.Core.Logic.{inl, inr}
 use mathlib.Core.Bool.{Bool, true, false, not, ◌&&◌, ◌||◌, cond}
@@ -11,27 +12,25 @@ use lib.Ieee.{Float, nan, inf, fin, up, down, below, level, is_nan, lt, le, ne}
 use lib.Ieee.Compare.{differs_from_itself, nan_differs}
 use Rattle.laws.proofs.Tests.{le_or_lt, same_or_not, clash, of_true}
 use Rattle.floats.specs.Values.{lesser_of}
-use Rattle.drawing.specs.declared.gap.Gap.{Gap}
-use Rattle.drawing.specs.declared.gap.Gap.TheVariants.{Absent, Present}
 use Rattle.drawing.specs.Gaps.{lesser_gap}
 use Rattle.drawing.specs.Inner.LeastFloats.{Number, gap_of_float, least_with}
 
 -- ---- which gap it encodes
-pub gap_absent : (x : Float) → ne x x ≡ true → Absent ≡ gap_of_float x
+pub gap_absent : (x : Float) → ne x x ≡ true → None ≡ gap_of_float x
 unfolding gap_of_float
 gap_absent x e = sym (ap gap_of_float (differs_from_itself x (of_true (ne x x) e)))
 
-pub gap-present : (x : Float) → ne x x ≡ false → Present x ≡ gap_of_float x
+pub gap-present : (x : Float) → ne x x ≡ false → Some x ≡ gap_of_float x
 unfolding gap_of_float
 gap-present nan e = clash (ne nan nan) nan_differs e
 gap-present (inf s) e = refl
 gap-present (fin s m k) e = refl
 
-pub none_absent : gap_of_float nan ≡ Absent
+pub none_absent : gap_of_float nan ≡ None
 unfolding gap_of_float
 none_absent = refl
 
-pub number-present : (x : Float) → Number x → gap_of_float x ≡ Present x
+pub number-present : (x : Float) → Number x → gap_of_float x ≡ Some x
 unfolding gap_of_float is_nan
 number-present nan p = absurd p
 number-present (inf s) p = refl
@@ -96,7 +95,7 @@ at_most (fin s m e) (inf false) p q = refl
 at_most (fin s m e) (fin t n d) p q = signed s t (m * up e * down d) (n * up d * down e)
 
 -- ---- compared with one more gap: either there is none yet, and the comparison fails, or two numbers are compared
-pub by-least : (x d : Float) → Number d → (P : Gap → Type 0) → (le x d ≡ false → P Absent) → (le x d ≡ not (lt d x) → P (Present x)) → P (gap_of_float x)
+pub by-least : (x d : Float) → Number d → (P : (Option Float) → Type 0) → (le x d ≡ false → P None) → (le x d ≡ not (lt d x) → P (Some x)) → P (gap_of_float x)
 unfolding gap_of_float is_nan le
 by-least nan d q P a b = a refl
 by-least (inf s) d q P a b = b (at_most (inf s) d tt q)
@@ -119,7 +118,7 @@ lesser-number x d p q = go (lt d x)
     go true = q
     go false = p
 
-pub least-joined : (x d : Float) → Number d → gap_of_float (least_with x d) ≡ lesser_gap (gap_of_float x) (Present d)
+pub least-joined : (x d : Float) → Number d → gap_of_float (least_with x d) ≡ lesser_gap (gap_of_float x) (Some d)
 unfolding gap_of_float is_nan least_with lesser_gap le
 least-joined nan d q = number-present d q
 least-joined (inf s) d q = ap gap_of_float (least-lesser (inf s) d tt q) ∙ number-present (lesser_of (inf s) d) (lesser-number (inf s) d tt q)

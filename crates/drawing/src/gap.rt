@@ -13,14 +13,14 @@ pub enum Gap {
 }
 
 // The lesser of two gaps, the present one where the other is absent.
-pub fn minimum_option(left: Gap, right: Gap) -> Gap
+pub fn minimum_option(left: Option<f64>, right: Option<f64>) -> Option<f64>
     ensures { result ≡ Gaps.lesser_gap left right }
 {
     match left {
-        Gap::Absent => right,
-        Gap::Present(a) => match right {
-            Gap::Absent => left,
-            Gap::Present(b) => Gap::Present(lesser(a, b)),
+        None => right,
+        Some(a) => match right {
+            None => left,
+            Some(b) => Some(lesser(a, b)),
         },
     }
 }
@@ -41,11 +41,11 @@ pub fn least_with(least: f64, gap: f64) -> f64
 }
 
 // The gap that the walk found. Only a NaN differs from itself.
-pub fn gap_of_float(least: f64) -> Gap
+pub fn gap_of_float(least: f64) -> Option<f64>
     ensures { result ≡ LeastFloats.gap_of_float least }
 {
     if least != least {
-        return Gap::Absent;
+        return None;
     }
-    Gap::Present(least)
+    Some(least)
 }

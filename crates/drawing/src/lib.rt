@@ -10,7 +10,7 @@ pub mod visits;
 
 pub use ends::{Ends, ends_in_order};
 pub use entry::{node_unfit, segment_unfit, threshold_unfit};
-pub use gap::{Gap, gap_of_float, least_with, minimum_option, no_gap};
-pub use refusal::{Check, Refusal, number};
+pub use gap::{gap_of_float, least_with, minimum_option, no_gap};
+pub use refusal::{Refusal, number};
 pub use scratch::clear;
 pub use visits::visits_used;

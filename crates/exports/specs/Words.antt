@@ -1,10 +1,8 @@
 -- Results in words: how the exported calls write them (SCOPE 6.7).
-use Rattle.std.specs.Prelude.{◌≡◌, List, [], ◌∷◌, ℕ}
+use Rattle.std.specs.Prelude.{◌≡◌, List, [], ◌∷◌, ℕ, Option, Some, None}
 use Rattle.std.proofs.Math.Option.{Option, none, some}
 use Rattle.std.specs.Float.{binary64}
 use Rattle.std.specs.Float.Ieee.{to_bits}
-use Rattle.drawing.specs.declared.gap.Gap.{Gap}
-use Rattle.drawing.specs.declared.gap.Gap.TheVariants.{Absent, Present}
 use Rattle.drawing.specs.Entries.{SegmentColumns, NodeColumns, ExemptionColumns}
 use Rattle.clearance.specs.declared.report.EdgeNodeClearance.{EdgeNodeClearance}
 use Rattle.tight_pair.specs.declared.TightPair.{TightPair}
@@ -13,14 +11,14 @@ use Rattle.separation.specs.declared.report.ParallelSeparation.{ParallelSeparati
 use Rattle.congestion.specs.declared.report.CongestionReport.{CongestionReport}
 
 -- whether the gap is present
-unfoldable pub present_word : Gap → ℕ
-present_word Absent = 0
-present_word (Present x) = 1
+unfoldable pub present_word : (Option Float) → ℕ
+present_word None = 0
+present_word (Some x) = 1
 
 -- its bits, 0 where it is absent
-unfoldable pub bits_word : Gap → ℕ
-bits_word Absent = 0
-bits_word (Present x) = to_bits binary64 x
+unfoldable pub bits_word : (Option Float) → ℕ
+bits_word None = 0
+bits_word (Some x) = to_bits binary64 x
 
 -- the words of a clearance report; a refusal's has an absent gap and zeros
 unfoldable pub clearance_words : EdgeNodeClearance → List ℕ

@@ -7,25 +7,24 @@ ghost use Rattle.clearance.specs.Answer.{clearance_answer, result_of};
 ghost use Rattle.exports.specs.Words.{clearance_words};
 
 use crate::gap::{bits_word, present_word};
-use clearance::ClearanceAnswer;
 use clearance_call::measure_edge_node_clearance_bounded;
 use drawing::number;
 
 // 0 where the call was accepted, else the refusal's number.
-fn clearance_status(answer: ClearanceAnswer) -> u32
+fn clearance_status(answer: Result<EdgeNodeClearance, Refusal>) -> u32
     ensures { result ≡ (result_of answer).0 }
 {
     match answer {
-        ClearanceAnswer::Report(_) => 0,
-        ClearanceAnswer::Refused(why) => number(why) as u32,
+        Ok(_) => 0,
+        Err(why) => number(why) as u32,
     }
 }
 
 // The report: the gap's two words, violations, visits. Zeros at a refusal.
-fn clearance_words(answer: ClearanceAnswer) -> [u64; 4]
+fn clearance_words(answer: Result<EdgeNodeClearance, Refusal>) -> [u64; 4]
     ensures { result ≡ clearance_words (result_of answer).1 }
 {
-    let ClearanceAnswer::Report(report) = answer else {
+    let Ok(report) = answer else {
         return [0; 4];
     };
     let least = report.minimum_clearance;
@@ -38,7 +37,7 @@ fn clearance_words(answer: ClearanceAnswer) -> [u64; 4]
 }
 
 // Writes the words of the report, and returns the status.
-pub(crate) fn write_clearance(answer: ClearanceAnswer, out: &mut [u64; 4]) -> u32
+pub(crate) fn write_clearance(answer: Result<EdgeNodeClearance, Refusal>, out: &mut [u64; 4]) -> u32
     ensures value { result ≡ (result_of answer).0 }
     ensures out_after { out.new ≡ clearance_words (result_of answer).1 }
 {

@@ -8,27 +8,27 @@ ghost use Rattle.congestion.specs.Answer.{density_answer, profile_answer, conges
 ghost use Rattle.exports.specs.Words.{congestion_words};
 
 use crate::gap::{bits_word, present_word};
-use congestion::{CongestionAnswer, ParallelCongestion};
+use congestion::ParallelCongestion;
 use congestion_call::{measure_parallel_congestion, measure_parallel_congestion_profile_bounded};
 use density_call::measure_parallel_density_profile_bounded;
 use drawing::number;
 use floats::bits_of;
 
 // 0 where the call was accepted, else the refusal's number.
-fn congestion_status(answer: CongestionAnswer) -> u32
+fn congestion_status(answer: Result<CongestionReport, Refusal>) -> u32
     ensures { result ≡ (result_of answer).0 }
 {
     match answer {
-        CongestionAnswer::Report(_) => 0,
-        CongestionAnswer::Refused(why) => number(why) as u32,
+        Ok(_) => 0,
+        Err(why) => number(why) as u32,
     }
 }
 
 // The report: the bits of the three lengths, the peak, the gap's two words, visits. Zeros at a refusal.
-fn congestion_words(answer: CongestionAnswer) -> [u64; 7]
+fn congestion_words(answer: Result<CongestionReport, Refusal>) -> [u64; 7]
     ensures { result ≡ congestion_words (result_of answer).1 }
 {
-    let CongestionAnswer::Report(report) = answer else {
+    let Ok(report) = answer else {
         return [0; 7];
     };
     let figures = report.congestion;
@@ -45,7 +45,7 @@ fn congestion_words(answer: CongestionAnswer) -> [u64; 7]
 }
 
 // Writes the words of the report, and returns the status.
-pub(crate) fn write_congestion(answer: CongestionAnswer, out: &mut [u64; 7]) -> u32
+pub(crate) fn write_congestion(answer: Result<CongestionReport, Refusal>, out: &mut [u64; 7]) -> u32
     ensures value { result ≡ (result_of answer).0 }
     ensures out_after { out.new ≡ congestion_words (result_of answer).1 }
 {

@@ -2,23 +2,22 @@
 ghost use Rattle.std.specs.Prelude.{◌≡◌};
 ghost use Rattle.exports.specs.Words.{present_word, bits_word};
 
-use drawing::Gap;
 use floats::bits_of;
 
-pub(crate) fn present_word(gap: Gap) -> u64
+pub(crate) fn present_word(gap: Option<f64>) -> u64
     ensures { result ≡ present_word gap }
 {
     match gap {
-        Gap::Absent => 0,
-        Gap::Present(_) => 1,
+        None => 0,
+        Some(_) => 1,
     }
 }
 
-pub(crate) fn bits_word(gap: Gap) -> u64
+pub(crate) fn bits_word(gap: Option<f64>) -> u64
     ensures { result ≡ bits_word gap }
 {
     match gap {
-        Gap::Absent => 0,
-        Gap::Present(x) => bits_of(x),
+        None => 0,
+        Some(x) => bits_of(x),
     }
 }

@@ -8,24 +8,23 @@ ghost use Rattle.exports.specs.Words.{separation_words};
 
 use crate::gap::{bits_word, present_word};
 use drawing::number;
-use separation::SeparationAnswer;
 use separation_call::measure_parallel_separation_bounded;
 
 // 0 where the call was accepted, else the refusal's number.
-fn separation_status(answer: SeparationAnswer) -> u32
+fn separation_status(answer: Result<ParallelSeparation, Refusal>) -> u32
     ensures { result ≡ (result_of answer).0 }
 {
     match answer {
-        SeparationAnswer::Report(_) => 0,
-        SeparationAnswer::Refused(why) => number(why) as u32,
+        Ok(_) => 0,
+        Err(why) => number(why) as u32,
     }
 }
 
 // The report: the two words of each gap, visits. Zeros at a refusal.
-fn separation_words(answer: SeparationAnswer) -> [u64; 5]
+fn separation_words(answer: Result<ParallelSeparation, Refusal>) -> [u64; 5]
     ensures { result ≡ separation_words (result_of answer).1 }
 {
-    let SeparationAnswer::Report(report) = answer else {
+    let Ok(report) = answer else {
         return [0; 5];
     };
     let least = report.minimum;
@@ -40,7 +39,7 @@ fn separation_words(answer: SeparationAnswer) -> [u64; 5]
 }
 
 // Writes the words of the report, and returns the status.
-pub(crate) fn write_separation(answer: SeparationAnswer, out: &mut [u64; 5]) -> u32
+pub(crate) fn write_separation(answer: Result<ParallelSeparation, Refusal>, out: &mut [u64; 5]) -> u32
     ensures value { result ≡ (result_of answer).0 }
     ensures out_after { out.new ≡ separation_words (result_of answer).1 }
 {

@@ -1,4 +1,5 @@
 -- A list after its count, its entries all of one width: whether bytes are missing, and what it says. Assumes nothing.
+use Rattle.std.specs.Prelude.{Result, Ok, Err}
 use mathlib.Core.Path.{◌≡◌, refl, sym, ap, subst, ◌∙◌}
 use mathlib.Core.Logic.{inl, inr}
 use mathlib.Core.Bool.{Bool, true, false, cond}
@@ -14,8 +15,6 @@ use Rattle.laws.specs.Lists.{some_of}
 use Rattle.laws.proofs.Tests.{le_or_lt, decide, cond_true, cond_false}
 use Rattle.drawing.specs.declared.refusal.Refusal.{Refusal}
 use Rattle.drawing.specs.declared.refusal.Refusal.TheVariants.{MalformedFile, TooManyEntries}
-use Rattle.file.specs.declared.scan.ListCount.{ListCount}
-use Rattle.file.specs.declared.scan.ListCount.TheVariants.{Entries, Refused}
 use Rattle.file.specs.Reading.{Read, got, refused, big_endian, number, entries, counted}
 use Rattle.file.specs.Inner.Places.{places, count_of}
 use Rattle.file.proofs.Fixed.{Fixed, then-got, then-refused, fixed_number, fixed-entries}
@@ -88,36 +87,36 @@ see limit w l = elim (le_or_lt 4 (length l)) [
 
 -- ---- the count that a list gives
 module _ {A : Type 0} where
-  count-refused : (x : Read (List A)) (r : Refusal) → x ≡ refused r → Refused r ≡ count_of x
+  count-refused : (x : Read (List A)) (r : Refusal) → x ≡ refused r → Err r ≡ count_of x
   unfolding count_of
   count-refused x r e = sym (rw e)
 
-  pub count-got : (x : Read (List A)) (l : List A) (rest : List ℕ) (n : ℕ) → x ≡ got l rest → length l ≡ n → Entries n ≡ count_of x
+  pub count-got : (x : Read (List A)) (l : List A) (rest : List ℕ) (n : ℕ) → x ≡ got l rest → length l ≡ n → Ok n ≡ count_of x
   unfolding count_of
-  count-got x l rest n e g = sym (rw e (ap Entries g))
+  count-got x l rest n e g = sym (rw e (ap Ok g))
 
-  pub refused-of : (x : Read (List A)) (r : Refusal) → Refused r ≡ count_of x → x ≡ refused r
+  pub refused-of : (x : Read (List A)) (r : Refusal) → Err r ≡ count_of x → x ≡ refused r
   unfolding count_of
   refused-of (got l rest) r e = cc
   refused-of (refused q) r e = cc
 
 module _ {A : Type 0} {w : ℕ} {bad : List ℕ → Bool} {value : List ℕ → A} {entry : List ℕ → Read A} (f : Fixed w bad value entry) (limit : ℕ) (l : List ℕ) where
-  count-listed : (n : ℕ) → Listed limit w value entry l n → Entries n ≡ count_of (counted limit entry l)
+  count-listed : (n : ℕ) → Listed limit w value entry l n → Ok n ≡ count_of (counted limit entry l)
   count-listed n g = count-got _ _ _ n g.reads (length-map (places w n (drop 4 l)) value ∙ length-places w n (drop 4 l))
 
   -- the answer where no byte is missing
-  pub count_wrong : (n : ℕ) → There limit w l n → some_of bad (places w n (drop 4 l)) ≡ true → Refused MalformedFile ≡ count_of (counted limit entry l)
+  pub count_wrong : (n : ℕ) → There limit w l n → some_of bad (places w n (drop 4 l)) ≡ true → Err MalformedFile ≡ count_of (counted limit entry l)
   count_wrong n t b = count-refused _ MalformedFile (counted_wrong f limit l n t b)
 
-  pub count-right : (n : ℕ) → There limit w l n → some_of bad (places w n (drop 4 l)) ≡ false → Entries n ≡ count_of (counted limit entry l)
+  pub count-right : (n : ℕ) → There limit w l n → some_of bad (places w n (drop 4 l)) ≡ false → Ok n ≡ count_of (counted limit entry l)
   count-right n t b = count-listed n (counted-there f limit l n t b)
 
   -- what the answer says about the list
-  pub listed_of : (n : ℕ) → Entries n ≡ count_of (counted limit entry l) → Listed limit w value entry l n
+  pub listed_of : (n : ℕ) → Ok n ≡ count_of (counted limit entry l) → Listed limit w value entry l n
   listed_of n e = go (see limit w l)
     where
       not_so : {B : Type 0} (r : Refusal) → counted limit entry l ≡ refused r → B
-      not_so r g = let d : Refused r ≡ count_of (counted limit entry l) = count-refused _ r g in let z : ◌≡◌ {A = ℕ} 0 1 = cc in absurd (omega arith)
+      not_so r g = let d : Err r ≡ count_of (counted limit entry l) = count-refused _ r g in let z : ◌≡◌ {A = ℕ} 0 1 = cc in absurd (omega arith)
 
       go : Seen limit w l → Listed limit w value entry l n
       go (short h) = not_so MalformedFile (counted-short limit entry l h)
@@ -127,29 +126,29 @@ module _ {A : Type 0} {w : ℕ} {bad : List ℕ → Bool} {value : List ℕ → 
         | inl b ↦ not_so MalformedFile (counted_wrong f limit l m t b)
         | inr b ↦
             let g = counted-there f limit l m t b in
-            let d : Entries m ≡ count_of (counted limit entry l) = count-listed m g in
+            let d : Ok m ≡ count_of (counted limit entry l) = count-listed m g in
             let q : m ≡ n = cc in
             subst (Listed limit w value entry l) q g
       ]
 
   -- a list that is refused as one of plain numbers is refused as any list of that width
-  pub refused_as : (r : Refusal) → Refused r ≡ count_of (counted limit (number w) l) → counted limit entry l ≡ refused r
+  pub refused_as : (r : Refusal) → Err r ≡ count_of (counted limit (number w) l) → counted limit entry l ≡ refused r
   refused_as r e = go (see limit w l)
     where
       so : (q : Refusal) → counted limit (number w) l ≡ refused q → counted limit entry l ≡ refused q → counted limit entry l ≡ refused r
-      so q g h = let d : Refused q ≡ count_of (counted limit (number w) l) = count-refused _ q g in let p : q ≡ r = cc in h ∙ ap refused p
+      so q g h = let d : Err q ≡ count_of (counted limit (number w) l) = count-refused _ q g in let p : q ≡ r = cc in h ∙ ap refused p
 
       go : Seen limit w l → counted limit entry l ≡ refused r
       go (short h) = so MalformedFile (counted-short limit (number w) l h) (counted-short limit entry l h)
       go (many h k) = so TooManyEntries (counted-many limit (number w) l h k) (counted-many limit entry l h k)
       go (missing h k m) = so MalformedFile (counted_missing (fixed_number w) limit l (count_in l) h refl k m) (counted_missing f limit l (count_in l) h refl k m)
-      go (here m t) = let g = counted-there (fixed_number w) limit l m t (some_never (places w m (drop 4 l))) in let d : Entries m ≡ count_of (counted limit (number w) l) = count-got _ _ _ m g.reads (length-map (places w m (drop 4 l)) _ ∙ length-places w m (drop 4 l)) in cc
+      go (here m t) = let g = counted-there (fixed_number w) limit l m t (some_never (places w m (drop 4 l))) in let d : Ok m ≡ count_of (counted limit (number w) l) = count-got _ _ _ m g.reads (length-map (places w m (drop 4 l)) _ ∙ length-places w m (drop 4 l)) in cc
 
-  pub refused-same : (x : ListCount) (r : Refusal) → x ≡ count_of (counted limit (number w) l) → x ≡ Refused r → x ≡ count_of (counted limit entry l)
+  pub refused-same : (x : (Result ℕ Refusal)) (r : Refusal) → x ≡ count_of (counted limit (number w) l) → x ≡ Err r → x ≡ count_of (counted limit entry l)
   refused-same x r e g = g ∙ count-refused _ r (refused_as r (sym g ∙ e))
 
 -- entries without a fault of their own
-pub listed_as : {A : Type 0} {w : ℕ} {value : List ℕ → A} {entry : List ℕ → Read A} (f : Fixed w no_fault value entry) (limit : ℕ) (l : List ℕ) (n : ℕ) → Entries n ≡ count_of (counted limit (number w) l) → Listed limit w value entry l n
+pub listed_as : {A : Type 0} {w : ℕ} {value : List ℕ → A} {entry : List ℕ → Read A} (f : Fixed w no_fault value entry) (limit : ℕ) (l : List ℕ) (n : ℕ) → Ok n ≡ count_of (counted limit (number w) l) → Listed limit w value entry l n
 listed_as {w} f limit l n e = counted-there f limit l n (listed_of (fixed_number w) limit l n e).there (some_never (places w n (drop 4 l)))
 
 -- ---- a list whose count is at an index of the file: its entries, and the bytes after it
@@ -174,15 +173,15 @@ product w n h k = le_trans (mul-le-mul_left w k) (omega arith)
 
 -- ---- a list of plain numbers from an index of the file on, by the number of remaining bytes
 module _ (bytes : List ℕ) (at limit w : ℕ) (a : at ≤ length bytes) where
-  pub count-short : length bytes - at < 4 → Refused MalformedFile ≡ count_of (counted limit (number w) (drop at bytes))
+  pub count-short : length bytes - at < 4 → Err MalformedFile ≡ count_of (counted limit (number w) (drop at bytes))
   count-short h = count-refused _ MalformedFile (counted-short limit (number w) (drop at bytes) (simp length-drop h))
 
   module _ (n : ℕ) (h : 4 ≤ length bytes - at) (e : n ≡ count_in (drop at bytes)) where
-    pub count-many : limit < n → Refused TooManyEntries ≡ count_of (counted limit (number w) (drop at bytes))
+    pub count-many : limit < n → Err TooManyEntries ≡ count_of (counted limit (number w) (drop at bytes))
     count-many k = count-refused _ TooManyEntries (counted-many limit (number w) (drop at bytes) (simp length-drop h) (rw e at k))
 
-    pub count_missing : n ≤ limit → length bytes - at - 4 < w * n → Refused MalformedFile ≡ count_of (counted limit (number w) (drop at bytes))
+    pub count_missing : n ≤ limit → length bytes - at - 4 < w * n → Err MalformedFile ≡ count_of (counted limit (number w) (drop at bytes))
     count_missing k m = count-refused _ MalformedFile (counted_missing (fixed_number w) limit (drop at bytes) n (simp length-drop h) e k (simp length-drop (omega arith)))
 
-    pub count-there : n ≤ limit → w * n ≤ length bytes - at - 4 → Entries n ≡ count_of (counted limit (number w) (drop at bytes))
+    pub count-there : n ≤ limit → w * n ≤ length bytes - at - 4 → Ok n ≡ count_of (counted limit (number w) (drop at bytes))
     count-there k m = count-right (fixed_number w) limit (drop at bytes) n (record { is = e; few = k; whole = simp length-drop (omega arith) }) (some_never (places w n (drop 4 (drop at bytes))))

@@ -1,4 +1,5 @@
 -- Of a file that is read: its parts are where their counts say, and nothing follows them. Assumes nothing.
+use Rattle.std.specs.Prelude.{Result}
 use mathlib.Core.Path.{◌≡◌, refl, sym, ap, subst, ◌∙◌}
 use mathlib.Core.Logic.{inl, inr}
 use mathlib.Core.Bool.{Bool}
@@ -10,7 +11,6 @@ use Rattle.laws.proofs.Tests.{le_or_lt, decide}
 use Rattle.drawing.specs.declared.refusal.Refusal.{Refusal}
 use Rattle.drawing.specs.declared.refusal.Refusal.TheVariants.{MalformedFile}
 use Rattle.file.specs.declared.reading.Header.{Header}
-use Rattle.file.specs.declared.reading.Reading.{Reading}
 use Rattle.file.specs.declared.reading.Reading.TheVariants as answers
 use Rattle.file.specs.Reading.{Read, got, refused, then, counted, Drawing, parts, ended, read}
 use Rattle.file.specs.Inner.Places.{places}
@@ -104,7 +104,7 @@ laid_read l d r e = go (parts l) refl
     go (got a rest) g = laid_parts l a rest g (ended_inverse a d rest r (sym (then-got (parts l) ended a rest g) ∙ e))
 
 -- the counts are those that the call returns
-pub laid : (l : List ℕ) (x : Reading) (h : Header) → x ≡ reading_of (read l) → x ≡ answers.Read h → Laid l h.segments h.nodes h.exemptions
+pub laid : (l : List ℕ) (x : (Result Header Refusal)) (h : Header) → x ≡ reading_of (read l) → x ≡ answers.Read h → Laid l h.segments h.nodes h.exemptions
 unfolding reading_of
 laid l x h e g = go (read l) refl
   where

@@ -1,4 +1,5 @@
 -- The parts of the file in sequence: which one refuses it, and what is read where none does. Assumes nothing.
+use Rattle.std.specs.Prelude.{Result, Ok, Err}
 use mathlib.Core.Path.{◌≡◌, refl, sym, ap, ◌∙◌}
 use mathlib.Core.Logic.{inl, inr}
 use mathlib.Core.Bool.{Bool, true, not}
@@ -13,8 +14,6 @@ use Rattle.laws.specs.Lists.{some_of}
 use Rattle.laws.proofs.Tests.{le_or_lt}
 use Rattle.drawing.specs.declared.refusal.Refusal.{Refusal}
 use Rattle.drawing.specs.declared.refusal.Refusal.TheVariants.{MalformedFile}
-use Rattle.file.specs.declared.scan.ListCount.{ListCount}
-use Rattle.file.specs.declared.scan.ListCount.TheVariants.{Entries, Refused}
 use Rattle.file.specs.declared.reading.Header.{Header}
 use Rattle.file.specs.declared.reading.Reading.TheVariants as answers
 use Rattle.file.specs.Reading.{got, refused, number, version_byte, counted, segment, node, exemption, Drawing, parts, ended, read}
@@ -27,7 +26,7 @@ use Rattle.file.proofs.FixedLists.{There, PartAt, listed_of, listed_as, part_of,
 use Rattle.file.proofs.ColumnsFilled.{above, byte_is}
 
 -- ---- the orientation bytes of the segments
-pub counted_of : (l : List ℕ) (x : ListCount) (n : ℕ) → x ≡ count_of (counted 120 (number 29) l) → x ≡ Entries n → There 120 29 l n
+pub counted_of : (l : List ℕ) (x : (Result ℕ Refusal)) (n : ℕ) → x ≡ count_of (counted 120 (number 29) l) → x ≡ Ok n → There 120 29 l n
 counted_of l x n e g = (listed_of (fixed_number 29) 120 l n (sym g ∙ e)).there
 
 pub orientation-room : (l : List ℕ) (n : ℕ) → 1 ≤ length l → There 120 29 (drop 1 l) n → Room 1 29 n 9 l
@@ -124,27 +123,27 @@ has_version l h k =
 
 -- ---- what is known from the counts that were found
 module _ (l : List ℕ) where
-  pub segments-of : HasVersion l → (x : ListCount) (s : ℕ) → x ≡ count_of (counted 120 segment (drop 1 l)) → x ≡ Entries s → HasSegments l s
+  pub segments-of : HasVersion l → (x : (Result ℕ Refusal)) (s : ℕ) → x ≡ count_of (counted 120 segment (drop 1 l)) → x ≡ Ok s → HasSegments l s
   segments-of v x s e g = part_of v.some (listed_of fixed-segment 120 (drop 1 l) s (sym g ∙ e))
 
-  pub nodes-of : (s : ℕ) → HasSegments l s → (x : ListCount) (n : ℕ) → x ≡ count_of (counted 120 (number 36) (drop (nodes_place s) l)) → x ≡ Entries n → HasNodes l s n
+  pub nodes-of : (s : ℕ) → HasSegments l s → (x : (Result ℕ Refusal)) (n : ℕ) → x ≡ count_of (counted 120 (number 36) (drop (nodes_place s) l)) → x ≡ Ok n → HasNodes l s n
   nodes-of s a x n e g = part_of a.room (listed_as fixed-node 120 (drop (nodes_place s) l) n (sym g ∙ e))
 
-  pub exemptions-of : (s n : ℕ) → HasNodes l s n → (x : ListCount) (e : ℕ) → x ≡ count_of (counted 240 (number 8) (drop (exemptions_place s n) l)) → x ≡ Entries e → HasExemptions l s n e
+  pub exemptions-of : (s n : ℕ) → HasNodes l s n → (x : (Result ℕ Refusal)) (e : ℕ) → x ≡ count_of (counted 240 (number 8) (drop (exemptions_place s n) l)) → x ≡ Ok e → HasExemptions l s n e
   exemptions-of s n b x k e g = part_of b.room (listed_as fixed-exemption 240 (drop (exemptions_place s n) l) k (sym g ∙ e))
 
 module _ (l : List ℕ) (v : HasVersion l) where
-  pub no_segments : (x : ListCount) (r : Refusal) → x ≡ count_of (counted 120 segment (drop 1 l)) → x ≡ Refused r → answers.Refused r ≡ reading_of (read l)
+  pub no_segments : (x : (Result ℕ Refusal)) (r : Refusal) → x ≡ count_of (counted 120 segment (drop 1 l)) → x ≡ Err r → answers.Refused r ≡ reading_of (read l)
   unfolding parts
   no_segments x r e g = refused_reading l r (then-got _ _ _ _ v.reads ∙ then-refused _ _ r (refused-of (counted 120 segment (drop 1 l)) r (sym g ∙ e)))
 
   module _ (s : ℕ) (a : HasSegments l s) where
-    pub no_nodes : (x : ListCount) (r : Refusal) → x ≡ count_of (counted 120 (number 36) (drop (nodes_place s) l)) → x ≡ Refused r → answers.Refused r ≡ reading_of (read l)
+    pub no_nodes : (x : (Result ℕ Refusal)) (r : Refusal) → x ≡ count_of (counted 120 (number 36) (drop (nodes_place s) l)) → x ≡ Err r → answers.Refused r ≡ reading_of (read l)
     unfolding parts
     no_nodes x r e g = refused_reading l r (then-got _ _ _ _ v.reads ∙ then-got _ _ _ _ a.reads ∙ then-refused _ _ r (refused_as fixed-node 120 (drop (nodes_place s) l) r (sym g ∙ e)))
 
     module _ (n : ℕ) (b : HasNodes l s n) where
-      pub no_exemptions : (x : ListCount) (r : Refusal) → x ≡ count_of (counted 240 (number 8) (drop (exemptions_place s n) l)) → x ≡ Refused r → answers.Refused r ≡ reading_of (read l)
+      pub no_exemptions : (x : (Result ℕ Refusal)) (r : Refusal) → x ≡ count_of (counted 240 (number 8) (drop (exemptions_place s n) l)) → x ≡ Err r → answers.Refused r ≡ reading_of (read l)
       unfolding parts
       no_exemptions x r e g = refused_reading l r (then-got _ _ _ _ v.reads ∙ then-got _ _ _ _ a.reads ∙ then-got _ _ _ _ b.reads ∙ then-refused _ _ r (refused_as fixed-exemption 240 (drop (exemptions_place s n) l) r (sym g ∙ e)))
 

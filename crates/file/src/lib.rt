@@ -8,4 +8,4 @@ pub mod reading;
 mod scan;
 
 pub use read::read_drawing;
-pub use reading::{Header, Reading};
+pub use reading::Header;

@@ -4,7 +4,6 @@ ghost use Rattle.file.specs.Reading.{read};
 ghost use Rattle.file.specs.Columns.{reading_of, result_of, file_result, column_after};
 
 use crate::fill::{fill_bytes, fill_floats, fill_numbers};
-use crate::reading::Reading;
 use crate::scan::scan;
 
 // The faults are found before anything is written, so that a refused file leaves every column as it was (SCOPE 8.1).
@@ -22,7 +21,7 @@ pub fn read_drawing(
     height: &mut [f64; 120],
     exempt_net: &mut [u32; 240],
     exempt_node: &mut [u32; 240],
-) -> Reading
+) -> Result<Header, Refusal>
     ensures value { (result ≡ reading_of (read bytes.now)) × (result_of result ≡ file_result (read bytes.now)) }
     ensures net_after { net.new ≡ column_after (λ d. d.segments) (λ s. s.net) (read bytes.now) net.old }
     ensures orientation_after { orientation.new ≡ column_after (λ d. d.segments) (λ s. s.orientation) (read bytes.now) orientation.old }
@@ -38,7 +37,7 @@ pub fn read_drawing(
     ensures exempt_node_after { exempt_node.new ≡ column_after (λ d. d.exemptions) (λ e. e.node) (read bytes.now) exempt_node.old }
 {
     let found = scan(bytes);
-    let Reading::Read(header) = found else {
+    let Ok(header) = found else {
         return found;
     };
     let segments = header.segments;

@@ -8,7 +8,7 @@ ghost use Rattle.file.specs.Inner.Places.{places, count_of, Room};
 ghost use Rattle.file.specs.Columns.{reading_of};
 
 use crate::bytes::{be32, be64};
-use crate::reading::{Header, Reading};
+use crate::reading::Header;
 use drawing::Refusal;
 use floats::float_of_bits;
 
@@ -20,22 +20,22 @@ enum ListCount {
 }
 
 // The list whose count is at `at`, its entries read as plain numbers of `width` bytes. Missing bytes are a malformed file, but a count above the limit comes first.
-fn count_at(bytes: &[u8], at: usize, limit: usize, width: usize) -> ListCount
+fn count_at(bytes: &[u8], at: usize, limit: usize, width: usize) -> Result<usize, Refusal>
     requires { (at ≤ length bytes.now) × (limit ≤ 240) × (width ≤ 36) }
     ensures { result ≡ count_of (counted limit (number width) (drop at bytes.now)) }
 {
     let left = bytes.len() - at;
     if left < 4 {
-        return ListCount::Refused(Refusal::MalformedFile);
+        return Err(Refusal::MalformedFile);
     }
     let n = be32(bytes, at) as usize;
     if limit < n {
-        return ListCount::Refused(Refusal::TooManyEntries);
+        return Err(Refusal::TooManyEntries);
     }
     if left - 4 < width * n {
-        return ListCount::Refused(Refusal::MalformedFile);
+        return Err(Refusal::MalformedFile);
     }
-    ListCount::Entries(n)
+    Ok(n)
 }
 
 // Whether some byte is above 1, of n bytes that are `width` apart.
@@ -54,16 +54,16 @@ fn above_one(bytes: &[u8], n: usize, at: usize, width: usize) -> bool
 }
 
 // The segments, which follow the version byte. The orientation byte of the first one is byte 9.
-fn count_segments(bytes: &[u8]) -> ListCount
+fn count_segments(bytes: &[u8]) -> Result<usize, Refusal>
     requires { 1 ≤ length bytes.now }
     ensures { result ≡ count_of (counted 120 segment (drop 1 bytes.now)) }
 {
     let found = count_at(bytes, 1, 120, 29);
-    let ListCount::Entries(n) = found else {
+    let Ok(n) = found else {
         return found;
     };
     if above_one(bytes, n, 9, 29) {
-        return ListCount::Refused(Refusal::MalformedFile);
+        return Err(Refusal::MalformedFile);
     }
     found
 }
@@ -86,35 +86,35 @@ fn header_at(bytes: &[u8], at: usize, segments: usize, nodes: usize, exemptions:
 }
 
 // The parts in sequence. Where the length is not that of the parts, bytes are missing or left over.
-pub(crate) fn scan(bytes: &[u8]) -> Reading
+pub(crate) fn scan(bytes: &[u8]) -> Result<Header, Refusal>
     ensures { result ≡ reading_of (read bytes.now) }
 {
     if bytes.len() == 0 {
-        return Reading::Refused(Refusal::MalformedFile);
+        return Err(Refusal::MalformedFile);
     }
     if bytes[0] != 1 {
-        return Reading::Refused(Refusal::MalformedFile);
+        return Err(Refusal::MalformedFile);
     }
     let found = count_segments(bytes);
     let segments = match found {
-        ListCount::Refused(why) => return Reading::Refused(why),
-        ListCount::Entries(n) => n,
+        Err(why) => return Err(why),
+        Ok(n) => n,
     };
     let nodes_at = 5 + 29 * segments;
     let found = count_at(bytes, nodes_at, 120, 36);
     let nodes = match found {
-        ListCount::Refused(why) => return Reading::Refused(why),
-        ListCount::Entries(n) => n,
+        Err(why) => return Err(why),
+        Ok(n) => n,
     };
     let exemptions_at = nodes_at + 4 + 36 * nodes;
     let found = count_at(bytes, exemptions_at, 240, 8);
     let exemptions = match found {
-        ListCount::Refused(why) => return Reading::Refused(why),
-        ListCount::Entries(n) => n,
+        Err(why) => return Err(why),
+        Ok(n) => n,
     };
     let at = exemptions_at + 4 + 8 * exemptions;
     if bytes.len() != at + 40 {
-        return Reading::Refused(Refusal::MalformedFile);
+        return Err(Refusal::MalformedFile);
     }
-    Reading::Read(header_at(bytes, at, segments, nodes, exemptions))
+    Ok(header_at(bytes, at, segments, nodes, exemptions))
 }

@@ -1,6 +1,5 @@
 // The joiner by columns.
-ghost use Rattle.std.specs.Prelude.{[], ◌∷◌, ◌≡◌, length};
-ghost use Rattle.drawing.specs.declared.refusal.Check.TheVariants.{Passed};
+ghost use Rattle.std.specs.Prelude.{[], ◌∷◌, ◌≡◌, length, Ok};
 ghost use Rattle.drawing.specs.Refusals.{first_of};
 ghost use Rattle.drawing.specs.Entries.{segment_columns};
 ghost use Rattle.drawing.specs.Conditions.{short_output};
@@ -13,7 +12,7 @@ ghost use Rattle.join_call.specs.Inner.Table.{entries_from, Lists, Tabled};
 
 use crate::table::{count_pieces, order_pieces};
 use crate::write::write_pieces;
-use drawing::{Check, Refusal};
+use drawing::Refusal;
 use joining::{JoinAnswer, short_output};
 use list_checks::check_segment_list;
 
@@ -91,10 +90,10 @@ pub fn join(
         let out = segment_columns to_net.old to_orientation.old to_fixed.old to_start.old to_end.old in
         (result ≡ join_answer lent out)
         × (segment_columns to_net.new to_orientation.new to_fixed.new to_start.new to_end.new ≡ output_after lent out)
-        × (first_of (segment_list_conditions lent) ≡ Passed → SegmentsHeld lent) }
+        × (first_of (segment_list_conditions lent) ≡ (Ok tt) → SegmentsHeld lent) }
 {
     let check = check_segment_list(net, orientation, fixed, start, end);
-    if let Check::Refused(why) = check {
+    if let Err(why) = check {
         return JoinAnswer::Refused(why);
     }
     // A short list needs no long table, whose clearing would take longer than the rest.

@@ -9,7 +9,7 @@ ghost use Rattle.drawing.specs.Conditions as Conditions;
 ghost use Rattle.drawing.specs.Checks as Checks;
 ghost use Rattle.drawing.specs.Inner.Lengths.{SegmentsAgree, NodesAgree, compared_entry_conditions};
 
-use drawing::{Check, Refusal, node_unfit, segment_unfit};
+use drawing::{Refusal, node_unfit, segment_unfit};
 
 // SCOPE 7.2: the columns of one list differ in length.
 pub fn segments_differ(
@@ -120,22 +120,22 @@ pub fn check_segments(
     start: &[f64],
     end: &[f64],
     words: usize,
-) -> Check
+) -> Result<(), Refusal>
     ensures { result ≡ first_of (Checks.segment_conditions (segment_columns net.now orientation.now fixed.now start.now end.now) words) }
 {
     if segments_differ(net, orientation, fixed, start, end) {
-        return Check::Refused(Refusal::ColumnsDiffer);
+        return Err(Refusal::ColumnsDiffer);
     }
     if too_many(net.len()) {
-        return Check::Refused(Refusal::TooManyEntries);
+        return Err(Refusal::TooManyEntries);
     }
     if short_scratch(words, net.len(), 0) {
-        return Check::Refused(Refusal::ShortScratch);
+        return Err(Refusal::ShortScratch);
     }
     if segments_unfit(net, orientation, fixed, start, end) {
-        return Check::Refused(Refusal::InvalidInput);
+        return Err(Refusal::InvalidInput);
     }
-    Check::Passed
+    Ok(())
 }
 
 // The checks 2, 3 and 5 of segments, for a call without scratch.
@@ -145,19 +145,19 @@ pub fn check_segment_list(
     fixed: &[f64],
     start: &[f64],
     end: &[f64],
-) -> Check
+) -> Result<(), Refusal>
     ensures { result ≡ first_of (Checks.segment_list_conditions (segment_columns net.now orientation.now fixed.now start.now end.now)) }
 {
     if segments_differ(net, orientation, fixed, start, end) {
-        return Check::Refused(Refusal::ColumnsDiffer);
+        return Err(Refusal::ColumnsDiffer);
     }
     if too_many(net.len()) {
-        return Check::Refused(Refusal::TooManyEntries);
+        return Err(Refusal::TooManyEntries);
     }
     if segments_unfit(net, orientation, fixed, start, end) {
-        return Check::Refused(Refusal::InvalidInput);
+        return Err(Refusal::InvalidInput);
     }
-    Check::Passed
+    Ok(())
 }
 
 // The checks 2 and 3 of segments, nodes and exemptions.
@@ -174,28 +174,28 @@ pub fn check_lists(
     height: &[f64],
     exempt_net: &[u32],
     exempt_node: &[u32],
-) -> Check
+) -> Result<(), Refusal>
     ensures { result ≡ first_of (Checks.list_conditions (segment_columns net.now orientation.now fixed.now start.now end.now) (node_columns id.now x.now y.now width.now height.now) (exemption_columns exempt_net.now exempt_node.now)) }
 {
     if segments_differ(net, orientation, fixed, start, end) {
-        return Check::Refused(Refusal::ColumnsDiffer);
+        return Err(Refusal::ColumnsDiffer);
     }
     if nodes_differ(id, x, y, width, height) {
-        return Check::Refused(Refusal::ColumnsDiffer);
+        return Err(Refusal::ColumnsDiffer);
     }
     if exemptions_differ(exempt_net, exempt_node) {
-        return Check::Refused(Refusal::ColumnsDiffer);
+        return Err(Refusal::ColumnsDiffer);
     }
     if too_many(net.len()) {
-        return Check::Refused(Refusal::TooManyEntries);
+        return Err(Refusal::TooManyEntries);
     }
     if too_many(id.len()) {
-        return Check::Refused(Refusal::TooManyEntries);
+        return Err(Refusal::TooManyEntries);
     }
     if too_many(exempt_net.len()) {
-        return Check::Refused(Refusal::TooManyEntries);
+        return Err(Refusal::TooManyEntries);
     }
-    Check::Passed
+    Ok(())
 }
 
 // The check 5 of segments and nodes. Columns of one list that differ in length are refused first, with 2, so that it may be called with any columns.
@@ -210,20 +210,20 @@ pub fn check_entries(
     y: &[f64],
     width: &[f64],
     height: &[f64],
-) -> Check
+) -> Result<(), Refusal>
     ensures { result ≡ first_of (compared_entry_conditions (segment_columns net.now orientation.now fixed.now start.now end.now) (node_columns id.now x.now y.now width.now height.now)) }
 {
     if segments_differ(net, orientation, fixed, start, end) {
-        return Check::Refused(Refusal::ColumnsDiffer);
+        return Err(Refusal::ColumnsDiffer);
     }
     if nodes_differ(id, x, y, width, height) {
-        return Check::Refused(Refusal::ColumnsDiffer);
+        return Err(Refusal::ColumnsDiffer);
     }
     if segments_unfit(net, orientation, fixed, start, end) {
-        return Check::Refused(Refusal::InvalidInput);
+        return Err(Refusal::InvalidInput);
     }
     if nodes_unfit(id, x, y, width, height) {
-        return Check::Refused(Refusal::InvalidInput);
+        return Err(Refusal::InvalidInput);
     }
-    Check::Passed
+    Ok(())
 }

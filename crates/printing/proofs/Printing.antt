@@ -1,4 +1,5 @@
 -- From a file's reading to its sheet: what the columns hold where the file is read, and which text follows from each answer of the reader. Assumes nothing.
+use Rattle.std.specs.Prelude.{Result}
 use mathlib.Core.Path.{◌≡◌, refl, sym, ap, subst, ◌∙◌}
 use mathlib.Core.List.{List, ◌++◌, map}
 use Prim.Native.Nat.{ℕ, ◌+◌, ◌≤◌}
@@ -9,31 +10,27 @@ use lib.Seq.{take-append_seam, length-take-le}
 use Rattle.drawing.specs.declared.refusal.Refusal.{Refusal}
 use Rattle.drawing.specs.Entries.{Segment, Node, Exemption, SegmentColumns, NodeColumns, ExemptionColumns, segment_columns, node_columns, exemption_columns, columns_of, node_columns_of, exemption_columns_of}
 use Rattle.file.specs.declared.reading.Header.{Header}
-use Rattle.file.specs.declared.reading.Reading.{Reading}
 use Rattle.file.specs.declared.reading.Reading.TheVariants as answers
 use Rattle.file.specs.Reading.{Read, got, refused, Drawing}
 use Rattle.file.specs.Columns.{header_of, reading_of, column_after}
 use Rattle.file.specs.Inner.Columns.{settings_of}
-use Rattle.clearance.specs.declared.report.ClearanceAnswer.{ClearanceAnswer}
 use Rattle.clearance.specs.Answer.{clearance_answer}
-use Rattle.separation.specs.declared.report.SeparationAnswer.{SeparationAnswer}
 use Rattle.separation.specs.Answer.{separation_answer}
-use Rattle.congestion.specs.declared.report.CongestionAnswer.{CongestionAnswer}
 use Rattle.congestion.specs.Answer.{density_answer}
 use Rattle.printing.specs.Sheet.{file_label, refusal, clearance_line, separation_line, congestion_line, scratch_words, lines_of_columns, lines_of_drawing, printed}
 use Rattle.text.specs.Inner.TextPut.{Put}
 use Rattle.text.proofs.TextPuts.{put_same}
 
 -- the two answers of the reader differ
-abbrev IsRead : Reading → Type 0
+abbrev IsRead : (Result Header Refusal) → Type 0
 IsRead (answers.Read h) = Unit {0}
 IsRead (answers.Refused r) = ⊥
 
-abbrev header_from : Header → Reading → Header
+abbrev header_from : Header → (Result Header Refusal) → Header
 header_from other (answers.Read h) = h
 header_from other (answers.Refused r) = other
 
-abbrev refusal_from : Refusal → Reading → Refusal
+abbrev refusal_from : Refusal → (Result Header Refusal) → Refusal
 refusal_from other (answers.Read h) = other
 refusal_from other (answers.Refused r) = r
 
@@ -144,7 +141,7 @@ pub three : {a b c d e f : List ℕ} → a ≡ d → b ≡ e → c ≡ f → a +
 three {a} {b} {c} {d} {e} {f} p q r = ap (λ l. l ++ (b ++ c)) p ∙ ap (λ l. d ++ (l ++ c)) q ∙ ap (λ l. d ++ (e ++ l)) r
 
 -- the lines of three answers, each of a call with the program's scratch, are the lines of the columns
-pub lines-put : (s : SegmentColumns) (n : NodeColumns) (e : ExemptionColumns) (h : Header) (x : ClearanceAnswer) (y : SeparationAnswer) (z : CongestionAnswer) (i j k : ℕ) {before after : List ℕ} {next : ℕ}
+pub lines-put : (s : SegmentColumns) (n : NodeColumns) (e : ExemptionColumns) (h : Header) (x : (Result EdgeNodeClearance Refusal)) (y : (Result ParallelSeparation Refusal)) (z : (Result CongestionReport Refusal)) (i j k : ℕ) {before after : List ℕ} {next : ℕ}
     → 7744 ≡ i → x ≡ clearance_answer s n e h.threshold h.clearance i
     → 7744 ≡ j → y ≡ separation_answer s h.separation j
     → 7744 ≡ k → z ≡ density_answer s h.cutoff h.congestion k

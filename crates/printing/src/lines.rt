@@ -6,23 +6,20 @@ ghost use Rattle.text.specs.Inner.TextPut.{Put};
 ghost use Rattle.printing.specs.Fields as Fields;
 ghost use Rattle.printing.specs.Sheet as Sheet;
 
-use clearance::ClearanceAnswer;
-use congestion::CongestionAnswer;
-use drawing::{Gap, Refusal, number};
-use separation::SeparationAnswer;
+use drawing::{Refusal, number};
 use text::{put_byte, put_decimal, put_float, put_word};
 
-fn put_gap(gap: Gap, text: &mut [u8], at: usize) -> usize
+fn put_gap(gap: Option<f64>, text: &mut [u8], at: usize) -> usize
     ensures { Put 16 text.old at (Fields.gap_text gap) text.new result }
 {
     match gap {
-        Gap::Absent => put_word(b"none", text, at),
-        Gap::Present(x) => put_float(x, text, at),
+        None => put_word(b"none", text, at),
+        Some(x) => put_float(x, text, at),
     }
 }
 
 // Fields, each with the space before it.
-fn gap_field(gap: Gap, text: &mut [u8], at: usize) -> usize
+fn gap_field(gap: Option<f64>, text: &mut [u8], at: usize) -> usize
     ensures { Put 17 text.old at (32 ∷ Fields.gap_text gap) text.new result }
 {
     let next = put_byte(b' ', text, at);
@@ -44,7 +41,7 @@ fn count_field(count: usize, text: &mut [u8], at: usize) -> usize
 }
 
 // The end of a line: a gap and the visits.
-fn gap_and_visits(gap: Gap, visits: usize, text: &mut [u8], at: usize) -> usize
+fn gap_and_visits(gap: Option<f64>, visits: usize, text: &mut [u8], at: usize) -> usize
     ensures { Put 39 text.old at (Fields.fields (Fields.gap_text gap ∷ Text.decimal visits ∷ [])) text.new result }
 {
     let next = gap_field(gap, text, at);
@@ -68,43 +65,43 @@ pub(crate) fn file_refused(why: Refusal, text: &mut [u8], at: usize) -> usize
     refused_fields(why, text, at)
 }
 
-pub(crate) fn clearance_line(answer: ClearanceAnswer, text: &mut [u8], at: usize) -> usize
+pub(crate) fn clearance_line(answer: Result<EdgeNodeClearance, Refusal>, text: &mut [u8], at: usize) -> usize
     ensures { Put 69 text.old at (Sheet.clearance_line answer) text.new result }
 {
     let at = put_word(b"clearance", text, at);
     match answer {
-        ClearanceAnswer::Report(report) => {
+        Ok(report) => {
             let least = report.minimum_clearance;
             let at = gap_field(least, text, at);
             let at = count_field(report.violations, text, at);
             let at = count_field(report.visits, text, at);
             put_byte(b'\n', text, at)
         }
-        ClearanceAnswer::Refused(why) => refused_fields(why, text, at),
+        Err(why) => refused_fields(why, text, at),
     }
 }
 
-pub(crate) fn separation_line(answer: SeparationAnswer, text: &mut [u8], at: usize) -> usize
+pub(crate) fn separation_line(answer: Result<ParallelSeparation, Refusal>, text: &mut [u8], at: usize) -> usize
     ensures { Put 66 text.old at (Sheet.separation_line answer) text.new result }
 {
     let at = put_word(b"separation", text, at);
     match answer {
-        SeparationAnswer::Report(report) => {
+        Ok(report) => {
             let least = report.minimum;
             let positive = report.minimum_positive;
             let at = gap_field(least, text, at);
             gap_and_visits(positive, report.visits, text, at)
         }
-        SeparationAnswer::Refused(why) => refused_fields(why, text, at),
+        Err(why) => refused_fields(why, text, at),
     }
 }
 
-pub(crate) fn congestion_line(answer: CongestionAnswer, text: &mut [u8], at: usize) -> usize
+pub(crate) fn congestion_line(answer: Result<CongestionReport, Refusal>, text: &mut [u8], at: usize) -> usize
     ensures { Put 121 text.old at (Sheet.congestion_line answer) text.new result }
 {
     let at = put_word(b"congestion", text, at);
     match answer {
-        CongestionAnswer::Report(report) => {
+        Ok(report) => {
             let lengths = report.congestion;
             let positive = report.minimum_positive;
             let at = float_field(lengths.total_length, text, at);
@@ -113,15 +110,15 @@ pub(crate) fn congestion_line(answer: CongestionAnswer, text: &mut [u8], at: usi
             let at = count_field(lengths.peak_close_neighbors, text, at);
             gap_and_visits(positive, report.visits, text, at)
         }
-        CongestionAnswer::Refused(why) => refused_fields(why, text, at),
+        Err(why) => refused_fields(why, text, at),
     }
 }
 
 // The three lines, from the first byte of the buffer on.
 pub(crate) fn three_lines(
-    clearance: ClearanceAnswer,
-    separation: SeparationAnswer,
-    congestion: CongestionAnswer,
+    clearance: Result<EdgeNodeClearance, Refusal>,
+    separation: Result<ParallelSeparation, Refusal>,
+    congestion: Result<CongestionReport, Refusal>,
     text: &mut [u8],
 ) -> usize
     ensures { Put 256 text.old 0 (Sheet.clearance_line clearance ++ (Sheet.separation_line separation ++ Sheet.congestion_line congestion)) text.new result }

@@ -8,7 +8,7 @@ ghost use Rattle.printing.specs.Sheet.{lines_of_columns, sheet};
 use crate::lines::{file_refused, three_lines};
 use clearance_call::measure_edge_node_clearance_bounded;
 use density_call::measure_parallel_density_profile_bounded;
-use file::{Header, Reading, read_drawing};
+use file::{Header, read_drawing};
 use separation_call::measure_parallel_separation_bounded;
 
 // The three lines of a drawing that was read.
@@ -103,8 +103,8 @@ pub fn sheet(bytes: &[u8], text: &mut [u8; 256]) -> usize
         &mut exempt_node,
     );
     match reading {
-        Reading::Refused(why) => file_refused(why, text, 0),
-        Reading::Read(header) => put_lines(
+        Err(why) => file_refused(why, text, 0),
+        Ok(header) => put_lines(
             &net[..header.segments],
             &orientation[..header.segments],
             &fixed[..header.segments],

@@ -1,4 +1,5 @@
 -- The first 4,097 entries of a list decide as the whole list does: with more than 4,096 entries a call is refused (SCOPE 7.3), whatever they are. Assumes nothing.
+use Rattle.std.specs.Prelude.{Result}
 use mathlib.Core.Path.{◌≡◌, refl, sym, subst, ◌∙◌}
 use mathlib.Core.Logic.{inl, inr}
 use mathlib.Core.Bool.{true, cond}
@@ -10,7 +11,6 @@ use lib.Ieee.{Float}
 use lib.ListN.{length, take}
 use lib.Seq.{take_all, length-take-le}
 use Rattle.laws.proofs.Tests.{le_or_lt, decide}
-use Rattle.drawing.specs.declared.refusal.Check.{Check}
 use Rattle.drawing.specs.declared.refusal.Check.TheVariants as check
 use Rattle.drawing.specs.declared.refusal.Refusal.{Refusal}
 use Rattle.drawing.specs.declared.refusal.Refusal.TheVariants.{ColumnsDiffer, TooManyEntries}
@@ -87,7 +87,7 @@ module _ (l : List Segment) (words : ℕ) where
   clearance-checked n e threshold = decided (λ k. first_of (clearance_conditions (columns_of k) n e threshold words)) _ (λ k. clearance-many k n e threshold words) l
 
 -- what holds of lines that pass, j being those of the first 4,097 entries, holds of all entries where they pass
-pub passed_all : (c : List Segment → Check) (r : Refusal) → ((k : List Segment) → 4096 < length k → c k ≡ check.Refused r) → (P : List Segment → Type 0) (j l : List Segment) → j ≡ take 4097 l → (c j ≡ check.Passed → P j) → c l ≡ check.Passed → P l
+pub passed_all : (c : List Segment → (Result Unit Refusal)) (r : Refusal) → ((k : List Segment) → 4096 < length k → c k ≡ check.Refused r) → (P : List Segment → Type 0) (j l : List Segment) → j ≡ take 4097 l → (c j ≡ check.Passed → P j) → c l ≡ check.Passed → P l
 passed_all c r many P j l e h = few_or_many (λ i k. (c i ≡ check.Passed → P i) → c k ≡ check.Passed → P k) l (λ k g. g) (λ i k a b g. not_passed (c k) (c k) r refl (many k b)) (subst (λ k. c k ≡ check.Passed → P k) e h)
 
 separation-refused : (s : SegmentColumns) (allowance words : ℕ) (r : Refusal) → first_of (separation_conditions s words) ≡ check.Refused r → separation_answer s allowance words ≡ ofSeparation.Refused r

@@ -1,6 +1,5 @@
 // Clearance of a lent list of records (SCOPE 2.6, 15.9). The borrow checker does not cover a slice of structs, so these functions are thin: they make a list of lines, and a covered function does the work.
-ghost use Rattle.std.specs.Prelude.{◌≡◌, map, ◌<◌, length, take, get_or};
-ghost use Rattle.drawing.specs.declared.refusal.Check.TheVariants.{Passed};
+ghost use Rattle.std.specs.Prelude.{◌≡◌, map, ◌<◌, length, take, get_or, Ok};
 ghost use Rattle.drawing.specs.Refusals.{first_of, scratch_after};
 ghost use Rattle.drawing.specs.Entries.{node_columns, exemption_columns};
 ghost use Rattle.drawing.specs.Held.{Binary64, SegmentsHeld, NodesHeld};
@@ -10,7 +9,6 @@ ghost use Rattle.lines.specs.Inner.Lines.{entry_of};
 ghost use Rattle.records.specs.Records.{of_edge_node, edge_node_columns};
 ghost use Rattle.records.specs.Inner.NoRecord.{no_edge_node};
 
-use clearance::ClearanceAnswer;
 use clearance_lines::clearance_of_lines;
 use lines::{Line, orientation_byte, unpack_count};
 
@@ -78,7 +76,7 @@ pub fn measure_edge_node_clearance_bounded_by_records(
     threshold: f64,
     allowance: usize,
     scratch: &mut [u64],
-) -> ClearanceAnswer
+) -> Result<EdgeNodeClearance, Refusal>
     ensures { let lent_segments = edge_node_columns records.now in
         let lent_nodes = node_columns id.now x.now y.now width.now height.now in
         let lent_exemptions = exemption_columns exempt_net.now exempt_node.now in
@@ -86,7 +84,7 @@ pub fn measure_edge_node_clearance_bounded_by_records(
         let refusal = first_of (clearance_conditions lent_segments lent_nodes lent_exemptions threshold words) in
         (result ≡ clearance_answer lent_segments lent_nodes lent_exemptions threshold allowance words)
         × (scratch.new ≡ scratch_after refusal scratch.old)
-        × (refusal ≡ Passed → SegmentsHeld lent_segments × NodesHeld lent_nodes × Binary64 threshold) }
+        × (refusal ≡ (Ok tt) → SegmentsHeld lent_segments × NodesHeld lent_nodes × Binary64 threshold) }
 {
     let n = records.len();
     let lines = edge_node_lines(records);

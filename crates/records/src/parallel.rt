@@ -1,6 +1,5 @@
 // Separation and congestion of a lent list of records (SCOPE 2.6, 15.9). The borrow checker does not cover a slice of structs, so these functions are thin: they make a list of lines, and a covered function does the work.
-ghost use Rattle.std.specs.Prelude.{◌≡◌, map, ◌<◌, length, take, get_or};
-ghost use Rattle.drawing.specs.declared.refusal.Check.TheVariants.{Passed};
+ghost use Rattle.std.specs.Prelude.{◌≡◌, map, ◌<◌, length, take, get_or, Ok};
 ghost use Rattle.drawing.specs.Refusals.{first_of, scratch_after};
 ghost use Rattle.drawing.specs.Held.{Binary64, SegmentsHeld};
 ghost use Rattle.separation.specs.Conditions.{separation_conditions};
@@ -11,10 +10,8 @@ ghost use Rattle.lines.specs.Inner.Lines.{entry_of};
 ghost use Rattle.records.specs.Records.{of_parallel, parallel_columns};
 ghost use Rattle.records.specs.Inner.NoRecord.{no_parallel};
 
-use congestion::CongestionAnswer;
 use congestion_lines::{congestion_of_lines, density_of_lines, profile_of_lines};
 use lines::{Line, orientation_byte, unpack_count};
-use separation::SeparationAnswer;
 use separation_lines::separation_of_lines;
 
 // A straight wire segment, as separation and congestion take it.
@@ -73,13 +70,13 @@ pub fn measure_parallel_separation_bounded_by_records(
     records: &[ParallelSegment],
     allowance: usize,
     scratch: &mut [u64],
-) -> SeparationAnswer
+) -> Result<ParallelSeparation, Refusal>
     ensures { let lent = parallel_columns records.now in
         let words = length scratch.old in
         let refusal = first_of (separation_conditions lent words) in
         (result ≡ separation_answer lent allowance words)
         × (scratch.new ≡ scratch_after refusal scratch.old)
-        × (refusal ≡ Passed → SegmentsHeld lent) }
+        × (refusal ≡ (Ok tt) → SegmentsHeld lent) }
 {
     let n = records.len();
     let lines = parallel_lines(records);
@@ -91,13 +88,13 @@ pub fn measure_parallel_density_profile_bounded_by_records(
     cutoff: f64,
     allowance: usize,
     scratch: &mut [u64],
-) -> CongestionAnswer
+) -> Result<CongestionReport, Refusal>
     ensures { let lent = parallel_columns records.now in
         let words = length scratch.old in
         let refusal = first_of (congestion_conditions lent cutoff words) in
         (result ≡ density_answer lent cutoff allowance words)
         × (scratch.new ≡ scratch_after refusal scratch.old)
-        × (refusal ≡ Passed → SegmentsHeld lent × Binary64 cutoff) }
+        × (refusal ≡ (Ok tt) → SegmentsHeld lent × Binary64 cutoff) }
 {
     let n = records.len();
     let lines = parallel_lines(records);
@@ -109,13 +106,13 @@ pub fn measure_parallel_congestion_profile_bounded_by_records(
     cutoff: f64,
     allowance: usize,
     scratch: &mut [u64],
-) -> CongestionAnswer
+) -> Result<CongestionReport, Refusal>
     ensures { let lent = parallel_columns records.now in
         let words = length scratch.old in
         let refusal = first_of (congestion_conditions lent cutoff words) in
         (result ≡ profile_answer lent cutoff allowance words)
         × (scratch.new ≡ scratch_after refusal scratch.old)
-        × (refusal ≡ Passed → SegmentsHeld lent × Binary64 cutoff) }
+        × (refusal ≡ (Ok tt) → SegmentsHeld lent × Binary64 cutoff) }
 {
     let n = records.len();
     let lines = parallel_lines(records);
@@ -126,13 +123,13 @@ pub fn measure_parallel_congestion_by_records(
     records: &[ParallelSegment],
     cutoff: f64,
     scratch: &mut [u64],
-) -> CongestionAnswer
+) -> Result<CongestionReport, Refusal>
     ensures { let lent = parallel_columns records.now in
         let words = length scratch.old in
         let refusal = first_of (congestion_conditions lent cutoff words) in
         (result ≡ congestion_answer lent cutoff words)
         × (scratch.new ≡ scratch_after refusal scratch.old)
-        × (refusal ≡ Passed → SegmentsHeld lent × Binary64 cutoff) }
+        × (refusal ≡ (Ok tt) → SegmentsHeld lent × Binary64 cutoff) }
 {
     let n = records.len();
     let lines = parallel_lines(records);

@@ -1,15 +1,14 @@
 -- A separation call that meets no refusal before 7: its segments are fit, and its result depends on its allowance only through whether that reaches the visit count. Assumes nothing.
+use Rattle.std.specs.Prelude.{Ok, Err}
 use mathlib.Core.Path.{◌≡◌, refl, sym, ap, ◌∙◌}
 use mathlib.Core.Bool.{Bool, true, false, cond}
 use Prim.Native.Nat.{ℕ}
 use Rattle.laws.specs.Lists.{All}
 use Rattle.laws.specs.Charged.{Charged, reaches, settle}
 use Rattle.drawing.specs.declared.refusal.Refusal.TheVariants.{WorkLimitExceeded}
-use Rattle.drawing.specs.declared.refusal.Check.TheVariants.{Passed}
 use Rattle.drawing.specs.Entries.{SegmentColumns, segments}
 use Rattle.drawing.specs.Refusals.{number_of, first_of}
 use Rattle.drawing.specs.Held.{SegmentHeld}
-use Rattle.separation.specs.declared.report.SeparationAnswer.TheVariants.{Refused}
 use Rattle.separation.specs.Conditions.{separation_conditions}
 use Rattle.separation.specs.Figures.{Figures}
 use Rattle.separation.specs.Walk.{walk_all}
@@ -19,8 +18,8 @@ use Rattle.separation.proofs.Fit.{Fit, fit_all}
 use Rattle.separation.proofs.AnyOrder.{walk-all-pairs}
 
 -- ---- a call that meets no earlier refusal
-module _ (s : SegmentColumns) (words : ℕ) (passed : first_of (separation_conditions s words) ≡ Passed) where
-  answer-is : (m : ℕ) → separation_answer s m words ≡ settle accepted (Refused WorkLimitExceeded) m (all_pairs (segments s))
+module _ (s : SegmentColumns) (words : ℕ) (passed : first_of (separation_conditions s words) ≡ (Ok tt)) where
+  answer-is : (m : ℕ) → separation_answer s m words ≡ settle accepted (Err WorkLimitExceeded) m (all_pairs (segments s))
   unfolding separation_answer
   answer-is m = rw passed
 
@@ -29,7 +28,7 @@ module _ (s : SegmentColumns) (words : ℕ) (passed : first_of (separation_condi
   unfolding settle result_of number_of
   result_settles m = ap result_of (answer-is m) ∙ go (reaches m (all_pairs (segments s))) (all_pairs (segments s))
     where
-      go : (b : Bool) (c : Charged Figures) → result_of (cond b (accepted c.value c.cost) (Refused WorkLimitExceeded)) ≡ cond b (0, report_of c.value c.cost) (7, zeros)
+      go : (b : Bool) (c : Charged Figures) → result_of (cond b (accepted c.value c.cost) (Err WorkLimitExceeded)) ≡ cond b (0, report_of c.value c.cost) (7, zeros)
       go true c = refl
       go false c = refl
 
@@ -38,5 +37,5 @@ module _ (s : SegmentColumns) (words : ℕ) (passed : first_of (separation_condi
   passed_fit held = fit_all (segments s) held (separation-passes s words passed).fit
 
   -- and the answer is what the walk settles
-  pub walk_settles : All SegmentHeld (segments s) → (m : ℕ) → separation_answer s m words ≡ settle accepted (Refused WorkLimitExceeded) m (walk_all (segments s))
-  walk_settles held m = answer-is m ∙ ap (settle accepted (Refused WorkLimitExceeded) m) (sym (walk-all-pairs (segments s) (passed_fit held)))
+  pub walk_settles : All SegmentHeld (segments s) → (m : ℕ) → separation_answer s m words ≡ settle accepted (Err WorkLimitExceeded) m (walk_all (segments s))
+  walk_settles held m = answer-is m ∙ ap (settle accepted (Err WorkLimitExceeded) m) (sym (walk-all-pairs (segments s) (passed_fit held)))

@@ -1,14 +1,14 @@
 -- A drawing that passes the checks of separation, and that the order of its list decides none of them. Assumes nothing.
+use Rattle.std.specs.Prelude.{Ok}
 use mathlib.Core.Path.{◌≡◌}
 use Prim.Native.Nat.{ℕ}
-use Rattle.drawing.specs.declared.refusal.Check.TheVariants.{Passed}
 use Rattle.drawing.specs.Entries.{SegmentColumns}
 use Rattle.drawing.specs.Refusals.{first_of}
 use Rattle.drawing.proofs.FirstRefusal.{SegmentsPass, segments_pass}
 use Rattle.drawing.proofs.AnyOrder.{SameSegments, segments-order}
 use Rattle.separation.specs.Conditions.{separation_conditions}
 
-pub separation-passes : (s : SegmentColumns) (words : ℕ) → first_of (separation_conditions s words) ≡ Passed → SegmentsPass s words
+pub separation-passes : (s : SegmentColumns) (words : ℕ) → first_of (separation_conditions s words) ≡ (Ok tt) → SegmentsPass s words
 unfolding separation_conditions
 separation-passes s words e = segments_pass s words e
 

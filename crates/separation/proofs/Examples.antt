@@ -1,4 +1,5 @@
 -- The marked cases of separation (SCOPE 13), by computing the definitions. Assumes nothing.
+use Rattle.std.specs.Prelude.{Option, Some, None, Err}
 use mathlib.Core.Path.{◌≡◌, refl}
 use mathlib.Core.List.{[], ◌∷◌}
 use Prim.Native.Nat.{ℕ}
@@ -13,8 +14,6 @@ use Rattle.laws.specs.Least.{lesser, least}
 use Rattle.laws.specs.Charged.{runs, settle}
 use Rattle.floats.specs.Values.{plus_zero, canonical_zero, lesser_of, greater_of, abs_of, gap_of}
 use Rattle.floats.specs.TotalOrder.{key, key_of, pattern_at, float_at}
-use Rattle.drawing.specs.declared.gap.Gap.{Gap}
-use Rattle.drawing.specs.declared.gap.Gap.TheVariants.{Absent, Present}
 use Rattle.drawing.specs.declared.refusal.Refusal.TheVariants.{WorkLimitExceeded}
 use Rattle.drawing.specs.Entries.{SegmentColumns, segment_columns, segments_of, segments}
 use Rattle.drawing.specs.Orders.{segment_row, segments_in_order}
@@ -23,7 +22,6 @@ use Rattle.drawing.specs.Refusals.{number_of, first_of}
 use Rattle.drawing.specs.Conditions.{differ, too_many, short_scratch, unfit_fields, unfit_segment}
 use Rattle.drawing.specs.Checks.{segments_differ, segment_conditions}
 use Rattle.rows.specs.Rows.{fixed_of, start_of, end_of, row_of, words, oriented, moment, events_from, events}
-use Rattle.separation.specs.declared.report.SeparationAnswer.TheVariants.{Refused}
 use Rattle.separation.specs.Conditions.{separation_conditions}
 use Rattle.separation.specs.Figures.{overlapping, is_counted, gap_between, gaps, nonzero, least_of, figures}
 use Rattle.separation.specs.Lines.{lines, index, levels}
@@ -69,12 +67,12 @@ far = two 1 2 (0x7fef_ffff_ffff_ffff, 0, 0x4024_0000_0000_0000) (0xffef_ffff_fff
 abbrev drawn : ℕ → (ℕ × ℕ) → (ℕ × ℕ) → SegmentColumns
 drawn o a b = segment_columns (1 ∷ 2 ∷ []) (o ∷ o ∷ []) (float 0 ∷ float 0x4010_0000_0000_0000 ∷ []) (float a.0 ∷ float b.0 ∷ []) (float a.1 ∷ float b.1 ∷ [])
 
-abbrev four : Gap
-four = Present (float 0x4010_0000_0000_0000)
+abbrev four : (Option Float)
+four = Some (float 0x4010_0000_0000_0000)
 
 -- D's figures with 16 visits, and 7 with 15
 abbrev AsD : SegmentColumns → Type 0
-AsD s = (separation_answer s 16 128 ≡ accepted (record { least = four; least_nonzero = four }) 16) × (separation_answer s 15 128 ≡ Refused WorkLimitExceeded)
+AsD s = (separation_answer s 16 128 ≡ accepted (record { least = four; least_nonzero = four }) 16) × (separation_answer s 15 128 ≡ Err WorkLimitExceeded)
 
 -- columns, allowance and words of scratch
 pub record Marked : Type 0 where
@@ -82,27 +80,27 @@ pub record Marked : Type 0 where
   pub a : separation_answer alone 0 96 ≡ accepted no_figures 0
   -- SCOPE 13.b: "D's separation accepted at 16, refused at 15"
   pub b-accepted : separation_answer D 16 128 ≡ accepted (record { least = four; least_nonzero = four }) 16
-  pub b-refused : separation_answer D 15 128 ≡ Refused WorkLimitExceeded
+  pub b-refused : separation_answer D 15 128 ≡ Err WorkLimitExceeded
   -- SCOPE 11.5: D as the program `sheet` measures it
   pub d-sheet : separation_answer D 1000 7744 ≡ accepted (record { least = four; least_nonzero = four }) 16
   -- SCOPE 13.d: "0 to 5 and 5 to 9, nets 1 and 2: absent"
   pub d : separation_answer touching 1000 128 ≡ accepted no_figures 14
   -- SCOPE 13.e: "equal fixed, overlapping, two nets: least 0, nonzero absent"
-  pub e : separation_answer level 1000 128 ≡ accepted (record { least = Present plus_zero; least_nonzero = Absent }) 10
-  pub e-zeros : separation_answer zeros 1000 128 ≡ accepted (record { least = Present plus_zero; least_nonzero = Absent }) 10
+  pub e : separation_answer level 1000 128 ≡ accepted (record { least = Some plus_zero; least_nonzero = None }) 10
+  pub e-zeros : separation_answer zeros 1000 128 ≡ accepted (record { least = Some plus_zero; least_nonzero = None }) 10
   -- SCOPE 13.f: "one net, gap 1: absent"
   pub f : separation_answer related 1000 128 ≡ accepted no_figures 14
-  pub overflow : separation_answer far 1000 128 ≡ accepted (record { least = Present (inf false); least_nonzero = Present (inf false) }) 16
+  pub overflow : separation_answer far 1000 128 ≡ accepted (record { least = Some (inf false); least_nonzero = Some (inf false) }) 16
   -- SCOPE 2.8: D with net 2 given from 15 to 5, with both wires so, and upright with both so
   pub net_2_reversed : AsD (drawn 1 (0, 0x4024_0000_0000_0000) (0x402e_0000_0000_0000, 0x4014_0000_0000_0000))
   pub reversed : AsD (drawn 1 (0x4024_0000_0000_0000, 0) (0x402e_0000_0000_0000, 0x4014_0000_0000_0000))
   pub upright_reversed : AsD (drawn 0 (0x4024_0000_0000_0000, 0) (0x402e_0000_0000_0000, 0x4014_0000_0000_0000))
   -- one wire given both ways, for two nets
-  pub both_ways : separation_answer (two 1 2 (0, 0, 0x4024_0000_0000_0000) (0, 0x4024_0000_0000_0000, 0)) 1000 128 ≡ accepted (record { least = Present plus_zero; least_nonzero = Absent }) 10
+  pub both_ways : separation_answer (two 1 2 (0, 0, 0x4024_0000_0000_0000) (0, 0x4024_0000_0000_0000, 0)) 1000 128 ≡ accepted (record { least = Some plus_zero; least_nonzero = None }) 10
   -- from 1/32 to 1/128: separation has no grid
   pub reversed_off_the_grid : separation_answer (segment_columns (1 ∷ []) (1 ∷ []) (float 0 ∷ []) (float 0x3fa0_0000_0000_0000 ∷ []) (float 0x3f80_0000_0000_0000 ∷ [])) 0 96 ≡ accepted no_figures 0
   -- SCOPE 6.3, 7.4: a refusal's number and values, one word of scratch too few
-  pub short : result_of (separation_answer D 16 127) ≡ (4, record { minimum = Absent; minimum_positive = Absent; visits = 0 })
+  pub short : result_of (separation_answer D 16 127) ≡ (4, record { minimum = None; minimum_positive = None; visits = 0 })
 
 pub marked : Marked
 unfolding of_bits of_fields to_bits round units odd size span climb neg sum add sub lt eq count_trailing_zeros some_of chosen pairs row_le insert_by sort_by lesser least runs settle canonical_zero lesser_of greater_of abs_of gap_of key key_of pattern_at float_at segments segments_of segment_row segments_in_order gap_from least_gap lesser_gap number_of first_of differ too_many short_scratch unfit_fields unfit_segment segments_differ segment_conditions separation_conditions fixed_of start_of end_of overlapping is_counted gap_between gaps nonzero least_of figures row_of words oriented distinct lines index levels moment events_from events other_in rightmost leftmost set_run lesser_figures same remove with_nearest starts_at ends_at step sweep along walk_all visit_count all_pairs separation_answer result_of

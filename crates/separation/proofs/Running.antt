@@ -1,4 +1,5 @@
 -- The figures that the sweep keeps from event to event are those of the gaps of all that it compares. Assumes nothing.
+use Rattle.std.specs.Prelude.{Option, Some}
 use mathlib.Core.Path.{◌≡◌, refl, sym, ap, ◌∙◌, subst}
 use mathlib.Core.Logic.{inl}
 use mathlib.Core.List.{List, [], ◌∷◌, ◌++◌, map, map-append, append-nil, append_assoc}
@@ -17,7 +18,6 @@ use Rattle.laws.proofs.Leasts.{least_unique}
 use Rattle.floats.specs.Values.{plus_zero}
 use Rattle.floats.proofs.Rank.{→eq}
 use Rattle.floats.proofs.Gaps.{Good, zero_good, zero_mag}
-use Rattle.drawing.specs.declared.gap.Gap.TheVariants.{Present}
 use Rattle.drawing.specs.Gaps.{gap_from, least_gap}
 use Rattle.drawing.proofs.GapLaws.{gaps_ranked, least-none, least-one, least_join}
 use Rattle.rows.specs.Rows.{Row, rows_in_order, Event, ends, starts, events}
@@ -45,7 +45,7 @@ least-of_join l r p q = λ i. record {
 }
 
 -- ---- a start's own line: +0 is the least of all, and no nonzero one
-zero-least : (l : List Float) → All Good l → Mem plus_zero l → Present plus_zero ≡ least_gap l
+zero-least : (l : List Float) → All Good l → Mem plus_zero l → Some plus_zero ≡ least_gap l
 unfolding least_gap gap_from
 zero-least l h m = ap gap_from (least_unique gaps_ranked l h (some plus_zero) (m, λ x k. omega (arith, zero_mag)))
 
@@ -70,7 +70,7 @@ own_good p a false = tt
 own_good p a true = (at_good (p, p) a a, tt)
 
 -- ---- another line
-one-least : (x : Float) → nonzero x ≡ true → least_of (x ∷ []) ≡ record { least = Present x; least_nonzero = Present x }
+one-least : (x : Float) → nonzero x ≡ true → least_of (x ∷ []) ≡ record { least = Some x; least_nonzero = Some x }
 unfolding least_of chosen
 one-least x e = rw e (λ i. record { least = least-one x i; least_nonzero = least-one x i })
 

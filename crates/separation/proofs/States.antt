@@ -1,4 +1,6 @@
 -- What the functions on a state of the sweep and on an allowance answer. Assumes nothing.
+use Rattle.drawing.specs.declared.refusal.Refusal.{Refusal}
+use Rattle.std.specs.Prelude.{Option, Some, Result, Ok, Err}
 use mathlib.Core.Path.{◌≡◌, refl, sym, ap, ◌∙◌}
 use mathlib.Core.Bool.{Bool, true, false}
 use Prim.Native.Nat.{ℕ, ◌-◌, ◌*◌, ◌/◌, ◌<◌}
@@ -9,18 +11,11 @@ use lib.Ieee.{Float, binary64, of_bits, sub}
 use Rattle.laws.specs.Inner.Allowance.{Outcome, spent, left, reply}
 use Rattle.floats.specs.Values.{plus_zero, abs_of, gap_of}
 use Rattle.drawing.specs.declared.refusal.Refusal.TheVariants.{WorkLimitExceeded}
-use Rattle.drawing.specs.declared.gap.Gap.{Gap}
-use Rattle.drawing.specs.declared.gap.Gap.TheVariants.{Present}
 use Rattle.drawing.specs.Gaps.{lesser_gap}
 use Rattle.drawing.specs.Inner.LeastFloats.{Number, gap_of_float, least_with}
 use Rattle.drawing.proofs.LeastFloatLaws.{none_absent, least-joined}
-use Rattle.separation.specs.declared.report.SeparationAnswer.TheVariants.{Report, Refused}
 use Rattle.separation.specs.declared.state.Sweeping.{Sweeping}
-use Rattle.separation.specs.declared.state.Handled.{Handled}
-use Rattle.separation.specs.declared.state.Handled.TheVariants.{Went, Spent}
 use Rattle.separation.specs.declared.found.Found.{Found}
-use Rattle.separation.specs.declared.found.Swept.{Swept}
-use Rattle.separation.specs.declared.found.Swept.TheVariants.{Went as Done, Spent as Over}
 use Rattle.separation.specs.Figures.{Figures}
 use Rattle.separation.specs.Walk.{no_figures, lesser_figures, own_line}
 use Rattle.separation.specs.Answer.{accepted}
@@ -28,29 +23,29 @@ use Rattle.separation.specs.Inner.States.{met_by, at_start, outcome_of, found_by
 use Rattle.separation.proofs.Summaries.{both}
 
 -- ---- what the code's answer says of a run while the sweep runs
-pub went_on : (r : Handled) (t : Sweeping) (o : Outcome Figures) → r ≡ Went t → outcome_of r ≡ o → o ≡ left (met_by t) t.remaining
+pub went_on : (r : (Result Sweeping Refusal)) (t : Sweeping) (o : Outcome Figures) → r ≡ Ok t → outcome_of r ≡ o → o ≡ left (met_by t) t.remaining
 unfolding outcome_of
 went_on r t o e h = sym h ∙ ap outcome_of e
 
-pub stopped : (r : Handled) (o : Outcome Figures) → r ≡ Spent → outcome_of r ≡ o → o ≡ spent
+pub stopped : (r : (Result Sweeping Refusal)) (o : Outcome Figures) → r ≡ (Err WorkLimitExceeded) → outcome_of r ≡ o → o ≡ spent
 unfolding outcome_of
 stopped r o e h = sym h ∙ ap outcome_of e
 
-pub stops : (o : Outcome Figures) → o ≡ spent → outcome_of Spent ≡ o
+pub stops : (o : Outcome Figures) → o ≡ spent → outcome_of (Err WorkLimitExceeded) ≡ o
 unfolding outcome_of
 stops o e = sym e
 
-pub goes : (t : Sweeping) (o : Outcome Figures) → o ≡ left (met_by t) t.remaining → outcome_of (Went t) ≡ o
+pub goes : (t : Sweeping) (o : Outcome Figures) → o ≡ left (met_by t) t.remaining → outcome_of (Ok t) ≡ o
 unfolding outcome_of
 goes t o e = sym e
 
 -- ---- and of a whole sweep
-pub went-is : (o : Outcome Figures) (t : Found) → Done t ≡ swept_of o → o ≡ left (found_by t) t.remaining
+pub went-is : (o : Outcome Figures) (t : Found) → Ok t ≡ swept_of o → o ≡ left (found_by t) t.remaining
 unfolding swept_of
 went-is spent t e = cc
 went-is (left f m) t e = cc
 
-pub spent-is : (o : Outcome Figures) → Over ≡ swept_of o → o ≡ spent
+pub spent-is : (o : Outcome Figures) → (Err WorkLimitExceeded) ≡ swept_of o → o ≡ spent
 unfolding swept_of
 spent-is spent e = refl
 spent-is (left f m) e = cc
@@ -60,7 +55,7 @@ pub start-met : (allowance : ℕ) → met_by (at_start allowance) ≡ no_figures
 start-met allowance = λ i. record { least = none_absent i; least_nonzero = none_absent i }
 
 -- ---- another net on the own line
-zero_is : gap_of_float (of_bits binary64 0) ≡ Present plus_zero
+zero_is : gap_of_float (of_bits binary64 0) ≡ Some plus_zero
 unfolding of_bits gap_of_float
 zero_is = refl
 
@@ -80,20 +75,20 @@ unfolding lesser_figures
 gap_joins st m gap number = λ i. record { least = least-joined st.minimum gap number i; least_nonzero = least-joined st.minimum_positive gap number i }
 
 -- ---- the lesser of each figure
-pub lesser-of : (a b : Found) (x y : Gap) → x ≡ lesser_gap a.minimum b.minimum → y ≡ lesser_gap a.minimum_positive b.minimum_positive → record { least = x; least_nonzero = y } ≡ lesser_figures (found_by a) (found_by b)
+pub lesser-of : (a b : Found) (x y : (Option Float)) → x ≡ lesser_gap a.minimum b.minimum → y ≡ lesser_gap a.minimum_positive b.minimum_positive → record { least = x; least_nonzero = y } ≡ lesser_figures (found_by a) (found_by b)
 unfolding lesser_figures
 lesser-of a b x y e f = λ i. record { least = e i; least_nonzero = f i }
 
 -- ---- the answer
-pub answers-spent : (r : Swept) (allowance : ℕ) → r ≡ Over → Answers r allowance (Refused WorkLimitExceeded)
+pub answers-spent : (r : (Result Found Refusal)) (allowance : ℕ) → r ≡ (Err WorkLimitExceeded) → Answers r allowance (Err WorkLimitExceeded)
 unfolding reply
 answers-spent r allowance h o e = sym (rw (spent-is o (sym h ∙ e)))
 
-pub answers-went : (r : Swept) (allowance : ℕ) (t : Found) (v : ℕ) → r ≡ Done t → v ≡ allowance - t.remaining → Answers r allowance (Report (record { minimum = t.minimum; minimum_positive = t.minimum_positive; visits = v }))
+pub answers-went : (r : (Result Found Refusal)) (allowance : ℕ) (t : Found) (v : ℕ) → r ≡ Ok t → v ≡ allowance - t.remaining → Answers r allowance (Ok (record { minimum = t.minimum; minimum_positive = t.minimum_positive; visits = v }))
 unfolding reply
 answers-went r allowance t v h k o e =
-    let z : Report (record { minimum = t.minimum; minimum_positive = t.minimum_positive; visits = allowance - t.remaining }) ≡ reply accepted (Refused WorkLimitExceeded) allowance o = sym (rw (went-is o t (sym h ∙ e))) in
-    ap (λ (n : ℕ). Report (record { minimum = t.minimum; minimum_positive = t.minimum_positive; visits = n })) k ∙ z
+    let z : Ok (record { minimum = t.minimum; minimum_positive = t.minimum_positive; visits = allowance - t.remaining }) ≡ reply accepted (Err WorkLimitExceeded) allowance o = sym (rw (went-is o t (sym h ∙ e))) in
+    ap (λ (n : ℕ). Ok (record { minimum = t.minimum; minimum_positive = t.minimum_positive; visits = n })) k ∙ z
 
 -- ---- the allowance: a fifth of it in place of five times the segments
 pub fifth : (m n : ℕ) → ltb (m / 5) n ≡ too_few m n

@@ -1,9 +1,8 @@
 -- The figures of separation over all pairs of segments (SCOPE 3.7, 3.8, 3.9): no tree, no sweep, no order and no allowance.
-use Rattle.std.specs.Prelude.{Bool, not, ◌&&◌, List, eqb, Float}
+use Rattle.std.specs.Prelude.{Bool, not, ◌&&◌, List, eqb, Float, Option}
 use Rattle.std.specs.Float.Ieee.{lt, eq}
 use Rattle.laws.specs.Lists.{chosen, keep, pairs}
 use Rattle.floats.specs.Values.{plus_zero, lesser_of, greater_of, gap_of}
-use Rattle.drawing.specs.declared.gap.Gap.{Gap}
 use Rattle.drawing.specs.Entries.{Segment}
 use Rattle.drawing.specs.Gaps.{least_gap}
 use Rattle.rows.specs.Rows.{fixed_of, start_of, end_of}
@@ -28,8 +27,8 @@ unfoldable pub nonzero : Float → Bool
 nonzero x = not (eq x plus_zero)
 
 pub record Figures : Type 0 where
-  pub least : Gap
-  pub least_nonzero : Gap
+  pub least : (Option Float)
+  pub least_nonzero : (Option Float)
 
 -- the least of a list of gaps, and the least nonzero one
 unfoldable pub least_of : List Float → Figures

@@ -1,10 +1,9 @@
 -- The Rust's walk with no limit (SCOPE 5.8, 5.9, 5.10, 5.11): the figures that it finds, at the cost of its visits. It depends on no allowance and no scratch (SCOPE 4.1).
-use Rattle.std.specs.Prelude.{Bool, true, false, ◌&&◌, cond, List, [], ◌∷◌, ℕ, suc, length, get_or, eqb}
+use Rattle.std.specs.Prelude.{Bool, true, false, ◌&&◌, cond, List, [], ◌∷◌, ℕ, suc, length, get_or, eqb, Option, Some, None}
 use Rattle.std.proofs.Math.Option.{Option, none, some}
 use Rattle.laws.specs.Charged.{Charged, free, visit, after, runs}
 use Rattle.floats.specs.Values.{plus_zero, gap_of}
 use Rattle.floats.specs.TotalOrder.{float_at}
-use Rattle.drawing.specs.declared.gap.Gap.TheVariants.{Absent, Present}
 use Rattle.drawing.specs.Entries.{Segment}
 use Rattle.drawing.specs.Gaps.{lesser_gap}
 use Rattle.rows.specs.Rows.{Row, oriented, Event, ends, starts, events}
@@ -13,7 +12,7 @@ use Rattle.separation.specs.Lines.{lines, index, levels}
 use Rattle.separation.specs.Searches.{other_in, rightmost, leftmost, set_run}
 
 abbrev pub no_figures : Figures
-no_figures = record { least = Absent; least_nonzero = Absent }
+no_figures = record { least = None; least_nonzero = None }
 
 -- `minimum_option` of each figure
 unfoldable pub lesser_figures : Figures → Figures → Figures
@@ -35,13 +34,13 @@ remove x (a ∷ l) = let r = remove x l in cond (same x a) l (a ∷ r)
 
 -- SCOPE 5.10: another net is on the segment's own line, so that the gap is 0
 abbrev pub own_line : Bool → Figures → Figures
-own_line true f = record { least = Present plus_zero; least_nonzero = f.least_nonzero }
+own_line true f = record { least = Some plus_zero; least_nonzero = f.least_nonzero }
 own_line false f = f
 
 -- SCOPE 5.10: another net is on the line that a search found
 abbrev pub other_line : List ℕ → ℕ → Option ℕ → Figures → Figures
 other_line ls line none f = f
-other_line ls line (some i) f = let g = Present (gap_of (float_at (get_or ls i 0)) (float_at line)) in lesser_figures f (record { least = g; least_nonzero = g })
+other_line ls line (some i) f = let g = Some (gap_of (float_at (get_or ls i 0)) (float_at line)) in lesser_figures f (record { least = g; least_nonzero = g })
 
 -- SCOPE 5.10, 5.11: what a start searches: is another net on the segment's own line (`has_other_at`), which is the nearest line below with another net, which the nearest above. "Every node touched by a search or a `set` costs one visit, and so does each `has_other_at`."
 unfoldable pub with_nearest : List ℕ → ℕ → List Row → Figures → Row → Charged Figures

@@ -4,7 +4,6 @@ ghost use Rattle.drawing.specs.Refusals.{first_of};
 ghost use Rattle.drawing.specs.Entries.{segment_columns};
 ghost use Rattle.separation.specs.Conditions.{separation_conditions};
 
-use drawing::Check;
 use list_checks::check_segments;
 
 // Separation takes segments, and a scratch whose length is `words`.
@@ -15,7 +14,7 @@ pub fn check_separation(
     start: &[f64],
     end: &[f64],
     words: usize,
-) -> Check
+) -> Result<(), Refusal>
     ensures { result ≡ first_of (separation_conditions (segment_columns net.now orientation.now fixed.now start.now end.now) words) }
 {
     check_segments(net, orientation, fixed, start, end, words)

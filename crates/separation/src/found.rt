@@ -3,13 +3,13 @@ ghost use Rattle.std.specs.Prelude.{◌≡◌};
 ghost use Rattle.separation.specs.Walk.{lesser_figures};
 ghost use Rattle.separation.specs.Inner.States.{found_by};
 
-use drawing::{Gap, minimum_option};
+use drawing::minimum_option;
 
 // The figures of one orientation or of both, and the remaining visits.
 #[derive(Clone, Copy)]
 pub struct Found {
-    pub minimum: Gap,
-    pub minimum_positive: Gap,
+    pub minimum: Option<f64>,
+    pub minimum_positive: Option<f64>,
     pub remaining: usize,
 }
 

@@ -13,10 +13,8 @@ pub mod summary;
 pub use allowance::too_few;
 pub use answer::answer_of;
 pub use checks::check_separation;
-pub use found::{Found, Swept, combined};
-pub use report::{ParallelSeparation, SeparationAnswer};
-pub use search::{Charge, OtherNet, Search};
-pub use state::{
-    Handled, Sweeping, after_charge, at_start, found_in, with_other_line, with_own_line,
-};
+pub use found::{Found, combined};
+pub use report::ParallelSeparation;
+pub use search::{OtherNet, Search};
+pub use state::{Sweeping, after_charge, at_start, found_in, with_other_line, with_own_line};
 pub use summary::{NetSummary, merged_word, summary_of_word, word_of};

@@ -1,11 +1,11 @@
 // What separation answers.
-use drawing::{Gap, Refusal};
+use drawing::Refusal;
 
 // The Rust's record, with the visits that the walk used.
 #[derive(Clone, Copy)]
 pub struct ParallelSeparation {
-    pub minimum: Gap,
-    pub minimum_positive: Gap,
+    pub minimum: Option<f64>,
+    pub minimum_positive: Option<f64>,
     pub visits: usize,
 }
 

@@ -5,7 +5,6 @@ ghost use Rattle.separation.specs.Walk.{own_line};
 ghost use Rattle.separation.specs.Inner.States.{met_by, at_start, gap_met, charged_to, found_in};
 
 use crate::found::Found;
-use crate::search::Charge;
 use drawing::{gap_of_float, least_with, no_gap};
 use floats::absolute;
 
@@ -70,13 +69,13 @@ pub fn with_other_line(there: f64, here: f64, remaining: usize, state: Sweeping)
 }
 
 // The figures, with the remaining visits after a `set`.
-pub fn after_charge(charge: Charge, state: Sweeping) -> Handled
+pub fn after_charge(charge: Result<usize, Refusal>, state: Sweeping) -> Result<Sweeping, Refusal>
     ensures { result ≡ charged_to state charge }
 {
-    let Charge::Paid(remaining) = charge else {
-        return Handled::Spent;
+    let Ok(remaining) = charge else {
+        return Err(Refusal::WorkLimitExceeded);
     };
-    Handled::Went(Sweeping {
+    Ok(Sweeping {
         minimum: state.minimum,
         minimum_positive: state.minimum_positive,
         remaining: remaining,

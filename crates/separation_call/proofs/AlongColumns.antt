@@ -1,4 +1,6 @@
 -- One orientation of the columns, from its rows to the sweep. Assumes nothing.
+use Rattle.drawing.specs.declared.refusal.Refusal.{Refusal}
+use Rattle.std.specs.Prelude.{None, Result, Ok}
 use mathlib.Core.Path.{◌≡◌, sym, ap, ◌∙◌}
 use mathlib.Core.List.{List}
 use Prim.Native.Nat.{ℕ, ◌-◌, ◌*◌, ◌^◌, ◌≤◌, ◌<◌}
@@ -8,7 +10,6 @@ use lib.ListN.{length, drop}
 use Rattle.laws.specs.Lists.{Mem}
 use Rattle.laws.specs.Inner.Sort.{Sorted}
 use Rattle.laws.specs.Inner.Allowance.{within}
-use Rattle.drawing.specs.declared.gap.Gap.TheVariants.{Absent}
 use Rattle.drawing.specs.Entries.{SegmentColumns, segments}
 use Rattle.rows.specs.Rows.{Row, rows_in_order, oriented}
 use Rattle.rows.specs.Inner.Placed.{row_count, rows_placed}
@@ -18,8 +19,6 @@ use Rattle.rows.proofs.LentRows.{rows-count, rows_few, rows_behind, rows-kept}
 use Rattle.separation.specs.Lines.{lines}
 use Rattle.separation.specs.Walk.{sweep, along}
 use Rattle.separation.proofs.Allowances.{along-few, along_more}
-use Rattle.separation.specs.declared.found.Swept.{Swept}
-use Rattle.separation.specs.declared.found.Swept.TheVariants.{Went}
 use Rattle.separation_call.specs.Inner.Prepared.{Prepared}
 use Rattle.separation.specs.Inner.States.{swept_of}
 use Rattle.separation_call.specs.Inner.Sweeping.{Gapped, AtTables, AtRows, AtColumns}
@@ -40,7 +39,7 @@ module _ (s e : List ℕ) (o n : ℕ) (c : SegmentColumns) (a : AtColumns (lengt
   count = rows-count s e o n c a.agree narrow ordered
 
   -- fewer than two segments cost nothing
-  pub few_swept : (allowance : ℕ) → n < 2 → Went (record { minimum = Absent; minimum_positive = Absent; remaining = allowance }) ≡ swept_of (within allowance (along l))
+  pub few_swept : (allowance : ℕ) → n < 2 → Ok (record { minimum = None; minimum_positive = None; remaining = allowance }) ≡ swept_of (within allowance (along l))
   unfolding swept_of
   few_swept allowance h = sym (ap swept_of (along-few allowance l (omega (arith, count))))
 
@@ -85,7 +84,7 @@ module _ (s e : List ℕ) (o n : ℕ) (c : SegmentColumns) (a : AtColumns (lengt
           let k = count in
           record { l = l; size = sym count; some = omega arith; few = omega arith; count = tables.1; prepared = tables.0; sorted = oriented-sorted o (segments c); proper = a.proper; gaps = a.gaps; room = omega (arith, long) }
 
-      pub more_swept : (allowance : ℕ) (r : Swept) → 2 ≤ n
+      pub more_swept : (allowance : ℕ) (r : (Result Found Refusal)) → 2 ≤ n
           → ((l : List Row) → length l ≡ n → many ≡ length (lines l) → Prepared l u → Sorted rows_in_order l → ((x : Row) → Mem x l → (x.net < 2 ^ 32) × (x.start < x.end)) → Gapped (lines l) → r ≡ swept_of (within allowance (sweep l)))
           → r ≡ swept_of (within allowance (along l))
       more_swept allowance r h f = f l (sym count) tables.1 tables.0 (oriented-sorted o (segments c)) a.proper a.gaps ∙ ap (λ z. swept_of (within allowance z)) (sym (along_more l (omega (arith, count))))

@@ -1,4 +1,6 @@
 -- The code's `set` over the stored tree: a leaf is written, and each node above it is merged anew. Assumes nothing.
+use Rattle.drawing.specs.declared.refusal.Refusal.TheVariants.{WorkLimitExceeded}
+use Rattle.std.specs.Prelude.{Ok, Err}
 use mathlib.Core.Path.{◌≡◌, refl, sym, ap, ◌∙◌, subst}
 use mathlib.Core.Logic.{inl, inr}
 use mathlib.Core.Bool.{◌||◌}
@@ -16,21 +18,20 @@ use Rattle.separation.specs.declared.summary.NetSummary.{NetSummary}
 use Rattle.separation.specs.Searches.{set_run}
 use Rattle.separation.specs.Inner.Summaries.{summary_has_other, summary_of_word}
 use Rattle.separation.proofs.Allowances.{set-spent, set_last, set_more}
-use Rattle.separation.specs.declared.search.Charge.TheVariants.{Paid, Spent}
 use Rattle.separation_call.specs.Inner.ActiveTree.{summary_at, charge_of, Leaves, Renewed}
 use Rattle.separation_call.proofs.StoredSearches.{paid-before}
 use Rattle.separation_call.proofs.Trees.{Merging, merging_begins, merging_goes_on, merging_ends}
 
 -- ---- the cases of a charge
-charge_spent : charge_of spent ≡ Spent
+charge_spent : charge_of spent ≡ (Err WorkLimitExceeded)
 unfolding charge_of
 charge_spent = refl
 
-charge_paid : (m : ℕ) → charge_of (left tt m) ≡ Paid m
+charge_paid : (m : ℕ) → charge_of (left tt m) ≡ Ok m
 unfolding charge_of
 charge_paid m = refl
 
-pub spent_not_paid : (m : ℕ) → Spent ≡ Paid m → ⊥
+pub spent_not_paid : (m : ℕ) → (Err WorkLimitExceeded) ≡ Ok m → ⊥
 spent_not_paid m e = let z : ◌≡◌ {A = ℕ} 0 1 = cc in omega arith
 
 -- a power determines its exponent
@@ -66,7 +67,7 @@ pub record Setting (leaves m : ℕ) (start : List ℕ) (first : ℕ) (t : List �
   pub merging : (ls : List ℕ) (new : List Row) → Merging ls new (summary_at start) height first → Merging ls new (summary_at t) height c
 
 -- no visit is left at the leaf
-pub set_stops : (m : ℕ) → m ≡ 0 → (H : ℕ) → Spent ≡ charge_of (within m (set_run H))
+pub set_stops : (m : ℕ) → m ≡ 0 → (H : ℕ) → (Err WorkLimitExceeded) ≡ charge_of (within m (set_run H))
 set_stops m z H = rw (z, set-spent H) (sym charge_spent)
 
 -- the leaf is paid and written
@@ -88,7 +89,7 @@ module _ {leaves m : ℕ} {start : List ℕ} {first : ℕ} {t : List ℕ} {rest 
   same H e = same-height s.height H (sym s.count ∙ e)
 
   -- no visit is left at a node above the leaf
-  pub setting_stops : (c ≡ 0 → ⊥) → rest ≡ 0 → (H : ℕ) → leaves ≡ 2 ^ H → Spent ≡ charge_of (within m (set_run H))
+  pub setting_stops : (c ≡ 0 → ⊥) → rest ≡ 0 → (H : ℕ) → leaves ≡ 2 ^ H → (Err WorkLimitExceeded) ≡ charge_of (within m (set_run H))
   setting_stops n z H e =
       let w = way_on s.above c n s.way in
       let spends : within m (set_run H) ≡ spent = rw (sym (same H e)) (s.charged ∙ rw (z, w.1) (set_more 0 w.0 ∙ set-spent w.0)) in
@@ -114,7 +115,7 @@ module _ {leaves m : ℕ} {start : List ℕ} {first : ℕ} {t : List ℕ} {rest 
       inside = omega (arith, s.small, s.room)
 
   -- past the root
-  pub setting_pays : c ≡ 0 → (H : ℕ) → leaves ≡ 2 ^ H → Paid rest ≡ charge_of (within m (set_run H))
+  pub setting_pays : c ≡ 0 → (H : ℕ) → leaves ≡ 2 ^ H → Ok rest ≡ charge_of (within m (set_run H))
   setting_pays z H e =
       let pays : within m (set_run H) ≡ left tt rest = rw (sym (same H e)) (s.charged ∙ rw (way_ends s.above c z s.way) (set_last rest)) in
       rw pays (sym (charge_paid rest))

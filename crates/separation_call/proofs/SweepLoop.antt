@@ -1,4 +1,7 @@
 -- The loop over the events: after q events, the others from the state reached have the outcome of all. Assumes nothing.
+use Rattle.drawing.specs.declared.refusal.Refusal.TheVariants.{WorkLimitExceeded}
+use Rattle.drawing.specs.declared.refusal.Refusal.{Refusal}
+use Rattle.std.specs.Prelude.{Result, Ok, Err}
 use mathlib.Core.Path.{◌≡◌, refl, sym, ap, ◌∙◌, subst}
 use mathlib.Core.Logic.{inl, inr}
 use mathlib.Core.List.{List, [], ◌∷◌}
@@ -23,10 +26,7 @@ use Rattle.separation.specs.Walk.{no_figures, Sweep, remove, starts_at, ends_at,
 use Rattle.separation.proofs.Allowances.{sweep-within}
 use Rattle.separation.proofs.Sweeps.{State, begin, after-start, after-end, is-active}
 use Rattle.separation.specs.declared.state.Sweeping.{Sweeping}
-use Rattle.separation.specs.declared.state.Handled.{Handled}
-use Rattle.separation.specs.declared.state.Handled.TheVariants.{Went, Spent}
 use Rattle.separation.specs.declared.found.Found.{Found}
-use Rattle.separation.specs.declared.found.Swept.TheVariants.{Went as Done, Spent as Over}
 use Rattle.separation.specs.Inner.States.{met_by, at_start, outcome_of, found_in, swept_of}
 use Rattle.separation_call.specs.Inner.Sweeping.{Ready, AtStart, AtEnd, AtEvent, AtFirst, figures_of, Begins, Finishes, Handles}
 use Rattle.separation.proofs.States.{went_on, stopped, start-met}
@@ -54,10 +54,10 @@ module _ (s : List ℕ) (n leaves e : ℕ) where
   pub event_starts : AtEvent s n leaves e → n ≤ e → AtStart s n leaves (e - n)
   event_starts a h = record { l = a.l; F = a.F; H = a.H; b = a.b; active = a.active; size = a.size; count = a.count; ready = a.ready; inside = let g = a.inside in omega arith; early = a.early }
 
-  module _ (t : List ℕ) (st : Sweeping) (r : Handled) where
+  module _ (t : List ℕ) (st : Sweeping) (r : (Result Sweeping Refusal)) where
     -- a step that is known by its event
     abbrev Step : List Row → List ℕ → ℕ → ℕ → Charged Sweep → Type 0
-    Step l F H b c = (outcome_of r ≡ figures_of (within st.remaining c)) × ((to : Sweeping) → r ≡ Went to → Ready l F H (b + 1) c.value.active t)
+    Step l F H b c = (outcome_of r ≡ figures_of (within st.remaining c)) × ((to : Sweeping) → r ≡ Ok to → Ready l F H (b + 1) c.value.active t)
 
     pub handles_end : e < n → Finishes s t n leaves e st r → Handles s t n leaves e st r
     handles_end h f l F H b active size count ready there =
@@ -153,14 +153,14 @@ module _ (l : List Row) (F : List ℕ) (H allowance : ℕ) where
             subst (λ (z : List Row). State l z (drop (q + 1) (events l))) (sym a) (after-start l g.proper g.active j (row_from l j) (drop (q + 1) (events l)) (subst (λ (z : Event). State l g.active (z ∷ drop (q + 1) (events l))) e now_state))
       ]
 
-      module _ (r : Handled) (t : List ℕ) (e : outcome_of r ≡ figures_of (within st.remaining c)) (k : (to : Sweeping) → r ≡ Went to → Ready l F H (q + 1) c.value.active t) where
-        pub going_stops : r ≡ Spent → Over ≡ swept_of all
+      module _ (r : (Result Sweeping Refusal)) (t : List ℕ) (e : outcome_of r ≡ figures_of (within st.remaining c)) (k : (to : Sweeping) → r ≡ Ok to → Ready l F H (q + 1) c.value.active t) where
+        pub going_stops : r ≡ (Err WorkLimitExceeded) → (Err WorkLimitExceeded) ≡ swept_of all
         unfolding swept_of
         going_stops x =
             let z = read-spent (λ (a : Sweep). a.met) st.remaining c (stopped r (figures_of (within st.remaining c)) x e) in
             sym (ap swept_of (ap figures_of (loop_stops g.onwards next_is z) ∙ onward-spent (λ t m. left t.met m)))
 
-        pub going_next : (to : Sweeping) → r ≡ Went to → Going to t (q + 1)
+        pub going_next : (to : Sweeping) → r ≡ Ok to → Going to t (q + 1)
         going_next to x =
             let z = read_left (λ (a : Sweep). a.met) st.remaining c (met_by to) to.remaining (went_on r to (figures_of (within st.remaining c)) x e) in
             record {
@@ -172,11 +172,11 @@ module _ (l : List Row) (F : List ℕ) (H allowance : ℕ) where
               onwards = loop_next g.onwards next_is (z.0 ∙ (λ i. left (record { active = c.value.active; met = z.1 i }) to.remaining));
             }
 
-    pub going_all : 2 * length l ≤ q → (f : Found) → f ≡ found_in st → Done f ≡ swept_of all
+    pub going_all : 2 * length l ≤ q → (f : Found) → f ≡ found_in st → Ok f ≡ swept_of all
     unfolding swept_of
     going_all h f k =
         let e = table_none 0 (event_from l) (2 * length l) F enough (events l) g.ready.prepared.ordered q h in
-        ap Done k ∙ sym (ap swept_of (ap figures_of (loop_ends g.onwards e) ∙ onward-left (record { active = g.active; met = met_by st }) st.remaining (λ t m. left t.met m)))
+        ap Ok k ∙ sym (ap swept_of (ap figures_of (loop_ends g.onwards e) ∙ onward-left (record { active = g.active; met = met_by st }) st.remaining (λ t m. left t.met m)))
 
   -- all events are the sweep
   pub swept_all : H ≡ levels (length (lines l)) → swept_of all ≡ swept_of (within allowance (sweep l))
@@ -215,25 +215,25 @@ module _ (n leaves allowance : ℕ) (s₀ : List ℕ) where
         there = λ k. ends-active l x.1 x.2 allowance st s q o h (omega arith);
       })
 
-  module _ (st : Sweeping) (s : List ℕ) (q : ℕ) (g : Runs st s q) (less : q < 2 * n) (number : ℕ) (read : number ≡ get_or s q 0) (r : Handled) (t : List ℕ) (f : Handles s t n leaves number st r) where
+  module _ (st : Sweeping) (s : List ℕ) (q : ℕ) (g : Runs st s q) (less : q < 2 * n) (number : ℕ) (read : number ≡ get_or s q 0) (r : (Result Sweeping Refusal)) (t : List ℕ) (f : Handles s t n leaves number st r) where
     module _ (l : List Row) (F : List ℕ) (H : ℕ) (size : length l ≡ n) (count : leaves ≡ 2 ^ H) (o : Going l F H allowance st s q) where
       less_rows : q < 2 * length l
       less_rows = omega arith
 
-      handled : let c = step (lines l) H (record { active = o.active; met = met_by st }) (event_from l (get_or s q 0)) in (outcome_of r ≡ figures_of (within st.remaining c)) × ((to : Sweeping) → r ≡ Went to → Ready l F H (q + 1) c.value.active t)
+      handled : let c = step (lines l) H (record { active = o.active; met = met_by st }) (event_from l (get_or s q 0)) in (outcome_of r ≡ figures_of (within st.remaining c)) × ((to : Sweeping) → r ≡ Ok to → Ready l F H (q + 1) c.value.active t)
       handled = subst (λ (k : ℕ). Handles s t n leaves k st r) read f l F H q o.active size count o.ready (λ k. ends-active l F H allowance st s q o less_rows (omega arith))
 
-    pub run_next : (to : Sweeping) → r ≡ Went to → Runs to t (q + 1)
+    pub run_next : (to : Sweeping) → r ≡ Ok to → Runs to t (q + 1)
     run_next to e l F H size count ready proper =
         let o = g l F H size count ready proper in
         let k = handled l F H size count o in
         going_next l F H allowance st s q o (less_rows l F H size count o) r t k.0 k.1 to e
 
-    pub run_stops : r ≡ Spent → (l : List Row) (F : List ℕ) (H : ℕ) → length l ≡ n → leaves ≡ 2 ^ H → Ready l F H 0 [] s₀ → ((a : Row) → Mem a l → a.start < a.end) → H ≡ levels (length (lines l)) → Over ≡ swept_of (within allowance (sweep l))
+    pub run_stops : r ≡ (Err WorkLimitExceeded) → (l : List Row) (F : List ℕ) (H : ℕ) → length l ≡ n → leaves ≡ 2 ^ H → Ready l F H 0 [] s₀ → ((a : Row) → Mem a l → a.start < a.end) → H ≡ levels (length (lines l)) → (Err WorkLimitExceeded) ≡ swept_of (within allowance (sweep l))
     run_stops e l F H size count ready proper h =
         let o = g l F H size count ready proper in
         let k = handled l F H size count o in
         going_stops l F H allowance st s q o (less_rows l F H size count o) r t k.0 k.1 e ∙ swept_all l F H allowance h
 
-  pub run_all : (st : Sweeping) (s : List ℕ) (q : ℕ) → Runs st s q → 2 * n ≤ q → (f : Found) → f ≡ found_in st → (l : List Row) (F : List ℕ) (H : ℕ) → length l ≡ n → leaves ≡ 2 ^ H → Ready l F H 0 [] s₀ → ((a : Row) → Mem a l → a.start < a.end) → H ≡ levels (length (lines l)) → Done f ≡ swept_of (within allowance (sweep l))
+  pub run_all : (st : Sweeping) (s : List ℕ) (q : ℕ) → Runs st s q → 2 * n ≤ q → (f : Found) → f ≡ found_in st → (l : List Row) (F : List ℕ) (H : ℕ) → length l ≡ n → leaves ≡ 2 ^ H → Ready l F H 0 [] s₀ → ((a : Row) → Mem a l → a.start < a.end) → H ≡ levels (length (lines l)) → Ok f ≡ swept_of (within allowance (sweep l))
   run_all st s q g less f k l F H size count ready proper h = going_all l F H allowance st s q (g l F H size count ready proper) (omega arith) f k ∙ swept_all l F H allowance h

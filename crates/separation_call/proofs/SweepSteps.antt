@@ -1,4 +1,7 @@
 -- The steps of the sweep as the code takes them: a search's answer joined to the figures, what a start searches, and a paid `set`. Assumes nothing.
+use Rattle.drawing.specs.declared.refusal.Refusal.TheVariants.{WorkLimitExceeded}
+use Rattle.drawing.specs.declared.refusal.Refusal.{Refusal}
+use Rattle.std.specs.Prelude.{Option, Result, Ok, Err}
 use mathlib.Core.Path.{◌≡◌, refl, sym, ap, ◌∙◌}
 use mathlib.Core.Bool.{Bool, true, false, ◌&&◌}
 use mathlib.Core.List.{List}
@@ -31,11 +34,7 @@ use Rattle.separation.proofs.Searches.{Best, In, Below, From, right_best, left_b
 use Rattle.separation.proofs.States.{went_on, stopped, stops, goes, gap_joins}
 use Rattle.separation.specs.declared.search.OtherNet.{OtherNet}
 use Rattle.separation.specs.declared.search.OtherNet.TheVariants.{Known, Spent as Unpaid}
-use Rattle.separation.specs.declared.search.Charge.{Charge}
-use Rattle.separation.specs.declared.search.Charge.TheVariants.{Paid, Spent as Unset}
 use Rattle.separation.specs.declared.state.Sweeping.{Sweeping}
-use Rattle.separation.specs.declared.state.Handled.{Handled}
-use Rattle.separation.specs.declared.state.Handled.TheVariants.{Went, Spent}
 use Rattle.separation_call.specs.Inner.ActiveTree.{summary_at, other_net_of, charge_of, Covers}
 use Rattle.separation.specs.Inner.States.{met_by, outcome_of, with_gap, charged_to, gap_met}
 use Rattle.separation_call.specs.Inner.Sweeping.{WithinLines, Gapped, joined, Lined}
@@ -44,15 +43,15 @@ use Rattle.separation_call.proofs.Trees.{stored-right, stored-left}
 
 -- ---- a search's answer joined to the figures
 module _ (ls : List ℕ) (line : ℕ) (st : Sweeping) (o : Outcome (Option ℕ)) (search : Search) (e : search ≡ search_of o) where
-  pub joined-spent : search ≡ Over → outcome_of Spent ≡ joined ls (get_or ls line 0) (met_by st) o
+  pub joined-spent : search ≡ Over → outcome_of (Err WorkLimitExceeded) ≡ joined ls (get_or ls line 0) (met_by st) o
   joined-spent h = stops _ (rw (was_spent o (sym h ∙ e)) (onward-spent _))
 
-  pub joined-empty : (m : ℕ) → search ≡ Empty m → outcome_of (Went (record { minimum = st.minimum; minimum_positive = st.minimum_positive; remaining = m })) ≡ joined ls (get_or ls line 0) (met_by st) o
+  pub joined-empty : (m : ℕ) → search ≡ Empty m → outcome_of (Ok (record { minimum = st.minimum; minimum_positive = st.minimum_positive; remaining = m })) ≡ joined ls (get_or ls line 0) (met_by st) o
   joined-empty m h = goes _ _ (rw (was_empty o m (sym h ∙ e)) (onward-left none m _))
 
   pub joined-found : (fixed : List ℕ) (i m : ℕ) (there here : Float) (t : Sweeping) → search ≡ Found i m → take (length ls) fixed ≡ ls → WithinLines search line (length ls) → Gapped ls
       → there ≡ float_at (get_or fixed i 0) → here ≡ float_at (get_or fixed line 0) → t ≡ gap_met (gap_of there here) m st
-      → outcome_of (Went t) ≡ joined ls (get_or ls line 0) (met_by st) o
+      → outcome_of (Ok t) ≡ joined ls (get_or ls line 0) (met_by st) o
   joined-found fixed i m there here t h f w gaps p q g =
       let at : (k : ℕ) → k < length ls → get_or fixed k 0 ≡ get_or ls k 0 = λ k b. sym (get_or-take (length ls) fixed k 0 b) ∙ ap (λ (l : List ℕ). get_or l k 0) f in
       let far : there ≡ float_at (get_or ls i 0) = p ∙ ap float_at (at i (w.found i m h)) in
@@ -205,7 +204,7 @@ module _ (tree fixed : List ℕ) (leaves line net : ℕ) (st : Sweeping) (ls : L
   }
 
   -- the answer of `with_search`, for a search's answer
-  abbrev Joins : Sweeping → Search → Handled → Type 0
+  abbrev Joins : Sweeping → Search → (Result Sweeping Refusal) → Type 0
   Joins t search r = (ls : List ℕ) (o : Outcome (Option ℕ)) → search ≡ search_of o → take (length ls) fixed ≡ ls → WithinLines search line (length ls) → Gapped ls → outcome_of r ≡ joined ls (get_or ls line 0) (met_by t) o
 
   -- `has_other_at` was answered
@@ -213,10 +212,10 @@ module _ (tree fixed : List ℕ) (leaves line net : ℕ) (st : Sweeping) (ls : L
     own_run : within st.remaining (visit (free (summary_has_other (summary_at tree (leaves + line)) net))) ≡ within st.remaining (visit (free (other_in ls active x.net (index ls x.line) (suc (index ls x.line)))))
     own_run = ap (λ (b : Bool). within st.remaining (visit (free b))) own-stored
 
-    pub look_none : at ≡ Unpaid → outcome_of Spent ≡ within st.remaining (with_nearest ls H active (met_by st) x)
+    pub look_none : at ≡ Unpaid → outcome_of (Err WorkLimitExceeded) ≡ within st.remaining (with_nearest ls H active (met_by st) x)
     look_none e = stops _ (nearest_spent ls H active (met_by st) x st.remaining (sym own_run ∙ was_unpaid _ (sym e ∙ told)))
 
-    module _ (own : Bool) (begun : Sweeping) (rest : ℕ) (known : at ≡ Known own rest) (search : Search) (handled : Handled) (b : met_by begun ≡ own_line own (met_by st)) (d : begun.remaining ≡ rest)
+    module _ (own : Bool) (begun : Sweeping) (rest : ℕ) (known : at ≡ Known own rest) (search : Search) (handled : (Result Sweeping Refusal)) (b : met_by begun ≡ own_line own (met_by st)) (d : begun.remaining ≡ rest)
         (s : (K : ℕ) → leaves ≡ 2 ^ K → search ≡ search_of (within begun.remaining (rightmost stored line K 1 0))) (j : Joins begun search handled) where
       abbrev first : Outcome Figures
       first = joined ls x.line (own_line own (met_by st)) (within begun.remaining (rightmost others (index ls x.line) H 1 0))
@@ -232,10 +231,10 @@ module _ (tree fixed : List ℕ) (leaves line net : ℕ) (st : Sweeping) (ls : L
       whole : within st.remaining (with_nearest ls H active (met_by st) x) ≡ onward first second
       whole = nearest_paid ls H active (met_by st) x st.remaining begun.remaining own (sym own_run ∙ was_known _ own rest (sym known ∙ told) ∙ ap (left own) (sym d))
 
-      pub look_stops : handled ≡ Spent → outcome_of Spent ≡ within st.remaining (with_nearest ls H active (met_by st) x)
+      pub look_stops : handled ≡ (Err WorkLimitExceeded) → outcome_of (Err WorkLimitExceeded) ≡ within st.remaining (with_nearest ls H active (met_by st) x)
       look_stops e = stops _ (whole ∙ rw (stopped handled first e first-is) (onward-spent second))
 
-      pub look_on : (half : Sweeping) (above : Search) (r : Handled) → handled ≡ Went half → ((K : ℕ) → leaves ≡ 2 ^ K → above ≡ search_of (within half.remaining (leftmost stored (line + 1) K 1 0))) → Joins half above r
+      pub look_on : (half : Sweeping) (above : Search) (r : (Result Sweeping Refusal)) → handled ≡ Ok half → ((K : ℕ) → leaves ≡ 2 ^ K → above ≡ search_of (within half.remaining (leftmost stored (line + 1) K 1 0))) → Joins half above r
           → outcome_of r ≡ within st.remaining (with_nearest ls H active (met_by st) x)
       look_on half above r e t k =
           k ls (within half.remaining (leftmost stored (line + 1) H 1 0)) (t H count) values (left-lines half.remaining above (t H count)) lined.gaps
@@ -248,9 +247,9 @@ unfolding charge_of onward outcome_of
 charged_of st spent = refl
 charged_of st (left u m) = refl
 
-pub charge_pays : (st : Sweeping) (H : ℕ) (charge : Charge) → charge ≡ charge_of (within st.remaining (set_run H)) → outcome_of (charged_to st charge) ≡ onward (within st.remaining (set_run H)) (λ done m. left (met_by st) m)
-charge_pays st H charge e = ap (λ (c : Charge). outcome_of (charged_to st c)) e ∙ charged_of st (within st.remaining (set_run H))
+pub charge_pays : (st : Sweeping) (H : ℕ) (charge : (Result ℕ Refusal)) → charge ≡ charge_of (within st.remaining (set_run H)) → outcome_of (charged_to st charge) ≡ onward (within st.remaining (set_run H)) (λ done m. left (met_by st) m)
+charge_pays st H charge e = ap (λ (c : (Result ℕ Refusal)). outcome_of (charged_to st c)) e ∙ charged_of st (within st.remaining (set_run H))
 
-pub charge_paid : (st to : Sweeping) (charge : Charge) → Went to ≡ charged_to st charge → (m : ℕ) × (charge ≡ Paid m)
-charge_paid st to (Paid m) e = (m, refl)
-charge_paid st to Unset e = absurd (let z : ◌≡◌ {A = ℕ} 0 1 = cc in omega arith)
+pub charge_paid : (st to : Sweeping) (charge : (Result ℕ Refusal)) → Ok to ≡ charged_to st charge → (m : ℕ) × (charge ≡ Ok m)
+charge_paid st to (Ok m) e = (m, refl)
+charge_paid st to (Err WorkLimitExceeded) e = absurd (let z : ◌≡◌ {A = ℕ} 0 1 = cc in omega arith)

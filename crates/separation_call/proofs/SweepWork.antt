@@ -1,4 +1,6 @@
 -- The words that the sweep changes: a segment is entered or taken out, its line's summary goes into the tree after the counts. Assumes nothing.
+use Rattle.drawing.specs.declared.refusal.Refusal.{Refusal}
+use Rattle.std.specs.Prelude.{Result, Ok}
 use mathlib.Core.Path.{◌≡◌, sym, ap, ◌∙◌, subst}
 use mathlib.Core.List.{List, ◌∷◌, ◌++◌}
 use Prim.Native.Nat.{ℕ, ◌+◌, ◌-◌, ◌*◌, ◌^◌, ◌≤◌}
@@ -12,11 +14,7 @@ use Rattle.rows.specs.Rows.{Row}
 use Rattle.separation.specs.declared.summary.NetSummary.{NetSummary}
 use Rattle.separation.specs.Searches.{set_run}
 use Rattle.separation.specs.Walk.{remove}
-use Rattle.separation.specs.declared.search.Charge.{Charge}
-use Rattle.separation.specs.declared.search.Charge.TheVariants.{Paid}
 use Rattle.separation.specs.declared.state.Sweeping.{Sweeping}
-use Rattle.separation.specs.declared.state.Handled.{Handled}
-use Rattle.separation.specs.declared.state.Handled.TheVariants.{Went}
 use Rattle.separation_call.specs.Inner.ActiveTree.{summary_at, charge_of, Leaves, Decides, Covers, SameOff, Renewed}
 use Rattle.separation_call.specs.Inner.ActiveNets.{Slots, Counted, Starts, Ends}
 use Rattle.separation.specs.Inner.States.{outcome_of, charged_to}
@@ -49,11 +47,11 @@ module _ (n leaves line : ℕ) (w u e v : List ℕ) (summary : NetSummary) (rest
   }
 
   -- the `set` was charged, and its answer is returned
-  module _ (st : Sweeping) (charge : Charge) (r : Handled) (told : r ≡ charged_to st charge) (renews : (H m : ℕ) → leaves ≡ 2 ^ H → charge ≡ Paid m → Renewed (take (length u - 3 * n) (drop (3 * n) u)) e H line summary) where
+  module _ (st : Sweeping) (charge : (Result ℕ Refusal)) (r : (Result Sweeping Refusal)) (told : r ≡ charged_to st charge) (renews : (H m : ℕ) → leaves ≡ 2 ^ H → charge ≡ Ok m → Renewed (take (length u - 3 * n) (drop (3 * n) u)) e H line summary) where
     pub pays : ((H : ℕ) → leaves ≡ 2 ^ H → charge ≡ charge_of (within st.remaining (set_run H))) → Pays leaves st r
     pays f H k = ap outcome_of told ∙ charge_pays st H charge (f H k)
 
-    renewed_on : (H : ℕ) (to : Sweeping) → leaves ≡ 2 ^ H → r ≡ Went to → Renewed (take (length u - 3 * n) (drop (3 * n) u)) e H line summary
+    renewed_on : (H : ℕ) (to : Sweeping) → leaves ≡ 2 ^ H → r ≡ Ok to → Renewed (take (length u - 3 * n) (drop (3 * n) u)) e H line summary
     renewed_on H to k g = let p = charge_paid st to charge (sym g ∙ told) in renews H p.0 k p.1
 
     pub entered : (slot net : ℕ) → Starts n slot line net w u summary → Entered n leaves slot line net w v r

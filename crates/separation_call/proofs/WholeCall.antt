@@ -1,4 +1,5 @@
 -- The whole call: what the checks establish of the columns, both orientations, and the answer. Assumes nothing.
+use Rattle.std.specs.Prelude.{Result, Ok, Err}
 use mathlib.Core.Path.{◌≡◌, sym, ap, ◌∙◌, subst}
 use mathlib.Core.Bool.{Bool, true}
 use mathlib.Core.List.{List}
@@ -10,8 +11,6 @@ use Rattle.laws.proofs.ListLaws.{all_mem}
 use Rattle.laws.proofs.Runs.{within-short, onward-spent, onward-left, settle-within}
 use Rattle.drawing.specs.declared.refusal.Refusal.{Refusal}
 use Rattle.drawing.specs.declared.refusal.Refusal.TheVariants.{WorkLimitExceeded}
-use Rattle.drawing.specs.declared.refusal.Check.{Check}
-use Rattle.drawing.specs.declared.refusal.Check.TheVariants.{Passed, Refused as Stopped}
 use Rattle.drawing.specs.Entries.{Segment, SegmentColumns, segments}
 use Rattle.drawing.specs.Refusals.{first_of}
 use Rattle.drawing.specs.Held.{SegmentHeld}
@@ -20,8 +19,6 @@ use Rattle.rows.specs.Rows.{Row, row_of, oriented}
 use Rattle.rows.specs.Inner.Rows.{segments_to_sweep}
 use Rattle.rows.proofs.Oriented.{mem_oriented}
 use Rattle.rows.proofs.ToSweep.{rows-to-sweep}
-use Rattle.separation.specs.declared.report.SeparationAnswer.{SeparationAnswer}
-use Rattle.separation.specs.declared.report.SeparationAnswer.TheVariants.{Refused}
 use Rattle.separation.specs.Conditions.{separation_conditions}
 use Rattle.separation.specs.Figures.{Figures}
 use Rattle.separation.specs.Lines.{lines}
@@ -35,8 +32,6 @@ use Rattle.separation.proofs.Costs.{walk-least}
 use Rattle.separation.proofs.Allowances.{walk-within}
 use Rattle.separation.proofs.Answers.{passed_fit, walk_settles}
 use Rattle.separation.specs.declared.found.Found.{Found}
-use Rattle.separation.specs.declared.found.Swept.{Swept}
-use Rattle.separation.specs.declared.found.Swept.TheVariants.{Went, Spent}
 use Rattle.separation.specs.Inner.States.{found_by, swept_of, Answers, too_few}
 use Rattle.separation_call.specs.Inner.Sweeping.{Gapped, AtColumns}
 use Rattle.separation.proofs.States.{went-is, spent-is, too_few_means}
@@ -46,7 +41,7 @@ row-net : (s : Segment) → s.net < 2 ^ 32 → (row_of s).net < 2 ^ 32
 unfolding row_of
 row-net s h = h
 
-module _ (c : SegmentColumns) (words : ℕ) (passed : first_of (separation_conditions c words) ≡ Passed) where
+module _ (c : SegmentColumns) (words : ℕ) (passed : first_of (separation_conditions c words) ≡ (Ok tt)) where
   module _ (held : All SegmentHeld (segments c)) (nets : All (λ (s : Segment). s.net < 2 ^ 32) (segments c)) where
     proper : (o : ℕ) (r : Row) → Mem r (oriented o (segments c)) → (r.net < 2 ^ 32) × (r.start < r.end)
     proper o r m =
@@ -69,41 +64,41 @@ module _ (c : SegmentColumns) (words : ℕ) (passed : first_of (separation_condi
     at_columns o = let p = separation-passes c words passed in record { agree = p.agree; few = p.few-segments; room = p.room; proper = proper o; gaps = gapped o }
 
 -- ---- too few visits, whatever the walk finds
-pub too_few_visits : (c : SegmentColumns) → SegmentsAgree c → (m n : ℕ) (t : Bool) → n ≡ segments_to_sweep c.orientation → t ≡ too_few m n → t ≡ true → Spent ≡ swept_of (within m (walk_all (segments c)))
+pub too_few_visits : (c : SegmentColumns) → SegmentsAgree c → (m n : ℕ) (t : Bool) → n ≡ segments_to_sweep c.orientation → t ≡ too_few m n → t ≡ true → (Err WorkLimitExceeded) ≡ swept_of (within m (walk_all (segments c)))
 unfolding swept_of
 too_few_visits c agree m n t e k h = sym (ap swept_of (within-short m (walk_all (segments c)) (omega (arith, too_few_means m n t k h, rows-to-sweep c agree, walk-least (segments c)))))
 
 -- ---- both orientations
-module _ (l : List Segment) (m : ℕ) (first : Swept) (one : first ≡ swept_of (within m (along (oriented 1 l)))) where
+module _ (l : List Segment) (m : ℕ) (first : (Result Found Refusal)) (one : first ≡ swept_of (within m (along (oriented 1 l)))) where
   abbrev second : Figures → ℕ → Outcome Figures
   second f r = onward (within r (along (oriented 0 l))) (λ g r. left (lesser_figures f g) r)
 
-  pub walk_stops : first ≡ Spent → Spent ≡ swept_of (within m (walk_all l))
+  pub walk_stops : first ≡ (Err WorkLimitExceeded) → (Err WorkLimitExceeded) ≡ swept_of (within m (walk_all l))
   unfolding swept_of
   walk_stops e =
       let z : onward (within m (along (oriented 1 l))) second ≡ spent = rw (spent-is (within m (along (oriented 1 l))) (sym e ∙ one)) (onward-spent second) in
       sym (ap swept_of (walk-within m l ∙ z))
 
-  module _ (across : Found) (went : first ≡ Went across) (next : Swept) (other : next ≡ swept_of (within across.remaining (along (oriented 0 l)))) where
+  module _ (across : Found) (went : first ≡ Ok across) (next : (Result Found Refusal)) (other : next ≡ swept_of (within across.remaining (along (oriented 0 l)))) where
     on : within m (walk_all l) ≡ second (found_by across) across.remaining
     on = walk-within m l ∙ rw (went-is (within m (along (oriented 1 l))) across (sym went ∙ one)) (onward-left (found_by across) across.remaining second)
 
-    pub walk_stops_later : next ≡ Spent → Spent ≡ swept_of (within m (walk_all l))
+    pub walk_stops_later : next ≡ (Err WorkLimitExceeded) → (Err WorkLimitExceeded) ≡ swept_of (within m (walk_all l))
     unfolding swept_of
     walk_stops_later e =
         let z : second (found_by across) across.remaining ≡ spent = rw (spent-is (within across.remaining (along (oriented 0 l))) (sym e ∙ other)) (onward-spent (λ g r. left (lesser_figures (found_by across) g) r)) in
         sym (ap swept_of (on ∙ z))
 
-    pub walk_both : (down r : Found) → next ≡ Went down → found_by r ≡ lesser_figures (found_by across) (found_by down) → r.remaining ≡ down.remaining → Went r ≡ swept_of (within m (walk_all l))
+    pub walk_both : (down r : Found) → next ≡ Ok down → found_by r ≡ lesser_figures (found_by across) (found_by down) → r.remaining ≡ down.remaining → Ok r ≡ swept_of (within m (walk_all l))
     unfolding swept_of
     walk_both down r e f k =
         let z : second (found_by across) across.remaining ≡ left (lesser_figures (found_by across) (found_by down)) down.remaining = rw (went-is (within across.remaining (along (oriented 0 l))) down (sym e ∙ other)) (onward-left (found_by down) down.remaining (λ g r. left (lesser_figures (found_by across) g) r)) in
         (λ i. swept_of (left (f i) (k i))) ∙ sym (ap swept_of (on ∙ z))
 
 -- ---- the answer
-pub refused-answer : (c : SegmentColumns) (allowance words : ℕ) (k : Check) (r : Refusal) → k ≡ first_of (separation_conditions c words) → k ≡ Stopped r → Refused r ≡ separation_answer c allowance words
+pub refused-answer : (c : SegmentColumns) (allowance words : ℕ) (k : (Result Unit Refusal)) (r : Refusal) → k ≡ first_of (separation_conditions c words) → k ≡ Err r → Err r ≡ separation_answer c allowance words
 unfolding separation_answer
 refused-answer c allowance words k r h g = sym (rw (sym h ∙ g))
 
-pub passed_answer : (c : SegmentColumns) (allowance words : ℕ) → first_of (separation_conditions c words) ≡ Passed → All SegmentHeld (segments c) → (r : Swept) → r ≡ swept_of (within allowance (walk_all (segments c))) → (a : SeparationAnswer) → Answers r allowance a → a ≡ separation_answer c allowance words
-passed_answer c allowance words passed held r e a f = f (within allowance (walk_all (segments c))) e ∙ settle-within accepted (Refused WorkLimitExceeded) allowance (walk_all (segments c)) ∙ sym (walk_settles c words passed held allowance)
+pub passed_answer : (c : SegmentColumns) (allowance words : ℕ) → first_of (separation_conditions c words) ≡ (Ok tt) → All SegmentHeld (segments c) → (r : (Result Found Refusal)) → r ≡ swept_of (within allowance (walk_all (segments c))) → (a : (Result ParallelSeparation Refusal)) → Answers r allowance a → a ≡ separation_answer c allowance words
+passed_answer c allowance words passed held r e a f = f (within allowance (walk_all (segments c))) e ∙ settle-within accepted (Err WorkLimitExceeded) allowance (walk_all (segments c)) ∙ sym (walk_settles c words passed held allowance)

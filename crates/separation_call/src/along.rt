@@ -16,9 +16,9 @@ use crate::line_numbers::number_lines;
 use crate::run::run_events;
 use crate::slots::assign_slots;
 use crate::tree::leaf_count;
-use drawing::{Gap, clear};
+use drawing::clear;
 use rows::{order_events, order_rows, spread_rows};
-use separation::{Found, Swept};
+use separation::Found;
 
 // Makes the tables of n rows: their indices in order are stored from word `from` on, and the rows themselves `table` words later. The answer is the number of lines.
 fn make_tables(s: &mut [u64], n: usize, from: usize, table: usize) -> usize
@@ -33,7 +33,7 @@ fn make_tables(s: &mut [u64], n: usize, from: usize, table: usize) -> usize
 }
 
 // The words after the tables are cleared: no segment is active yet. Then the sweep runs.
-fn sweep_tables(s: &mut [u64], n: usize, many: usize, allowance: usize) -> Swept
+fn sweep_tables(s: &mut [u64], n: usize, many: usize, allowance: usize) -> Result<Found, Refusal>
     requires { AtTables s.old n many }
     ensures { (l : List Row) → length l ≡ n → many ≡ length (lines l) → Prepared l s.old → Sorted rows_in_order l → ((a : Row) → Mem a l → (a.net < 2 ^ 32) × (a.start < a.end)) → Gapped (lines l) → result ≡ swept_of (within allowance (Walk.sweep l)) }
 {
@@ -53,7 +53,7 @@ pub(crate) fn sweep_along(
     start: &[f64],
     end: &[f64],
     allowance: usize,
-) -> Swept
+) -> Result<Found, Refusal>
     requires { AtColumns (length s.old) wanted (segment_columns net.now orientation.now fixed.now start.now end.now) }
     ensures { result ≡ swept_of (within allowance (Walk.along (oriented wanted (segments (segment_columns net.now orientation.now fixed.now start.now end.now))))) }
 {
@@ -61,9 +61,9 @@ pub(crate) fn sweep_along(
     let from = 16 * total;
     let n = order_rows(&mut s[from..], wanted, net, orientation, fixed, start, end);
     if n < 2 {
-        return Swept::Went(Found {
-            minimum: Gap::Absent,
-            minimum_positive: Gap::Absent,
+        return Ok(Found {
+            minimum: None,
+            minimum_positive: None,
             remaining: allowance,
         });
     }

@@ -9,10 +9,10 @@ ghost use Rattle.separation.specs.Inner.States.{swept_of};
 ghost use Rattle.separation_call.specs.Inner.Sweeping.{Ready, AtEvent, AtFirst, Handles};
 
 use crate::sweep::{end_event, start_event};
-use separation::{Handled, Sweeping, Swept, at_start, found_in};
+use separation::{Sweeping, at_start, found_in};
 
 // Event e: below n it is the end of segment e, else the start of segment e - n.
-fn handle_event(s: &mut [u64], n: usize, leaves: usize, e: usize, state: Sweeping) -> Handled
+fn handle_event(s: &mut [u64], n: usize, leaves: usize, e: usize, state: Sweeping) -> Result<Sweeping, Refusal>
     requires { AtEvent s.old n leaves e }
     ensures { Handles s.old s.new n leaves e state result }
 {
@@ -31,7 +31,7 @@ fn event_at(s: &[u64], q: usize) -> usize
 }
 
 // The events in order, from no active segment and no gap yet.
-pub(crate) fn run_events(s: &mut [u64], n: usize, leaves: usize, allowance: usize) -> Swept
+pub(crate) fn run_events(s: &mut [u64], n: usize, leaves: usize, allowance: usize) -> Result<Found, Refusal>
     requires { AtFirst s.old n leaves }
     ensures { (l : List Row) (F : List ℕ) (H : ℕ) → length l ≡ n → leaves ≡ 2 ^ H → Ready l F H 0 [] s.old → ((a : Row) → Mem a l → a.start < a.end) → H ≡ levels (length (lines l)) → result ≡ swept_of (within allowance (sweep l)) }
 {
@@ -40,11 +40,11 @@ pub(crate) fn run_events(s: &mut [u64], n: usize, leaves: usize, allowance: usiz
     while q < 2 * n {
         let e = event_at(&s[..], q);
         let handled = handle_event(s, n, leaves, e, state);
-        let Handled::Went(next) = handled else {
-            return Swept::Spent;
+        let Ok(next) = handled else {
+            return Err(Refusal::WorkLimitExceeded);
         };
         state = next;
         q += 1;
     }
-    Swept::Went(found_in(state))
+    Ok(found_in(state))
 }

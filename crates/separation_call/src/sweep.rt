@@ -9,20 +9,18 @@ ghost use Rattle.separation_call.specs.Inner.Sweeping.{WithinLines, Gapped, join
 use crate::nets::{end_net, start_net};
 use crate::tree::{has_other_at, leftmost_other, rightmost_other, set};
 use floats::float_of_key;
-use separation::{
-    Handled, OtherNet, Search, Sweeping, after_charge, with_other_line, with_own_line,
-};
+use separation::{OtherNet, Search, Sweeping, after_charge, with_other_line, with_own_line};
 
 // What a search found joins the figures: the gap of the segment's line and of the line that was found.
-fn with_search(fixed: &[u64], line: usize, search: Search, state: Sweeping) -> Handled
+fn with_search(fixed: &[u64], line: usize, search: Search, state: Sweeping) -> Result<Sweeping, Refusal>
     requires { WithinLines search line (length fixed.now) }
     ensures { (ls : List ℕ) (o : Outcome (Option ℕ)) → search ≡ search_of o → take (length ls) fixed.now ≡ ls → WithinLines search line (length ls) → Gapped ls → outcome_of result ≡ joined ls (get_or ls line 0) (met_by state) o }
 {
     let Search::Found(place, rest) = search else {
         let Search::Empty(remaining) = search else {
-            return Handled::Spent;
+            return Err(Refusal::WorkLimitExceeded);
         };
-        return Handled::Went(Sweeping {
+        return Ok(Sweeping {
             minimum: state.minimum,
             minimum_positive: state.minimum_positive,
             remaining: remaining,
@@ -30,7 +28,7 @@ fn with_search(fixed: &[u64], line: usize, search: Search, state: Sweeping) -> H
     };
     let there = float_of_key(fixed[place]);
     let here = float_of_key(fixed[line]);
-    Handled::Went(with_other_line(there, here, rest, state))
+    Ok(with_other_line(there, here, rest, state))
 }
 
 // What a start searches (SCOPE 5.10): whether another net is on its own line, and the nearest line with another net on either side.
@@ -41,19 +39,19 @@ fn with_nearest(
     line: usize,
     net: u32,
     state: Sweeping,
-) -> Handled
+) -> Result<Sweeping, Refusal>
     requires { Searchable tree.now fixed.now leaves line }
     ensures { WithNearest tree.now fixed.now leaves line net state result }
 {
     let at = has_other_at(tree, leaves, line, net, state.remaining);
     let OtherNet::Known(own, rest) = at else {
-        return Handled::Spent;
+        return Err(Refusal::WorkLimitExceeded);
     };
     let begun = with_own_line(own, rest, state);
     let below = rightmost_other(tree, leaves, line, net, begun.remaining);
     let handled = with_search(fixed, line, below, begun);
-    let Handled::Went(half) = handled else {
-        return Handled::Spent;
+    let Ok(half) = handled else {
+        return Err(Refusal::WorkLimitExceeded);
     };
     let above = leftmost_other(tree, leaves, line + 1, net, half.remaining);
     with_search(fixed, line, above, half)
@@ -68,7 +66,7 @@ fn enter(
     line: usize,
     net: u32,
     state: Sweeping,
-) -> Handled
+) -> Result<Sweeping, Refusal>
     requires { Enterable n leaves slot line net work.old }
     ensures pays { Pays leaves state result }
     ensures entered { Entered n leaves slot line net work.old work.new result }
@@ -87,7 +85,7 @@ fn leave(
     line: usize,
     net: u32,
     state: Sweeping,
-) -> Handled
+) -> Result<Sweeping, Refusal>
     requires { Leavable n leaves slot line net work.old }
     ensures pays { Pays leaves state result }
     ensures taken_out { TakenOut n leaves slot line net work.old work.new result }
@@ -104,7 +102,7 @@ pub(crate) fn start_event(
     leaves: usize,
     j: usize,
     state: Sweeping,
-) -> Handled
+) -> Result<Sweeping, Refusal>
     requires { AtStart s.old n leaves j }
     ensures { Begins s.old s.new n leaves j state result }
 {
@@ -112,8 +110,8 @@ pub(crate) fn start_event(
     let net = s[5 * n + j] as u32;
     let slot = s[7 * n + j] as usize;
     let handled = with_nearest(&s[12 * n..], leaves, &s[6 * n..], line, net, state);
-    let Handled::Went(seen) = handled else {
-        return Handled::Spent;
+    let Ok(seen) = handled else {
+        return Err(Refusal::WorkLimitExceeded);
     };
     enter(&mut s[9 * n..], n, leaves, slot, line, net, seen)
 }
@@ -125,7 +123,7 @@ pub(crate) fn end_event(
     leaves: usize,
     j: usize,
     state: Sweeping,
-) -> Handled
+) -> Result<Sweeping, Refusal>
     requires { AtEnd s.old n leaves j }
     ensures { Finishes s.old s.new n leaves j state result }
 {

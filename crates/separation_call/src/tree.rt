@@ -8,7 +8,7 @@ ghost use Rattle.separation.specs.Inner.Searches.{search_of};
 ghost use Rattle.separation.specs.Inner.Summaries.{summary_has_other};
 ghost use Rattle.separation_call.specs.Inner.ActiveTree.{summary_at, other_net_of, charge_of, Leaves, Below, Renewed};
 
-use separation::{Charge, NetSummary, OtherNet, Search, merged_word, summary_of_word, word_of};
+use separation::{NetSummary, OtherNet, Search, merged_word, summary_of_word, word_of};
 
 // The least power of two that is not below the count: its exponent, the levels of the tree, is the number of binary digits of the count minus one (SCOPE 15.4).
 pub(crate) fn leaf_count(coordinate_count: usize) -> usize
@@ -158,14 +158,14 @@ pub(crate) fn set(
     index: usize,
     summary: NetSummary,
     remaining: usize,
-) -> Charge
+) -> Result<usize, Refusal>
     requires leaves { Leaves tree.old leaves }
     requires index_lt_leaves { index < leaves }
     ensures charged { (H : ℕ) → leaves ≡ 2 ^ H → result ≡ charge_of (within remaining (set_run H)) }
     ensures renewed { (H m : ℕ) → leaves ≡ 2 ^ H → result ≡ Charge.Paid m → Renewed tree.old tree.new H index summary }
 {
     if remaining == 0 {
-        return Charge::Spent;
+        return Err(Refusal::WorkLimitExceeded);
     }
     let mut rest = remaining - 1;
     let leaf = leaves + index;
@@ -173,11 +173,11 @@ pub(crate) fn set(
     let mut cursor = leaf / 2;
     while cursor != 0 {
         if rest == 0 {
-            return Charge::Spent;
+            return Err(Refusal::WorkLimitExceeded);
         }
         rest -= 1;
         tree[cursor] = merged_word(tree[2 * cursor], tree[2 * cursor + 1]);
         cursor = cursor / 2;
     }
-    Charge::Paid(rest)
+    Ok(rest)
 }

@@ -1,8 +1,7 @@
 // Separation of a list of segments, each one a `Line` (SCOPE 2.6, 15.9): they are copied into columns, and the call by columns does all else, its refusals included.
 #![tactic(auto)]
 
-ghost use Rattle.std.specs.Prelude.{◌≡◌, map, length, take};
-ghost use Rattle.drawing.specs.declared.refusal.Check.TheVariants.{Passed};
+ghost use Rattle.std.specs.Prelude.{◌≡◌, map, length, take, Ok};
 ghost use Rattle.drawing.specs.Refusals.{first_of, scratch_after};
 ghost use Rattle.drawing.specs.Entries.{columns_of};
 ghost use Rattle.drawing.specs.Held.{SegmentsHeld};
@@ -11,7 +10,6 @@ ghost use Rattle.separation.specs.Answer.{separation_answer};
 ghost use Rattle.lines.specs.Inner.Lines.{entry_of};
 
 use lines::{Line, unpack};
-use separation::SeparationAnswer;
 use separation_call::measure_parallel_separation_bounded;
 
 pub fn separation_of_lines(
@@ -19,13 +17,13 @@ pub fn separation_of_lines(
     n: usize,
     allowance: usize,
     scratch: &mut [u64],
-) -> SeparationAnswer
+) -> Result<ParallelSeparation, Refusal>
     ensures { let lent = columns_of (map entry_of (take n lines)) in
         let words = length scratch.old in
         let refusal = first_of (separation_conditions lent words) in
         (result ≡ separation_answer lent allowance words)
         × (scratch.new ≡ scratch_after refusal scratch.old)
-        × (refusal ≡ Passed → SegmentsHeld lent) }
+        × (refusal ≡ (Ok tt) → SegmentsHeld lent) }
 {
     let mut net = [0; 4097];
     let mut orientation = [0; 4097];

@@ -1,4 +1,5 @@
 -- What holds of the columns of a call of the tight pair once the checks have passed. Assumes nothing.
+use Rattle.std.specs.Prelude.{Ok}
 use mathlib.Core.Path.{◌≡◌, sym, ◌∙◌, subst}
 use mathlib.Core.Bool.{Bool, false}
 use mathlib.Core.List.{List, [], ◌∷◌, ◌++◌}
@@ -11,7 +12,6 @@ use Rattle.laws.specs.Lists.{All, some_of}
 use Rattle.laws.proofs.ListLaws.{all_mem, mem_all, none-all}
 use Rattle.laws.proofs.Places.{at_all}
 use Rattle.drawing.specs.declared.refusal.Refusal.{Refusal}
-use Rattle.drawing.specs.declared.refusal.Check.TheVariants.{Passed}
 use Rattle.drawing.specs.Entries.{Node, SegmentColumns, NodeColumns, ExemptionColumns, segments, nodes}
 use Rattle.drawing.specs.Inner.Entries.{node_at}
 use Rattle.drawing.specs.Inner.Lengths.{SegmentsAgree, NodesAgree, ExemptionsAgree}
@@ -27,9 +27,9 @@ use Rattle.tight_pair.specs.Conditions.{tight_pair_conditions}
 use Rattle.exemptions.proofs.ExemptLaws.{exemptions-agree}
 
 -- where the conditions of two lists all pass, those of each list do
-passed_both : (l m : List (Bool × Refusal)) → first_of (l ++ m) ≡ Passed → (first_of l ≡ Passed) × (first_of m ≡ Passed)
+passed_both : (l m : List (Bool × Refusal)) → first_of (l ++ m) ≡ (Ok tt) → (first_of l ≡ (Ok tt)) × (first_of m ≡ (Ok tt))
 unfolding first_of
-passed_both [] m e = (λ i. Passed, e)
+passed_both [] m e = (λ i. (Ok tt), e)
 passed_both (c ∷ l) m e =
     let h = passed_head c.0 c.1 (l ++ m) e in
     let r = passed_both l m h.1 in
@@ -57,8 +57,8 @@ module _ (s : SegmentColumns) (n : NodeColumns) (l : FloatsLent s n) where
 fit-nodes : (l : List Node) → All NodeHeld l → some_of unfit_node l ≡ false → All FitNode l
 fit-nodes l h e = let a = none-all unfit_node l e in mem_all FitNode l (λ x m. record { held = all_mem NodeHeld l h x m; passes = all_mem _ l a x m })
 
-module _ (s : SegmentColumns) (n : NodeColumns) (e : ExemptionColumns) (p : first_of (tight_pair_conditions s n e) ≡ Passed) where
-  parts : (first_of (list_conditions s n e) ≡ Passed) × (first_of (entry_conditions s n) ≡ Passed)
+module _ (s : SegmentColumns) (n : NodeColumns) (e : ExemptionColumns) (p : first_of (tight_pair_conditions s n e) ≡ (Ok tt)) where
+  parts : (first_of (list_conditions s n e) ≡ (Ok tt)) × (first_of (entry_conditions s n) ≡ (Ok tt))
   unfolding tight_pair_conditions
   parts = passed_both (list_conditions s n e) (entry_conditions s n) p
 

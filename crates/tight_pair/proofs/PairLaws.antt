@@ -1,4 +1,5 @@
 -- The tight pair: the pairs in turn with the best so far, which is the least of all in the end. Assumes nothing.
+use Rattle.std.specs.Prelude.{Option, Some, None, Ok, Err}
 use mathlib.Core.Path.{◌≡◌, refl, sym, ap, ◌∙◌, subst}
 use mathlib.Core.Bool.{Bool, true, false, not, cond}
 use mathlib.Core.List.{List, [], ◌∷◌, ◌++◌, append_assoc, append-nil, map}
@@ -17,10 +18,7 @@ use Rattle.laws.proofs.ListLaws.{all_append}
 use Rattle.floats.specs.Values.{plus_zero, lesser_of}
 use Rattle.floats.proofs.Rank.{sgn}
 use Rattle.floats.proofs.Gaps.{Good}
-use Rattle.drawing.specs.declared.gap.Gap.{Gap}
-use Rattle.drawing.specs.declared.gap.Gap.TheVariants.{Absent, Present}
 use Rattle.drawing.specs.declared.refusal.Refusal.{Refusal}
-use Rattle.drawing.specs.declared.refusal.Check.TheVariants.{Passed, Refused as Stopped}
 use Rattle.drawing.specs.Entries.{Segment, Node, Exemption, SegmentColumns, NodeColumns, ExemptionColumns, segments, nodes, exemptions}
 use Rattle.drawing.specs.Inner.Entries.{segment_at, node_at}
 use Rattle.drawing.specs.Refusals.{first_of}
@@ -59,7 +57,7 @@ module _ (d : Float) (i j : ℕ) (b : Best) where
   unfolding best_with
   passed_by x e = rw e
 
-  pub taken : (x : Bool) → nearer d b.least ≡ true → x ≡ false → record { least = Present d; segment = i; node = j } ≡ best_with x d i j b
+  pub taken : (x : Bool) → nearer d b.least ≡ true → x ≡ false → record { least = Some d; segment = i; node = j } ≡ best_with x d i j b
   unfolding best_with
   taken x e f = rw (f, e)
 
@@ -118,10 +116,10 @@ none-nearer (fin s m k) (fin false n d) p e = rw p (le-ltb (m * up k * down d) (
     nothing : (a b c : ℕ) → a * 1 ≤ 0 * 1 * down d → a * b ≤ c
     nothing a b c h = let z : a ≡ 0 = omega (arith, zero-mul (down d)) in rw z (rw (zero-mul b) zero-le)
 
-still_best : (g : Gap) → nearer plus_zero g ≡ false → (d : Float) → Good d → nearer d g ≡ false
+still_best : (g : (Option Float)) → nearer plus_zero g ≡ false → (d : Float) → Good d → nearer d g ≡ false
 unfolding nearer
-still_best Absent e d p = clash true refl e
-still_best (Present m) e d p = none-nearer d m p.plus e
+still_best None e d p = clash true refl e
+still_best (Some m) e d p = none-nearer d m p.plus e
 
 nodes_still : (ex : List Exemption) (net : ℕ) (box : Aabb) (i : ℕ) (b : Best) → nearer plus_zero b.least ≡ false → (ns : List Node) (j : ℕ) → in_turn (node_step ex net box i) j ns b ≡ b
 unfolding in_turn
@@ -196,33 +194,33 @@ all-put false x h = tt
 -- `seen` are the distances of the pairs so far that are not exempt
 record Looked (ex : List Exemption) (ss : List Segment) (ns : List Node) (seen : List Float) (b : Best) : Type 0 where
   least : b.least ≡ least_gap seen
-  place : (d : Float) → b.least ≡ Present d → Placed ex ss ns b.segment b.node d
+  place : (d : Float) → b.least ≡ Some d → Placed ex ss ns b.segment b.node d
 
-lesser-present : (m d : Float) → lesser_gap (Present m) (Present d) ≡ Present (cond (lt d m) d m)
+lesser-present : (m d : Float) → lesser_gap (Some m) (Some d) ≡ Some (cond (lt d m) d m)
 unfolding lesser_gap lesser_of
 lesser-present m d = refl
 
-lesser_absent : (g : Gap) → lesser_gap Absent g ≡ g
+lesser_absent : (g : (Option Float)) → lesser_gap None g ≡ g
 unfolding lesser_gap
 lesser_absent g = refl
 
 module _ (ex : List Exemption) (ss : List Segment) (ns : List Node) where
   -- one pair more, at distance d, which is not exempt
   module _ (d : Float) (i j : ℕ) (good_d : Good d) (q : Placed ex ss ns i j d) (seen : List Float) (good : All Good seen) where
-    here : (e : Float) → Present d ≡ Present e → Placed ex ss ns i j e
+    here : (e : Float) → Some d ≡ Some e → Placed ex ss ns i j e
     here e h = let g : d ≡ e = cc in subst (Placed ex ss ns i j) g q
 
-    joined : (g : Gap) → g ≡ least_gap seen → least_gap (seen ++ d ∷ []) ≡ lesser_gap g (Present d)
-    joined g e = least_join seen (d ∷ []) good (good_d, tt) ∙ ap (lesser_gap (least_gap seen)) (least-one d) ∙ ap (λ (h : Gap). lesser_gap h (Present d)) (sym e)
+    joined : (g : (Option Float)) → g ≡ least_gap seen → least_gap (seen ++ d ∷ []) ≡ lesser_gap g (Some d)
+    joined g e = least_join seen (d ∷ []) good (good_d, tt) ∙ ap (lesser_gap (least_gap seen)) (least-one d) ∙ ap (λ (h : (Option Float)). lesser_gap h (Some d)) (sym e)
 
-    added : (g : Gap) (u v : ℕ) → Looked ex ss ns seen (record { least = g; segment = u; node = v })
-        → Looked ex ss ns (seen ++ d ∷ []) (cond (nearer d g) (record { least = Present d; segment = i; node = j }) (record { least = g; segment = u; node = v }))
+    added : (g : (Option Float)) (u v : ℕ) → Looked ex ss ns seen (record { least = g; segment = u; node = v })
+        → Looked ex ss ns (seen ++ d ∷ []) (cond (nearer d g) (record { least = Some d; segment = i; node = j }) (record { least = g; segment = u; node = v }))
     unfolding nearer
-    added Absent u v p = record { least = sym (joined Absent p.least ∙ lesser_absent (Present d)); place = here }
-    added (Present m) u v p = go (lt d m) (joined (Present m) p.least ∙ lesser-present m d)
+    added None u v p = record { least = sym (joined None p.least ∙ lesser_absent (Some d)); place = here }
+    added (Some m) u v p = go (lt d m) (joined (Some m) p.least ∙ lesser-present m d)
       where
-        go : (t : Bool) → least_gap (seen ++ d ∷ []) ≡ Present (cond t d m)
-            → Looked ex ss ns (seen ++ d ∷ []) (cond t (record { least = Present d; segment = i; node = j }) (record { least = Present m; segment = u; node = v }))
+        go : (t : Bool) → least_gap (seen ++ d ∷ []) ≡ Some (cond t d m)
+            → Looked ex ss ns (seen ++ d ∷ []) (cond t (record { least = Some d; segment = i; node = j }) (record { least = Some m; segment = u; node = v }))
         go true e = record { least = sym e; place = here }
         go false e = record { least = sym e; place = p.place }
 
@@ -271,10 +269,10 @@ module _ (ex : List Exemption) (ss : List Segment) (ns : List Node) where
 -- ---- the answer
 -- what is found at the least distance of all is tight
 module _ (ex : List Exemption) (ss : List Segment) (ns : List Node) (b : Best) (p : Looked ex ss ns (distances ex ss ns) b) where
-  is-tight : (g : Gap) → b.least ≡ g → (i j : ℕ) → pair_if_any g (b.segment, b.node) ≡ Pair i j → Tight ex ss ns i j
+  is-tight : (g : (Option Float)) → b.least ≡ g → (i j : ℕ) → pair_if_any g (b.segment, b.node) ≡ Pair i j → Tight ex ss ns i j
   unfolding pair_if_any
-  is-tight Absent h i j e = let z : ◌≡◌ {A = ℕ} 0 1 = cc in absurd (omega arith)
-  is-tight (Present d) h i j e =
+  is-tight None h i j e = let z : ◌≡◌ {A = ℕ} 0 1 = cc in absurd (omega arith)
+  is-tight (Some d) h i j e =
       let q = p.place d h in
       let u : b.segment ≡ i = cc in
       let v : b.node ≡ j = cc in
@@ -284,15 +282,15 @@ module _ (ex : List Exemption) (ss : List Segment) (ns : List Node) (b : Best) (
         segment_at = ap (get_elem? ss) (sym u) ∙ q.segment_found;
         node_at = ap (get_elem? ns) (sym v) ∙ q.node_found;
         free = q.free;
-        least = ap Present (sym q.far) ∙ sym h ∙ p.least;
+        least = ap Some (sym q.far) ∙ sym h ∙ p.least;
       }
 
 module _ (s : SegmentColumns) (n : NodeColumns) (e : ExemptionColumns) where
-  pub answer-refused : (why : Refusal) → first_of (tight_pair_conditions s n e) ≡ Stopped why → Answered s n e (Refused why)
+  pub answer-refused : (why : Refusal) → first_of (tight_pair_conditions s n e) ≡ Err why → Answered s n e (Refused why)
   unfolding tight_pair_answer
   answer-refused why h = record { choice = (0, 0); is = rw h; tight = λ i j g. let z : ◌≡◌ {A = ℕ} 0 1 = cc in absurd (omega arith) }
 
-  module _ (passed : first_of (tight_pair_conditions s n e) ≡ Passed) (held : FloatsLent s n) (before words : List ℕ) (gathered : Gathered e before words)
+  module _ (passed : first_of (tight_pair_conditions s n e) ≡ (Ok tt)) (held : FloatsLent s n) (before words : List ℕ) (gathered : Gathered e before words)
       (b : Best) (looked : (ex : List Exemption) → Holds words ex → length e.net ≡ length ex → b ≡ look_segments ex (segments s) (nodes n)) where
     abbrev LookedAtAll : Best → Type 0
     LookedAtAll c = Looked (exemptions e) (segments s) (nodes n) (distances (exemptions e) (segments s) (nodes n)) c
@@ -306,6 +304,6 @@ module _ (s : SegmentColumns) (n : NodeColumns) (e : ExemptionColumns) where
     unfolding tight_pair_answer
     answered r is = record {
       choice = (b.segment, b.node);
-      is = is ∙ rw passed (ap (λ (g : Gap). pair_if_any g (b.segment, b.node)) best.least);
+      is = is ∙ rw passed (ap (λ (g : (Option Float)). pair_if_any g (b.segment, b.node)) best.least);
       tight = λ i j g. is-tight (exemptions e) (segments s) (nodes n) b best b.least refl i j (sym is ∙ g);
     }

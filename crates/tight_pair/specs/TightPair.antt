@@ -1,9 +1,7 @@
 -- What the tight pair's call answers (SCOPE 12), and the number and values of each case of the answer.
-use Rattle.std.specs.Prelude.{◌≡◌, false, List, ℕ}
+use Rattle.std.specs.Prelude.{◌≡◌, false, List, ℕ, Option, Some, None}
 use Rattle.std.proofs.Math.Option.{Option, none, some}
 use Rattle.std.proofs.Math.ListN.{get_elem?}
-use Rattle.drawing.specs.declared.gap.Gap.{Gap}
-use Rattle.drawing.specs.declared.gap.Gap.TheVariants.{Absent as NoGap, Present}
 use Rattle.drawing.specs.Entries.{Segment, Node, Exemption, SegmentColumns, NodeColumns, ExemptionColumns, segments, nodes, exemptions}
 use Rattle.drawing.specs.Gaps.{least_gap}
 use Rattle.drawing.specs.Refusals.{number_of, first_of, checked}
@@ -20,12 +18,12 @@ pub record Tight (ex : List Exemption) (ss : List Segment) (ns : List Node) (i j
   pub segment_at : get_elem? ss i ≡ some segment
   pub node_at : get_elem? ns j ≡ some node
   pub free : exempt ex segment.net node.id ≡ false
-  pub least : Present (distance (segment_box segment) (node_box node)) ≡ least_gap (distances ex ss ns)
+  pub least : Some (distance (segment_box segment) (node_box node)) ≡ least_gap (distances ex ss ns)
 
 -- SCOPE 12.2: the pair where there is a least clearance, "or absent if there is none"
-unfoldable pub pair_if_any : Gap → ℕ × ℕ → TightPair
-pair_if_any NoGap pair = Absent
-pair_if_any (Present d) pair = Pair pair.0 pair.1
+unfoldable pub pair_if_any : (Option Float) → ℕ × ℕ → TightPair
+pair_if_any None pair = Absent
+pair_if_any (Some d) pair = Pair pair.0 pair.1
 
 -- SCOPE 12.1, 12.2: "checks 2, 3 and 5 of clearance, then answers any pair ..": which pair is left to the program, so it is an argument
 unfoldable pub tight_pair_answer : SegmentColumns → NodeColumns → ExemptionColumns → ℕ × ℕ → TightPair

@@ -4,7 +4,6 @@ ghost use Rattle.drawing.specs.Refusals.{first_of};
 ghost use Rattle.drawing.specs.Entries.{segment_columns, node_columns, exemption_columns};
 ghost use Rattle.tight_pair.specs.Conditions.{tight_pair_conditions};
 
-use drawing::Check;
 use list_checks::{check_entries, check_lists};
 
 // The checks of the lists, then those of the entries.
@@ -21,7 +20,7 @@ pub(crate) fn check_tight_pair(
     height: &[f64],
     exempt_net: &[u32],
     exempt_node: &[u32],
-) -> Check
+) -> Result<(), Refusal>
     ensures { result ≡ first_of (tight_pair_conditions (segment_columns net.now orientation.now fixed.now start.now end.now) (node_columns id.now x.now y.now width.now height.now) (exemption_columns exempt_net.now exempt_node.now)) }
 {
     let first = check_lists(
@@ -38,7 +37,7 @@ pub(crate) fn check_tight_pair(
         exempt_net,
         exempt_node,
     );
-    let Check::Passed = first else {
+    let Ok(()) = first else {
         return first;
     };
     check_entries(net, orientation, fixed, start, end, id, x, y, width, height)

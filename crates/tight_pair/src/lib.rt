@@ -13,7 +13,7 @@ mod checks;
 
 use crate::checks::check_tight_pair;
 use boxes::Aabb;
-use drawing::{Check, Gap, Refusal};
+use drawing::Refusal;
 use exemptions::{Range, gather, is_exempt, net_range};
 
 // Positions of a segment and of a node in the given lists.
@@ -27,18 +27,18 @@ pub enum TightPair {
 // The least distance so far, and the positions of the first pair at that distance.
 #[derive(Clone, Copy)]
 struct Best {
-    least: Gap,
+    least: Option<f64>,
     segment: usize,
     node: usize,
 }
 
 // Whether a distance is strictly below the least so far.
-fn is_nearer(distance: f64, least: Gap) -> bool
+fn is_nearer(distance: f64, least: Option<f64>) -> bool
     ensures { result ≡ nearer distance least }
 {
     match least {
-        Gap::Absent => true,
-        Gap::Present(d) => distance < d,
+        None => true,
+        Some(d) => distance < d,
     }
 }
 
@@ -62,7 +62,7 @@ fn with_pair(
         return best;
     }
     Best {
-        least: Gap::Present(distance),
+        least: Some(distance),
         segment: segment,
         node: node,
     }
@@ -114,7 +114,7 @@ fn look_at_segments(
     ensures { (ex : List Exemption) → Holds words.now ex → k ≡ length ex → result ≡ look_segments ex (segments (segment_columns net.now orientation.now fixed.now start.now end.now)) (nodes (node_columns id.now x.now y.now width.now height.now)) }
 {
     let mut best = Best {
-        least: Gap::Absent,
+        least: None,
         segment: 0,
         node: 0,
     };
@@ -139,8 +139,8 @@ fn pair_of(best: Best) -> TightPair
 {
     let least = best.least;
     match least {
-        Gap::Absent => TightPair::Absent,
-        Gap::Present(_) => TightPair::Pair(best.segment, best.node),
+        None => TightPair::Absent,
+        Some(_) => TightPair::Pair(best.segment, best.node),
     }
 }
 
@@ -175,7 +175,7 @@ pub fn tight_pair(
         exempt_net,
         exempt_node,
     );
-    if let Check::Refused(why) = check {
+    if let Err(why) = check {
         return TightPair::Refused(why);
     }
     let mut words = [0; 4096];

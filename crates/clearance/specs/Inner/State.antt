@@ -1,16 +1,13 @@
 -- What inner contracts cite, and no reader of the answer needs: the state that a walk passes to the next, the tests on the edges of two boxes, the order of two halves, and the answer from the outcome of the walks.
-use Rattle.std.specs.Prelude.{◌≡◌, ℕ, Bool, cond, ◌&&◌, Float}
+use Rattle.drawing.specs.declared.refusal.Refusal.{Refusal}
+use Rattle.std.specs.Prelude.{◌≡◌, ℕ, Bool, cond, ◌&&◌, Float, Result, Ok, Err}
 use Rattle.std.specs.Float.{nan, binary64}
 use Rattle.std.specs.Float.Ieee.{sub, lt}
 use Rattle.laws.specs.Inner.Allowance.{Outcome, spent, left, reply}
 use Rattle.drawing.specs.declared.refusal.Refusal.TheVariants.{WorkLimitExceeded}
 use Rattle.drawing.specs.Inner.LeastFloats.{gap_of_float}
 use Rattle.boxes.specs.declared.aabb.Aabb.{Aabb}
-use Rattle.clearance.specs.declared.report.ClearanceAnswer.{ClearanceAnswer}
-use Rattle.clearance.specs.declared.report.ClearanceAnswer.TheVariants.{Refused}
 use Rattle.clearance.specs.declared.visit.Walking.{Walking}
-use Rattle.clearance.specs.declared.visit.Walked.{Walked}
-use Rattle.clearance.specs.declared.visit.Walked.TheVariants.{Spent, Went}
 use Rattle.clearance.specs.declared.halves.Subtree.{Subtree}
 use Rattle.clearance.specs.declared.halves.Halves.{Halves}
 use Rattle.clearance.specs.Figures.{Figures}
@@ -25,9 +22,9 @@ abbrev pub at_start : ℕ → Walking
 at_start allowance = record { violations = 0; least = nan; remaining = allowance }
 
 -- the outcome of a run within the allowance, from what the code returns
-unfoldable pub outcome_of : Walked → Outcome Figures
-outcome_of Spent = spent
-outcome_of (Went w) = left (so_far w) w.remaining
+unfoldable pub outcome_of : (Result Walking Refusal) → Outcome Figures
+outcome_of (Err WorkLimitExceeded) = spent
+outcome_of (Ok w) = left (so_far w) w.remaining
 
 -- along one axis: d is less than the threshold beyond b, and c less than the threshold before a, each by one rounded subtraction
 unfoldable pub axis_below : Float → Float → Float → Float → Float → Bool
@@ -42,5 +39,5 @@ unfoldable pub nearer_first : Subtree → Subtree → Halves
 nearer_first l r = cond (lt r.lower l.lower) (record { nearer = r; farther = l }) (record { nearer = l; farther = r })
 
 -- the answer of a call whose checks passed and whose walks returned r
-abbrev pub Answers : Walked → ℕ → ClearanceAnswer → Type 0
-Answers r allowance a = a ≡ reply accepted (Refused WorkLimitExceeded) allowance (outcome_of r)
+abbrev pub Answers : (Result Walking Refusal) → ℕ → (Result EdgeNodeClearance Refusal) → Type 0
+Answers r allowance a = a ≡ reply accepted (Err WorkLimitExceeded) allowance (outcome_of r)

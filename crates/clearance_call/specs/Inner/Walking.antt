@@ -1,5 +1,7 @@
 -- What the walk of one segment requires and returns. Only inner contracts cite this.
-use Rattle.std.specs.Prelude.{◌≡◌, true, List, map, ℕ, suc, ◌+◌, ◌*◌, ◌^◌, ◌≤◌, ◌<◌, Float, length, take}
+use Rattle.drawing.specs.declared.refusal.Refusal.TheVariants.{WorkLimitExceeded}
+use Rattle.drawing.specs.declared.refusal.Refusal.{Refusal}
+use Rattle.std.specs.Prelude.{◌≡◌, true, List, map, ℕ, suc, ◌+◌, ◌*◌, ◌^◌, ◌≤◌, ◌<◌, Float, length, take, Result, Ok, Err}
 use Rattle.laws.specs.Lists.{All}
 use Rattle.laws.specs.Charged.{Charged, after, runs}
 use Rattle.laws.specs.Inner.Allowance.{within}
@@ -13,8 +15,6 @@ use Rattle.clearance.specs.declared.halves.Subtree.{Subtree}
 use Rattle.clearance.specs.declared.halves.Halves.{Halves}
 use Rattle.clearance_call.specs.declared.walk.Step.{Step}
 use Rattle.clearance_call.specs.declared.walk.Step.TheVariants.{Stopped, Done, Split}
-use Rattle.clearance.specs.declared.visit.Walked.{Walked}
-use Rattle.clearance.specs.declared.visit.Walked.TheVariants.{Spent, Went}
 use Rattle.boxes.specs.Boxes.{segment_box, distance}
 use Rattle.boxes.specs.Inner.Fitting.{FitBox}
 use Rattle.clearance.specs.Figures.{Figures}
@@ -69,19 +69,19 @@ pub record NetMarks (marks groups w : List ℕ) : Type 0 where
   pub room : length w ≤ 9 * length groups
 
 -- what the walk over them returns, for every segment with the box p
-abbrev pub Walks : List Exemption → Float → List ℕ → ℕ → ℕ → Aabb → ℕ → Walking → Walked → Type 0
+abbrev pub Walks : List Exemption → Float → List ℕ → ℕ → ℕ → Aabb → ℕ → Walking → (Result Walking Refusal) → Type 0
 Walks ex threshold w i n p net state r =
     (s : Segment) → segment_box s ≡ p → s.net ≡ net → (k : ℕ) → n ≤ k → outcome_of r ≡ within state.remaining (walk ex threshold s (stored_tree k w i n) (so_far state))
 
 -- the step at a part whose leaves were visited: the part is done, or the walk stopped there
-abbrev pub step_of : Walked → Step
-step_of Spent = Stopped
-step_of (Went v) = Done v
+abbrev pub step_of : (Result Walking Refusal) → Step
+step_of (Err WorkLimitExceeded) = Stopped
+step_of (Ok v) = Done v
 
 -- what the step at a part returns: the outcome of its walk, or, where it is not pruned, the halves whose walks are its walk
 abbrev pub Steps : List Exemption → Float → List ℕ → Aabb → ℕ → Subtree → Walking → Step → Type 0
-Steps ex t w p net part state Stopped = Walks ex t w part.first part.count p net state Spent
-Steps ex t w p net part state (Done v) = Walks ex t w part.first part.count p net state (Went v)
+Steps ex t w p net part state Stopped = Walks ex t w part.first part.count p net state (Err WorkLimitExceeded)
+Steps ex t w p net part state (Done v) = Walks ex t w part.first part.count p net state (Ok v)
 Steps ex t w p net part state (Split h) = Halved w part.first part.count p h × (contributes part.lower t (gap_of_float state.least) ≡ true) × (1 < part.count)
 
 -- the words hold k exemptions

@@ -1,5 +1,7 @@
 -- What only inner contracts cite: the rows of one orientation as wires that can be swept, and both orientations.
-use Rattle.std.specs.Prelude.{◌≡◌, Bool, List, ℕ, ◌+◌, ◌*◌, ◌≤◌, ◌<◌, max, T, Float, length, drop}
+use Rattle.drawing.specs.declared.refusal.Refusal.TheVariants.{WorkLimitExceeded}
+use Rattle.drawing.specs.declared.refusal.Refusal.{Refusal}
+use Rattle.std.specs.Prelude.{◌≡◌, Bool, List, ℕ, ◌+◌, ◌*◌, ◌≤◌, ◌<◌, max, T, Float, length, drop, Option, Result, Ok, Err}
 use Rattle.std.specs.Float.{binary64}
 use Rattle.std.specs.Float.Ieee.{fits, add}
 use Rattle.laws.specs.Lists.{Mem}
@@ -10,14 +12,11 @@ use Rattle.floats.specs.TotalOrder.{key_of, float_at}
 use Rattle.floats.specs.Grid.{on_grid, unit}
 use Rattle.drawing.specs.Entries.{SegmentColumns, segments}
 use Rattle.drawing.specs.Inner.Lengths.{SegmentsAgree}
-use Rattle.drawing.specs.declared.gap.Gap.{Gap}
 use Rattle.drawing.specs.Gaps.{lesser_gap}
 use Rattle.rows.specs.Rows.{Row, rows_in_order, oriented}
 use Rattle.rows.specs.Inner.Tables.{RowsOrdered}
 use Rattle.congestion.specs.declared.report.ParallelCongestion.{ParallelCongestion}
 use Rattle.congestion.specs.declared.found.Found.{Found}
-use Rattle.congestion.specs.declared.found.Swept.{Swept}
-use Rattle.congestion.specs.declared.found.Swept.TheVariants.{Went, Spent}
 use Rattle.congestion.specs.Wires.{Wire, cutoff_of}
 
 -- the wire of a row
@@ -66,9 +65,9 @@ pub record AtColumns (words wanted : ℕ) (c : SegmentColumns) : Type 0 where
   pub proper : (r : Row) → Mem r (oriented wanted (segments c)) → Proper r
 
 -- the code's answer for the outcome of figures within an allowance
-unfoldable pub found_of : Outcome (ParallelCongestion × Gap) → Swept
-found_of spent = Spent
-found_of (left p m) = Went (record {
+unfoldable pub found_of : Outcome (ParallelCongestion × (Option Float)) → (Result Found Refusal)
+found_of spent = (Err WorkLimitExceeded)
+found_of (left p m) = Ok (record {
   congested_length = p.0.congested_length;
   pair_overlap_length = p.0.pair_overlap_length;
   peak_close_neighbors = p.0.peak_close_neighbors;

@@ -1,5 +1,7 @@
 -- What only inner contracts cite: an event's wire meets the active wires within the cutoff, one visit each.
-use Rattle.std.specs.Prelude.{◌≡◌, Bool, true, false, ◌&&◌, cond, List, map, ℕ, ◌+◌, ◌-◌, ◌*◌, ◌≤◌, ◌<◌, max, eqb, ltb, Float, length, get_or, take, drop, set}
+use Rattle.drawing.specs.declared.refusal.Refusal.TheVariants.{WorkLimitExceeded}
+use Rattle.drawing.specs.declared.refusal.Refusal.{Refusal}
+use Rattle.std.specs.Prelude.{◌≡◌, Bool, true, false, ◌&&◌, cond, List, map, ℕ, ◌+◌, ◌-◌, ◌*◌, ◌≤◌, ◌<◌, max, eqb, ltb, Float, length, get_or, take, drop, set, Option, Result, Ok, Err}
 use Rattle.std.proofs.Math.Option.{Option, none, some}
 use Rattle.std.specs.Float.{nan}
 use Rattle.std.specs.Float.Ieee.{lt}
@@ -9,8 +11,6 @@ use Rattle.floats.specs.Values.{plus_zero, lesser_of, gap_of}
 use Rattle.floats.specs.TotalOrder.{float_at}
 use Rattle.floats.specs.Grid.{of_units}
 use Rattle.density_call.specs.declared.meet.Meeting.{Meeting}
-use Rattle.density_call.specs.declared.meet.Met.{Met}
-use Rattle.density_call.specs.declared.meet.Met.TheVariants.{Went, Spent}
 use Rattle.congestion.specs.Wires.{Wire}
 use Rattle.congestion.specs.Walk.{WireState, State, visited, neighbor, neighbors, least_here, risen, fallen}
 use Rattle.congestion.specs.Inner.Keys.{Representable}
@@ -61,12 +61,12 @@ abbrev pub least_float : Option ℕ → Float
 least_float none = nan
 least_float (some n) = of_units n
 
-abbrev pub Meets : Bool → List ℕ → List ℕ → ℕ → ℕ → Float → ℕ → Met → Type 0
+abbrev pub Meets : Bool → List ℕ → List ℕ → ℕ → ℕ → Float → ℕ → (Result Meeting Refusal) → Type 0
 Meets starts s t n j least allowance r =
     (c : ℕ) (L : List Wire) (st : State) (m : Option ℕ) → length L ≡ n → Tabled c L s → Stored L st (drop (8 * n) s) → least ≡ least_float m → Representable m
-    → (allowance < visits_of c L j st → r ≡ Spent)
+    → (allowance < visits_of c L j st → r ≡ (Err WorkLimitExceeded))
     × (visits_of c L j st ≤ allowance
-    → (r ≡ Went (record {
+    → (r ≡ Ok (record {
       neighbors = neighbors c (item_at L j) st;
       changed = count (λ x. neighbor c (item_at L j).wire x && eqb x.neighbors (changing_count starts)) st.wires;
       highest = topmost starts (neighbor c (item_at L j).wire) st.wires;

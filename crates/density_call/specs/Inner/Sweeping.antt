@@ -1,5 +1,7 @@
 -- What only inner contracts cite: the state of the sweep over one orientation's wires, what each event makes of it, and the outcome of all events.
-use Rattle.std.specs.Prelude.{◌≡◌, true, not, ◌&&◌, List, ◌++◌, ℕ, ◌+◌, ◌-◌, ◌*◌, ◌^◌, ◌≤◌, ◌<◌, max, pos, eqb, Float, length, get_or, take, drop, set}
+use Rattle.drawing.specs.declared.refusal.Refusal.TheVariants.{WorkLimitExceeded}
+use Rattle.drawing.specs.declared.refusal.Refusal.{Refusal}
+use Rattle.std.specs.Prelude.{◌≡◌, true, not, ◌&&◌, List, ◌++◌, ℕ, ◌+◌, ◌-◌, ◌*◌, ◌^◌, ◌≤◌, ◌<◌, max, pos, eqb, Float, length, get_or, take, drop, set, Result, Ok, Err}
 use Rattle.std.specs.Bool.{beq}
 use Rattle.std.specs.Float.{binary64}
 use Rattle.std.specs.Float.Ieee.{add, sub, mul, of_int}
@@ -10,10 +12,6 @@ use Rattle.floats.specs.TotalOrder.{float_at}
 use Rattle.floats.specs.Grid.{of_units}
 use Rattle.density_call.specs.declared.meet.Meeting.{Meeting}
 use Rattle.density_call.specs.declared.sweep.Sweeping.{Sweeping}
-use Rattle.density_call.specs.declared.sweep.Handled.{Handled}
-use Rattle.density_call.specs.declared.sweep.Handled.TheVariants.{Went, Spent}
-use Rattle.congestion.specs.declared.found.Swept.{Swept}
-use Rattle.congestion.specs.declared.found.Swept.TheVariants.{Went as Done, Spent as Over}
 use Rattle.congestion.specs.Wires.{Wire}
 use Rattle.congestion.specs.Walk.{Item, WireEvent, WireState, State, at, neighbor, neighbors, was_congested, step, gap_of_units}
 use Rattle.congestion.specs.Inner.Keys.{Key, Representable}
@@ -111,21 +109,21 @@ pub record AtEvent (s : List ℕ) (n e : ℕ) (state : Sweeping) : Type 0 where
   pub due : Due c st (event_at L e)
 
 -- the sweep continued to the state st, with the scratch t and m remaining visits
-pub record Onward (c : ℕ) (L : List Wire) (n : ℕ) (st : State) (t : List ℕ) (m : ℕ) (r : Handled) : Type 0 where
+pub record Onward (c : ℕ) (L : List Wire) (n : ℕ) (st : State) (t : List ℕ) (m : ℕ) (r : (Result Sweeping Refusal)) : Type 0 where
   pub to : Sweeping
-  pub went : r ≡ Went to
+  pub went : r ≡ Ok to
   pub remaining : to.remaining ≡ m
   pub follows : Follows to st
   pub tabled : Tabled c L t
   pub stored : Stored L st (drop (8 * n) t)
 
 -- the outcome of the event e in the state st, with m remaining visits: a step of the sweep, where its visits can be paid; the scratch becomes t
-abbrev pub Steps : ℕ → List Wire → ℕ → State → WireEvent → List ℕ → ℕ → Handled → Type 0
+abbrev pub Steps : ℕ → List Wire → ℕ → State → WireEvent → List ℕ → ℕ → (Result Sweeping Refusal) → Type 0
 Steps c L n st e t m r =
-    (m < (step c st e).cost → r ≡ Spent) × ((step c st e).cost ≤ m → Onward c L n (step c st e).value t (m - (step c st e).cost) r)
+    (m < (step c st e).cost → r ≡ (Err WorkLimitExceeded)) × ((step c st e).cost ≤ m → Onward c L n (step c st e).value t (m - (step c st e).cost) r)
 
 -- event e of n wires: the scratch s becomes t
-abbrev pub Handles : List ℕ → List ℕ → ℕ → ℕ → Sweeping → Handled → Type 0
+abbrev pub Handles : List ℕ → List ℕ → ℕ → ℕ → Sweeping → (Result Sweeping Refusal) → Type 0
 Handles s t n e state r = (a : AtEvent s n e state) → Steps a.c a.L n a.st (event_at a.L e) t state.remaining r
 
 -- ---- the sweep may begin: the tables are made, and the words after them are cleared
@@ -142,9 +140,9 @@ pub record AtFirst (s : List ℕ) (n : ℕ) : Type 0 where
   pub alike : (v w : Wire) → Mem v L → Mem w L → beq v.horizontal w.horizontal ≡ true
 
 -- the code's answer for the outcome of a sweep within the allowance
-unfoldable pub swept_of : Outcome State → Swept
-swept_of spent = Over
-swept_of (left st m) = Done (record {
+unfoldable pub swept_of : Outcome State → (Result Found Refusal)
+swept_of spent = (Err WorkLimitExceeded)
+swept_of (left st m) = Ok (record {
   congested_length = of_units st.congested_length;
   pair_overlap_length = of_units st.pair_overlap_length;
   peak_close_neighbors = st.peak_close_neighbors;

@@ -1,6 +1,6 @@
 -- Entries of one width in sequence: what the loops over a list of the file use.
-use Rattle.std.specs.Prelude.{List, [], ◌∷◌, ℕ, zero, suc, ◌+◌, ◌*◌, ◌≤◌, ◌<◌, length, drop}
-use Rattle.file.specs.declared.scan.ListCount.{ListCount}
+use Rattle.drawing.specs.declared.refusal.Refusal.{Refusal}
+use Rattle.std.specs.Prelude.{List, [], ◌∷◌, ℕ, zero, suc, ◌+◌, ◌*◌, ◌≤◌, ◌<◌, length, drop, Result}
 use Rattle.file.specs.declared.scan.ListCount.TheVariants as answers
 use Rattle.file.specs.Reading.{Read, got, refused}
 
@@ -10,7 +10,7 @@ places width zero l = []
 places width (suc n) l = l ∷ places width n (drop width l)
 
 -- how many entries a list has, or why it is refused
-unfoldable pub count_of : {A : Type 0} → Read (List A) → ListCount
+unfoldable pub count_of : {A : Type 0} → Read (List A) → (Result ℕ Refusal)
 count_of (got entries rest) = answers.Entries (length entries)
 count_of (refused r) = answers.Refused r
 

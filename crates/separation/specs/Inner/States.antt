@@ -1,20 +1,12 @@
 -- What only the contracts of inner functions cite: the state of the sweep as the code holds it, what changes the figures, and the answers within an allowance.
-use Rattle.std.specs.Prelude.{◌≡◌, Bool, ℕ, ◌*◌, ltb, Float}
+use Rattle.drawing.specs.declared.refusal.Refusal.{Refusal}
+use Rattle.std.specs.Prelude.{◌≡◌, Bool, ℕ, ◌*◌, ltb, Float, Some, Result, Ok, Err}
 use Rattle.std.specs.Float.{nan}
 use Rattle.laws.specs.Inner.Allowance.{Outcome, spent, left, reply}
 use Rattle.drawing.specs.declared.refusal.Refusal.TheVariants.{WorkLimitExceeded}
-use Rattle.drawing.specs.declared.gap.Gap.TheVariants.{Present}
 use Rattle.drawing.specs.Inner.LeastFloats.{gap_of_float, least_with}
-use Rattle.separation.specs.declared.report.SeparationAnswer.{SeparationAnswer}
-use Rattle.separation.specs.declared.report.SeparationAnswer.TheVariants.{Refused}
-use Rattle.separation.specs.declared.search.Charge.{Charge}
-use Rattle.separation.specs.declared.search.Charge.TheVariants.{Paid, Spent as Unpaid}
 use Rattle.separation.specs.declared.state.Sweeping.{Sweeping}
-use Rattle.separation.specs.declared.state.Handled.{Handled}
-use Rattle.separation.specs.declared.state.Handled.TheVariants.{Went, Spent}
 use Rattle.separation.specs.declared.found.Found.{Found}
-use Rattle.separation.specs.declared.found.Swept.{Swept}
-use Rattle.separation.specs.declared.found.Swept.TheVariants.{Went as Done, Spent as Over}
 use Rattle.separation.specs.Figures.{Figures}
 use Rattle.separation.specs.Walk.{lesser_figures}
 use Rattle.separation.specs.Answer.{accepted}
@@ -28,9 +20,9 @@ abbrev pub at_start : ℕ → Sweeping
 at_start allowance = record { minimum = nan; minimum_positive = nan; remaining = allowance }
 
 -- the outcome of a run within the allowance, from the code's answer while the sweep runs
-unfoldable pub outcome_of : Handled → Outcome Figures
-outcome_of Spent = spent
-outcome_of (Went s) = left (met_by s) s.remaining
+unfoldable pub outcome_of : (Result Sweeping Refusal) → Outcome Figures
+outcome_of (Err WorkLimitExceeded) = spent
+outcome_of (Ok s) = left (met_by s) s.remaining
 
 -- what the sweep found once its last event is handled
 abbrev pub found_in : Sweeping → Found
@@ -41,26 +33,26 @@ abbrev pub found_by : Found → Figures
 found_by f = record { least = f.minimum; least_nonzero = f.minimum_positive }
 
 -- the code's answer for the outcome of one whole sweep, or of both, within the allowance
-unfoldable pub swept_of : Outcome Figures → Swept
-swept_of spent = Over
-swept_of (left f m) = Done (record { minimum = f.least; minimum_positive = f.least_nonzero; remaining = m })
+unfoldable pub swept_of : Outcome Figures → (Result Found Refusal)
+swept_of spent = (Err WorkLimitExceeded)
+swept_of (left f m) = Ok (record { minimum = f.least; minimum_positive = f.least_nonzero; remaining = m })
 
 -- a gap joins both figures, as in `other_line` of Walk.antt
 abbrev pub with_gap : Float → Figures → Figures
-with_gap x f = let g = Present x in lesser_figures f (record { least = g; least_nonzero = g })
+with_gap x f = let g = Some x in lesser_figures f (record { least = g; least_nonzero = g })
 
 -- the same for a state, with m remaining visits
 abbrev pub gap_met : Float → ℕ → Sweeping → Sweeping
 gap_met gap m s = record { minimum = least_with s.minimum gap; minimum_positive = least_with s.minimum_positive gap; remaining = m }
 
 -- the figures of a state, with the remaining visits after a `set`
-abbrev pub charged_to : Sweeping → Charge → Handled
-charged_to s Unpaid = Spent
-charged_to s (Paid m) = Went (record { minimum = s.minimum; minimum_positive = s.minimum_positive; remaining = m })
+abbrev pub charged_to : Sweeping → (Result ℕ Refusal) → (Result Sweeping Refusal)
+charged_to s (Err WorkLimitExceeded) = (Err WorkLimitExceeded)
+charged_to s (Ok m) = Ok (record { minimum = s.minimum; minimum_positive = s.minimum_positive; remaining = m })
 
 -- the answer of a call whose checks passed and whose walk ended with r
-abbrev pub Answers : Swept → ℕ → SeparationAnswer → Type 0
-Answers r allowance a = (o : Outcome Figures) → r ≡ swept_of o → a ≡ reply accepted (Refused WorkLimitExceeded) allowance o
+abbrev pub Answers : (Result Found Refusal) → ℕ → (Result ParallelSeparation Refusal) → Type 0
+Answers r allowance a = (o : Outcome Figures) → r ≡ swept_of o → a ≡ reply accepted (Err WorkLimitExceeded) allowance o
 
 -- the allowance is below five visits for each segment that is swept, the least that they cost
 unfoldable pub too_few : ℕ → ℕ → Bool

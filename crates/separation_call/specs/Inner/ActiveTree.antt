@@ -1,6 +1,8 @@
 -- What only inner contracts cite: the tree of active nets as words of the scratch, and what its summaries decide.
 -- The tree over 2 to the power H leaves takes twice as many words; node k's summary is word k, word 0 stays unused.
-use Rattle.std.specs.Prelude.{◌≡◌, ◌⊎◌, Bool, List, ℕ, ◌+◌, ◌*◌, ◌^◌, ◌≤◌, ◌<◌, length, get_or}
+use Rattle.drawing.specs.declared.refusal.Refusal.TheVariants.{WorkLimitExceeded}
+use Rattle.drawing.specs.declared.refusal.Refusal.{Refusal}
+use Rattle.std.specs.Prelude.{◌≡◌, ◌⊎◌, Bool, List, ℕ, ◌+◌, ◌*◌, ◌^◌, ◌≤◌, ◌<◌, length, get_or, Result, Ok, Err}
 use Rattle.laws.specs.Inner.Allowance.{Outcome, spent, left}
 use Rattle.rows.specs.Rows.{Row}
 use Rattle.separation.specs.declared.summary.NetSummary.{NetSummary}
@@ -8,8 +10,6 @@ use Rattle.separation.specs.Searches.{other_in}
 use Rattle.separation.specs.Inner.Summaries.{summary_has_other, summary_of_word}
 use Rattle.separation.specs.declared.search.OtherNet.{OtherNet}
 use Rattle.separation.specs.declared.search.OtherNet.TheVariants.{Known, Spent}
-use Rattle.separation.specs.declared.search.Charge.{Charge}
-use Rattle.separation.specs.declared.search.Charge.TheVariants.{Paid, Spent as Unpaid}
 
 -- node k's summary
 abbrev pub summary_at : List ℕ → ℕ → NetSummary
@@ -21,9 +21,9 @@ other_net_of spent = Spent
 other_net_of (left b m) = Known b m
 
 -- the answer of a `set`, by the outcome of its run within an allowance
-unfoldable pub charge_of : Outcome (Unit {0}) → Charge
-charge_of spent = Unpaid
-charge_of (left u m) = Paid m
+unfoldable pub charge_of : Outcome (Unit {0}) → (Result ℕ Refusal)
+charge_of spent = (Err WorkLimitExceeded)
+charge_of (left u m) = Ok m
 
 -- ---- the nodes of a tree of H levels: node k over h levels, whose first leaf is s
 pub record NodeAt (H h k s : ℕ) : Type 0 where

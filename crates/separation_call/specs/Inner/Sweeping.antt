@@ -1,6 +1,7 @@
 -- What only inner contracts cite: the state of the sweep, and what each of its steps makes of it.
 -- After the tables of one orientation's n segments (9 n words) come the words that the sweep changes: 3 n that count the active nets, and the tree.
-use Rattle.std.specs.Prelude.{◌≡◌, List, [], ◌∷◌, ℕ, ◌+◌, ◌*◌, ◌^◌, ◌≤◌, ◌<◌, length, get_or, take, drop}
+use Rattle.drawing.specs.declared.refusal.Refusal.{Refusal}
+use Rattle.std.specs.Prelude.{◌≡◌, List, [], ◌∷◌, ℕ, ◌+◌, ◌*◌, ◌^◌, ◌≤◌, ◌<◌, length, get_or, take, drop, Option, Result, Ok}
 use Rattle.std.proofs.Math.Option.{Option}
 use Rattle.laws.specs.Lists.{Mem}
 use Rattle.laws.specs.Inner.Sort.{Sorted}
@@ -20,8 +21,6 @@ use Rattle.separation.specs.Lines.{lines, index}
 use Rattle.separation.specs.Searches.{set_run}
 use Rattle.separation.specs.Walk.{Sweep, remove, other_line, with_nearest, starts_at, ends_at, step}
 use Rattle.separation.specs.declared.state.Sweeping.{Sweeping}
-use Rattle.separation.specs.declared.state.Handled.{Handled}
-use Rattle.separation.specs.declared.state.Handled.TheVariants.{Went}
 use Rattle.separation_call.specs.Inner.ActiveTree.{summary_at, Leaves, Covers}
 use Rattle.separation_call.specs.Inner.ActiveNets.{Slots, Counted, Countable, Endable}
 use Rattle.separation_call.specs.Inner.Prepared.{Prepared}
@@ -57,7 +56,7 @@ pub record Lined (ls : List ℕ) (H : ℕ) (active : List Row) (x : Row) (line n
   pub of : x.net ≡ net
   pub gaps : Gapped ls
 
-abbrev pub WithNearest : List ℕ → List ℕ → ℕ → ℕ → ℕ → Sweeping → Handled → Type 0
+abbrev pub WithNearest : List ℕ → List ℕ → ℕ → ℕ → ℕ → Sweeping → (Result Sweeping Refusal) → Type 0
 WithNearest tree fixed leaves line net state r =
     (ls : List ℕ) (H : ℕ) (active : List Row) (x : Row) → leaves ≡ 2 ^ H → Covers ls active (summary_at tree) H → take (length ls) fixed ≡ ls → Lined ls H active x line net
     → outcome_of r ≡ within state.remaining (with_nearest ls H active (met_by state) x)
@@ -88,19 +87,19 @@ pub record Leavable (n leaves slot line net : ℕ) (w : List ℕ) : Type 0 where
   pub inside : line < leaves
 
 -- a `set` is paid from the remaining visits, and the figures stay
-abbrev pub Pays : ℕ → Sweeping → Handled → Type 0
+abbrev pub Pays : ℕ → Sweeping → (Result Sweeping Refusal) → Type 0
 Pays leaves state r = (H : ℕ) → leaves ≡ 2 ^ H → outcome_of r ≡ onward (within state.remaining (set_run H)) (λ done m. left (met_by state) m)
 
 -- a segment is entered, or taken out: where the `set` was paid the words w became v
-abbrev pub Entered : ℕ → ℕ → ℕ → ℕ → ℕ → List ℕ → List ℕ → Handled → Type 0
+abbrev pub Entered : ℕ → ℕ → ℕ → ℕ → ℕ → List ℕ → List ℕ → (Result Sweeping Refusal) → Type 0
 Entered n leaves slot line net w v r =
     (b : ℕ) (ls : List ℕ) (H : ℕ) (line_of net_of slot_of : ℕ → ℕ) (active : List Row) (x : Row) (j : ℕ) (to : Sweeping) → leaves ≡ 2 ^ H → At n ls line_of net_of slot_of x j slot line net
-    → Working n b ls H line_of net_of slot_of active w → r ≡ Went to → Working n (b + 1) ls H line_of net_of slot_of (x ∷ active) v
+    → Working n b ls H line_of net_of slot_of active w → r ≡ Ok to → Working n (b + 1) ls H line_of net_of slot_of (x ∷ active) v
 
-abbrev pub TakenOut : ℕ → ℕ → ℕ → ℕ → ℕ → List ℕ → List ℕ → Handled → Type 0
+abbrev pub TakenOut : ℕ → ℕ → ℕ → ℕ → ℕ → List ℕ → List ℕ → (Result Sweeping Refusal) → Type 0
 TakenOut n leaves slot line net w v r =
     (b : ℕ) (ls : List ℕ) (H : ℕ) (line_of net_of slot_of : ℕ → ℕ) (active : List Row) (x : Row) (j : ℕ) (to : Sweeping) → leaves ≡ 2 ^ H → At n ls line_of net_of slot_of x j slot line net
-    → Working n b ls H line_of net_of slot_of active w → Mem x active → r ≡ Went to → Working n (b + 1) ls H line_of net_of slot_of (remove x active) v
+    → Working n b ls H line_of net_of slot_of active w → Mem x active → r ≡ Ok to → Working n (b + 1) ls H line_of net_of slot_of (remove x active) v
 
 -- ---- the whole scratch after b events: the tables stay as they were made, in F; the sweep changes the words after them
 pub record Ready (l : List Row) (F : List ℕ) (H b : ℕ) (active : List Row) (s : List ℕ) : Type 0 where
@@ -138,17 +137,17 @@ abbrev pub figures_of : Outcome Sweep → Outcome Figures
 figures_of o = onward o (λ t m. left t.met m)
 
 -- what a start makes of the scratch s, which becomes t, and of the state
-abbrev pub Begins : List ℕ → List ℕ → ℕ → ℕ → ℕ → Sweeping → Handled → Type 0
+abbrev pub Begins : List ℕ → List ℕ → ℕ → ℕ → ℕ → Sweeping → (Result Sweeping Refusal) → Type 0
 Begins s t n leaves j state r =
     (l : List Row) (F : List ℕ) (H b : ℕ) (active : List Row) → length l ≡ n → leaves ≡ 2 ^ H → Ready l F H b active s
     → (outcome_of r ≡ figures_of (within state.remaining (starts_at (lines l) H (record { active = active; met = met_by state }) (row_from l j))))
-    × ((to : Sweeping) → r ≡ Went to → Ready l F H (b + 1) (row_from l j ∷ active) t)
+    × ((to : Sweeping) → r ≡ Ok to → Ready l F H (b + 1) (row_from l j ∷ active) t)
 
-abbrev pub Finishes : List ℕ → List ℕ → ℕ → ℕ → ℕ → Sweeping → Handled → Type 0
+abbrev pub Finishes : List ℕ → List ℕ → ℕ → ℕ → ℕ → Sweeping → (Result Sweeping Refusal) → Type 0
 Finishes s t n leaves j state r =
     (l : List Row) (F : List ℕ) (H b : ℕ) (active : List Row) → length l ≡ n → leaves ≡ 2 ^ H → Ready l F H b active s → Mem (row_from l j) active
     → (outcome_of r ≡ figures_of (within state.remaining (ends_at H (record { active = active; met = met_by state }) (row_from l j))))
-    × ((to : Sweeping) → r ≡ Went to → Ready l F H (b + 1) (remove (row_from l j) active) t)
+    × ((to : Sweeping) → r ≡ Ok to → Ready l F H (b + 1) (remove (row_from l j) active) t)
 
 -- an event whose number is below 2 n; a segment that ends is active
 pub record AtEvent (s : List ℕ) (n leaves e : ℕ) : Type 0 where
@@ -164,11 +163,11 @@ pub record AtEvent (s : List ℕ) (n leaves e : ℕ) : Type 0 where
   pub early : b < 8192
   pub there : e < n → Mem (row_from l e) active
 
-abbrev pub Handles : List ℕ → List ℕ → ℕ → ℕ → ℕ → Sweeping → Handled → Type 0
+abbrev pub Handles : List ℕ → List ℕ → ℕ → ℕ → ℕ → Sweeping → (Result Sweeping Refusal) → Type 0
 Handles s t n leaves e state r =
     (l : List Row) (F : List ℕ) (H b : ℕ) (active : List Row) → length l ≡ n → leaves ≡ 2 ^ H → Ready l F H b active s → (e < n → Mem (row_from l e) active)
     → let c = step (lines l) H (record { active = active; met = met_by state }) (event_from l e) in
-    (outcome_of r ≡ figures_of (within state.remaining c)) × ((to : Sweeping) → r ≡ Went to → Ready l F H (b + 1) c.value.active t)
+    (outcome_of r ≡ figures_of (within state.remaining c)) × ((to : Sweeping) → r ≡ Ok to → Ready l F H (b + 1) c.value.active t)
 
 -- the sweep may begin: no event is handled yet
 pub record AtFirst (s : List ℕ) (n leaves : ℕ) : Type 0 where

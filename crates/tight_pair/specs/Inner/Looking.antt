@@ -1,8 +1,6 @@
 -- What only the contracts of the inner functions around the tight pair cite: the best pair so far, and how each pair changes it.
-use Rattle.std.specs.Prelude.{Bool, true, false, cond, List, [], ◌∷◌, ℕ, suc, Float}
+use Rattle.std.specs.Prelude.{Bool, true, false, cond, List, [], ◌∷◌, ℕ, suc, Float, Option, Some, None}
 use Rattle.std.specs.Float.Ieee.{lt}
-use Rattle.drawing.specs.declared.gap.Gap.{Gap}
-use Rattle.drawing.specs.declared.gap.Gap.TheVariants.{Absent, Present}
 use Rattle.drawing.specs.Entries.{Segment, Node, Exemption}
 use Rattle.boxes.specs.declared.aabb.Aabb.{Aabb}
 use Rattle.tight_pair.specs.declared.Best.{Best}
@@ -10,18 +8,18 @@ use Rattle.boxes.specs.Boxes.{node_box, segment_box, distance}
 use Rattle.clearance.specs.Figures.{exempt}
 
 -- the distance is strictly below the least so far
-unfoldable pub nearer : Float → Gap → Bool
-nearer d Absent = true
-nearer d (Present least) = lt d least
+unfoldable pub nearer : Float → (Option Float) → Bool
+nearer d None = true
+nearer d (Some least) = lt d least
 
 -- no pair yet
 abbrev pub no_pair : Best
-no_pair = record { least = Absent; segment = 0; node = 0 }
+no_pair = record { least = None; segment = 0; node = 0 }
 
 -- the best so far with segment i and node j, which count unless they are exempt
 unfoldable pub best_with : Bool → Float → ℕ → ℕ → Best → Best
 best_with true d i j b = b
-best_with false d i j b = cond (nearer d b.least) (record { least = Present d; segment = i; node = j }) b
+best_with false d i j b = cond (nearer d b.least) (record { least = Some d; segment = i; node = j }) b
 
 -- each entry in turn with its position, counted from i on
 unfoldable pub in_turn : {A S : Type 0} → (ℕ → A → S → S) → ℕ → List A → S → S

@@ -1,4 +1,5 @@
 -- `density_call::measure::walk_segments` meets its contract: a cutoff of 0 or less; too few visits for the segments; else horizontal segments, then vertical ones with the remaining visits. Assumes nothing.
+use Rattle.std.specs.Prelude.{Ok}
 use mathlib.Core.Path.{◌≡◌, sym, ◌∙◌, subst}
 use mathlib.Core.Bool.{false}
 use Prim.Native.Nat.{ℕ}
@@ -8,7 +9,6 @@ use Rattle.laws.specs.Lists.{All}
 use Rattle.floats.specs.Values.{plus_zero}
 use Rattle.drawing.specs.Entries.{SegmentColumns, segment_columns, segments}
 use Rattle.drawing.specs.Refusals.{first_of}
-use Rattle.drawing.specs.declared.refusal.Check.TheVariants.{Passed}
 use Rattle.drawing.specs.Held.{Binary64, SegmentHeld}
 use Rattle.drawing.proofs.ListOrders.{segments-held}
 use Rattle.congestion.specs.Conditions.{congestion_conditions}
@@ -26,7 +26,7 @@ record Ready (s : SegmentColumns) (cutoff : Float) (words : ℕ) : Type 0 where
   sweeps : Cutoff cutoff
   rows_of : (o : ℕ) → AtColumns words o s
 
-ready : (s : SegmentColumns) (cutoff : Float) (words : ℕ) → first_of (congestion_conditions s cutoff words) ≡ Passed → le cutoff plus_zero ≡ false
+ready : (s : SegmentColumns) (cutoff : Float) (words : ℕ) → first_of (congestion_conditions s cutoff words) ≡ (Ok tt) → le cutoff plus_zero ≡ false
     → ((i : ℕ) → Binary64 (get_or s.fixed i nan)) → ((i : ℕ) → Binary64 (get_or s.start i nan)) → ((i : ℕ) → Binary64 (get_or s.end i nan)) → Ready s cutoff words
 ready s cutoff words passed above f b e =
     let held : All SegmentHeld (segments s) = segments-held s (agree s cutoff words passed) f b e in

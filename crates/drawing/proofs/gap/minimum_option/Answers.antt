@@ -1,6 +1,6 @@
 -- `drawing::gap::minimum_option` meets its contract: case by case. Assumes nothing.
+use Rattle.std.specs.Prelude.{Some}
 use mathlib.Core.Path.{ap}
-use Rattle.drawing.specs.declared.gap.Gap.TheVariants.{Present}
 use Rattle.drawing.specs.Gaps.{lesser_gap}
 use Rattle.drawing.proofs.gap.minimum_option.Goals as goal
 
@@ -14,4 +14,4 @@ returns-in-Absent-right c = rw (c.in-Present.is, c.in-Absent-right.is)
 
 pub returns-in-Present-right : goal.returns-in-Present-right
 unfolding lesser_gap
-returns-in-Present-right c = rw (c.in-Present.is, c.in-Present-right.is) (ap Present c.lesser.ensures)
+returns-in-Present-right c = rw (c.in-Present.is, c.in-Present-right.is) (ap Some c.lesser.ensures)
