@@ -1,4 +1,5 @@
 -- The code's search for the greatest member, word by word from the rest down. Assumes nothing.
+use Rattle.std.specs.Prelude.{Some, None}
 use mathlib.Core.Path.{◌≡◌, sym, ap, ◌∙◌}
 use mathlib.Core.Logic.{inl, inr}
 use mathlib.Core.List.{List}
@@ -6,7 +7,6 @@ use Prim.Native.Nat.{ℕ, suc, ◌+◌, ◌-◌, ◌*◌, ◌/◌, ◌%◌, ◌^
 use native.Mathlib.Omega.{arith}
 use lib.ListN.{length, get_or}
 use Rattle.laws.proofs.Tests.{le_or_lt}
-use Rattle.bitset.specs.declared.Last.TheVariants.{Found, Empty}
 use Rattle.bitset.specs.Inner.Members.{bit_at, member, rest_below, words_with, last_with}
 use Rattle.bitset.proofs.Digits.{bit-zero, shift_one, top_on, top_last, top_below, cut_top}
 use Rattle.bitset.proofs.Lasts.{NoneIn, last_none, last-is}
@@ -47,7 +47,7 @@ module _ {w : List ℕ} {to rest at bits : ℕ} (s : Looking w to rest at bits) 
       none = λ p l h. none_here p (omega arith) h;
     }
 
-    pub looking_ends : (from : ℕ) → at ≤ from / 64 → Empty ≡ last_with w from to rest
+    pub looking_ends : (from : ℕ) → at ≤ from / 64 → None ≡ last_with w from to rest
     unfolding last_with
     looking_ends from h = sym (last_none words from (64 * length words) (λ p l g. none_here p (omega arith) g))
 
@@ -79,15 +79,15 @@ module _ {w : List ℕ} {to rest at bits : ℕ} (s : Looking w to rest at bits) 
         let b : (at * 64 + t) % 64 ≡ t = omega (arith, top_short) in
         rw (a, b) (ap (λ (z : ℕ). bits - z) top_shift ∙ sym (cut_top bits t least most) ∙ ap (λ (x : ℕ). x % 2 ^ t) (sym s.word))
 
-    pub looking_found : (from : ℕ) → from ≤ at * 64 + t → Found (at * 64 + t) (bits - 1 * 2 ^ t % 2 ^ 64) ≡ last_with w from to rest
+    pub looking_found : (from : ℕ) → from ≤ at * 64 + t → Some (at * 64 + t, bits - 1 * 2 ^ t % 2 ^ 64) ≡ last_with w from to rest
     unfolding last_with
-    looking_found from h = ap (Found (at * 64 + t)) bits_less ∙ sym (last-is words from (64 * length words) (at * 64 + t) (record {
+    looking_found from h = ap (λ (r : ℕ). Some (at * 64 + t, r)) bits_less ∙ sym (last-is words from (64 * length words) (at * 64 + t) (record {
       is_in = bit_here (at * 64 + t) (omega arith) (omega (arith, top_short)) ∙ ap (bit_at bits) (omega arith) ∙ top_on bits t least most;
       from_on = h;
       below = omega (arith, s.inside, top_short, with_length w to rest);
       last = none_above;
     }))
 
-    pub looking_misses : (from : ℕ) → at * 64 + t < from → Empty ≡ last_with w from to rest
+    pub looking_misses : (from : ℕ) → at * 64 + t < from → None ≡ last_with w from to rest
     unfolding last_with
     looking_misses from h = sym (last_none words from (64 * length words) (λ p l g. none_above p (omega arith) g))

@@ -5,13 +5,6 @@
 ghost use Rattle.std.specs.Prelude.{◌≡◌, ◌+◌, ◌/◌, ◌^◌, ◌≤◌, ◌<◌, min};
 ghost use Rattle.bitset.specs.Inner.Members.{member, inserted, removed, rest_below, last_with};
 
-// The greatest member of a range, with the rest below it (see `rest_below`), or that the range has none.
-#[derive(Clone, Copy)]
-pub enum Last {
-    Found(usize, u64),
-    Empty,
-}
-
 // Whether an index is in the set.
 pub fn contains(words: &[u64], place: usize) -> bool
     ensures { result ≡ member words.now place }
@@ -70,8 +63,7 @@ fn top_bit(word: u64) -> usize
 fn word_of(count: usize, to: usize) -> usize
     ensures { result ≡ min (to / 64) «count» }
 {
-    let at = to / 64;
-    if at < count { at } else { count }
+    count.min(to / 64)
 }
 
 // The rest below `to`: the word of `to` without the bits from `to` on; 0 beyond the words.
@@ -87,7 +79,7 @@ pub fn rest_below(words: &[u64], to: usize) -> u64
 
 // The greatest member from `from` on and below `to`, given the rest below `to`: `rest` is used in place of the word of `to`. The rest is searched first and then the words below, so it takes constant time and a step for each empty word that it passes.
 // A caller that goes down through a range passes the rest that it was given: while a word has members left, no word is read, and the next search need not wait for a read.
-pub fn last_below(words: &[u64], from: usize, to: usize, rest: u64) -> Last
+pub fn last_below(words: &[u64], from: usize, to: usize, rest: u64) -> Option<(usize, u64)>
     ensures { result ≡ last_with words.now from to rest }
 {
     let first = from / 64;
@@ -95,7 +87,7 @@ pub fn last_below(words: &[u64], from: usize, to: usize, rest: u64) -> Last
     let mut bits = rest;
     while bits == 0 {
         if at <= first {
-            return Last::Empty;
+            return None;
         }
         at -= 1;
         bits = words[at];
@@ -103,8 +95,8 @@ pub fn last_below(words: &[u64], from: usize, to: usize, rest: u64) -> Last
     let top = top_bit(bits);
     let place = at * 64 + top;
     if place < from {
-        return Last::Empty;
+        return None;
     }
     let below = bits - (1u64 << top);
-    Last::Found(place, below)
+    Some((place, below))
 }

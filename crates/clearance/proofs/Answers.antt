@@ -30,7 +30,7 @@ pub record FitCall (s : SegmentColumns) (n : NodeColumns) (t : Float) : Type 0 w
   pub threshold-fit : FitThreshold t
 
 abbrev pub passes : SegmentColumns → NodeColumns → ExemptionColumns → Float → ℕ → Type 0
-passes s n e t words = first_of (clearance_conditions s n e t words) ≡ (Ok tt)
+passes s n e t words = first_of (clearance_conditions s n e t words) ≡ Ok tt
 
 pub fit_call : (s : SegmentColumns) (n : NodeColumns) (e : ExemptionColumns) (t : Float) (words : ℕ) → Lent s n t → passes s n e t words → FitCall s n t
 unfolding clearance_conditions list_conditions entry_conditions

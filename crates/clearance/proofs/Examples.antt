@@ -10,7 +10,7 @@ use Rattle.laws.specs.Charged.{runs, settle}
 use Rattle.floats.specs.TotalOrder.{key, key_of}
 use Rattle.floats.specs.Values.{lesser_of, greater_of}
 use Rattle.drawing.specs.Entries.{SegmentColumns, NodeColumns, ExemptionColumns, segment_columns, node_columns, exemption_columns, segments_of, segments, nodes_of, exemptions_of}
-use Rattle.drawing.specs.Gaps.{gap_from, least_gap, lesser_gap}
+use Rattle.drawing.specs.Gaps.{least_gap, lesser_gap}
 use Rattle.drawing.specs.Orders.{segment_row, node_row, segments_in_order, nodes_in_order}
 use Rattle.drawing.specs.Refusals.{number_of, first_of}
 use Rattle.drawing.specs.Conditions.{differ, too_many, short_scratch, unfit_fields, unfit_segment, unfit_extent, unfit_box, unfit_node, unfit_threshold}
@@ -67,7 +67,7 @@ d-exemptions = exemption_columns (2 ∷ []) (7 ∷ [])
 abbrev measured : SegmentColumns → NodeColumns → ExemptionColumns → Float → ℕ → ℕ × EdgeNodeClearance
 measured s n e threshold allowance = result_of (clearance_answer s n e threshold allowance 160)
 
-abbrev report : (Option Float) → ℕ → ℕ → ℕ × EdgeNodeClearance
+abbrev report : Option Float → ℕ → ℕ → ℕ × EdgeNodeClearance
 report g v n = (0, report_of (record { least = g; violations = v }) n)
 
 -- D's wires along an orientation, each by its ends as they are given (SCOPE 2.8), and D's node upright
@@ -102,5 +102,5 @@ pub record Marked : Type 0 where
   pub i : measured (segment_columns [] [] [] [] []) d-nodes d-exemptions zero 0 ≡ report None 0 0
 
 pub marked : Marked
-unfolding of_bits to_bits add sub lt some_of chosen fold cross row_le insert_by sort_by lesser least runs settle key key_of lesser_of greater_of segments segments_of nodes_of exemptions_of gap_from least_gap lesser_gap segment_row node_row segments_in_order nodes_in_order number_of first_of differ too_many short_scratch unfit_fields unfit_segment unfit_extent unfit_box unfit_node unfit_threshold segments_differ nodes_differ exemptions_differ list_conditions entry_conditions clearance_conditions from_node from_segment node_box segment_box union axis_gap distance exempt distances violates figures indexed indexed_row indexed_in_order horizontal_wider hull bounds_of build tree_of contributes with_pair walk walk_all visit_count accepted all_pairs clearance_answer result_of
+unfolding of_bits to_bits add sub lt some_of chosen fold cross row_le insert_by sort_by lesser least runs settle key key_of lesser_of greater_of segments segments_of nodes_of exemptions_of least_gap lesser_gap segment_row node_row segments_in_order nodes_in_order number_of first_of differ too_many short_scratch unfit_fields unfit_segment unfit_extent unfit_box unfit_node unfit_threshold segments_differ nodes_differ exemptions_differ list_conditions entry_conditions clearance_conditions from_node from_segment node_box segment_box union axis_gap distance exempt distances violates figures indexed indexed_row indexed_in_order horizontal_wider hull bounds_of build tree_of contributes with_pair walk walk_all visit_count accepted all_pairs clearance_answer result_of
 marked = record { d = refl; d-sheet = refl; d-at_2 = refl; d-at_1 = refl; net_2_reversed = (refl, refl); reversed = (refl, refl); upright_reversed = (refl, refl); pruned = refl; g = refl; h = refl; i = refl }

@@ -53,10 +53,10 @@ module _ (l r : Subtree) where
   left-first e = rw e
 
 -- ---- the answer from what the walks returned
-pub answers-spent : (r : (Result Walking Refusal)) (allowance : ℕ) → r ≡ (Err WorkLimitExceeded) → Answers r allowance (Err WorkLimitExceeded)
+pub answers-spent : (r : Result Walking Refusal) (allowance : ℕ) → r ≡ Err WorkLimitExceeded → Answers r allowance (Err WorkLimitExceeded)
 unfolding outcome_of reply
 answers-spent r allowance h = rw h
 
-pub answers-went : (r : (Result Walking Refusal)) (allowance : ℕ) (w : Walking) → r ≡ Ok w → (g : (Option Float)) → g ≡ gap_of_float w.least → (n : ℕ) → n ≡ allowance - w.remaining → Answers r allowance (Ok (record { minimum_clearance = g; violations = w.violations; visits = n }))
+pub answers-went : (r : Result Walking Refusal) (allowance : ℕ) (w : Walking) → r ≡ Ok w → (g : Option Float) → g ≡ gap_of_float w.least → (n : ℕ) → n ≡ allowance - w.remaining → Answers r allowance (Ok (record { minimum_clearance = g; violations = w.violations; visits = n }))
 unfolding outcome_of reply accepted
 answers-went r allowance w h g e n f = rw (h, e, f)

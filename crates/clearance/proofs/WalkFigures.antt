@@ -1,7 +1,6 @@
 -- The walk of one segment over a tree adds the distances of that segment's pairs, and a pruned part has none that would change the figures. Assumes nothing.
-use Rattle.std.specs.Prelude.{Option, Some}
+use Rattle.std.specs.Prelude.{Option, Some, None}
 use Rattle.std.proofs.Common.{◌≡◌, ℕ, ◌+◌, ◌≤◌, Bool, true, false, not, leb, List, [], ◌∷◌, ◌++◌, sym, refl, ap, ◌∙◌, inl, inr, append_assoc, append-nil, le_trans, le_refl, add-zero, add_assoc, arith, ltb-false, le-ltb}
-use mathlib.Core.Option.{Option, none, some}
 use lib.Ieee.{Float, binary64, lt}
 use lib.Ieee.Scale.{overflow}
 use Rattle.laws.specs.Lists.{Mem, All, put, chosen, fold, bit}
@@ -16,7 +15,7 @@ use Rattle.floats.specs.TotalOrder.{key_of}
 use Rattle.floats.proofs.Rank.{mag, rank, Num, lt_rank}
 use Rattle.floats.proofs.Gaps.{Good, good_rank, good_lt}
 use Rattle.drawing.specs.Entries.{Segment, Exemption}
-use Rattle.drawing.specs.Gaps.{gap_from, least_gap, lesser_gap}
+use Rattle.drawing.specs.Gaps.{least_gap, lesser_gap}
 use Rattle.drawing.proofs.GapLaws.{gaps_ranked, least-one, least_join, least-gap-perm}
 use Rattle.boxes.specs.Boxes.{segment_box, distance}
 use Rattle.clearance.specs.Figures.{Figures, exempt}
@@ -81,15 +80,15 @@ module _ (t bound : Float) (seen ds : List Float) (v : ℕ) (q : Num binary64 t)
       (λ x i. (x, append_left x seen ds i, le_refl (mag binary64 x)))
 
   pub stays : contributes bound t (least_gap seen) ≡ false → onwards t seen v ds ≡ sofar seen v
-  unfolding least_gap gap_from contributes
+  unfolding least_gcontributes
   stays e = go (least lt seen) refl (is-least gaps_ranked seen p) e
     where
-      go : (o : Option Float) → least lt seen ≡ o → IsLeast (mag binary64) seen o → contributes bound t (gap_from o) ≡ false → onwards t seen v ds ≡ sofar seen v
-      go none o i e = clash true refl e
-      go (some m) o i e =
+      go : (o : Option Float) → least lt seen ≡ o → IsLeast (mag binary64) seen o → contributes bound t (o) ≡ false → onwards t seen v ds ≡ sofar seen v
+      go None o i e = clash true refl e
+      go (Some m) o i e =
           let a = same-least m (all_mem Good seen p m i.0) i.0 (neither_right (lt bound t) (lt bound m) e) in
           let c = none_under (neither_left (lt bound t) (lt bound m) e) in
-          λ j. record { least = gap_from (a j); violations = (ap (λ (n : ℕ). v + n) c ∙ add-zero v) j }
+          λ j. record { least = (a j); violations = (ap (λ (n : ℕ). v + n) c ∙ add-zero v) j }
 
 -- ---- the walk of one segment
 module _ (ex : List Exemption) (t : Float) (s : Segment) (q : Num binary64 t) (p : FitSegment s) where

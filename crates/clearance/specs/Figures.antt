@@ -26,7 +26,7 @@ unfoldable pub violates : List Exemption → (ℕ → Float) → Segment × Node
 violates ex threshold p = not_exempt ex p && lt (pair_distance p) (threshold p.0.net)
 
 pub record Figures : Type 0 where
-  pub least : (Option Float)
+  pub least : Option Float
   pub violations : ℕ
 
 -- SCOPE 3.5, 3.6: "least distance .., absent if there is none", and the number of violations

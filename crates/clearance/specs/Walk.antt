@@ -12,7 +12,7 @@ use Rattle.clearance.specs.Figures.{Figures, exempt}
 use Rattle.clearance.specs.Tree.{Tree, empty, leaf, branch, bounds_of, tree_of}
 
 -- SCOPE 5.5: `clearance_subtree_can_contribute`: a part whose box is at this distance may still change the figures
-unfoldable pub contributes : Float → Float → (Option Float) → Bool
+unfoldable pub contributes : Float → Float → Option Float → Bool
 contributes lower threshold None = true
 contributes lower threshold (Some least) = lt lower threshold || lt lower least
 

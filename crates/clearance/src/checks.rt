@@ -1,52 +1,34 @@
 // The checks of the call, in the order of SCOPE 7.
 ghost use Rattle.std.specs.Prelude.{◌≡◌};
 ghost use Rattle.drawing.specs.Refusals.{first_of};
-ghost use Rattle.drawing.specs.Entries.{segment_columns, node_columns, exemption_columns};
+ghost use Rattle.drawing.specs.Entries.{lent_segments, lent_nodes, lent_exemptions};
 ghost use Rattle.clearance.specs.Conditions.{clearance_conditions};
 
-use drawing::{Refusal, threshold_unfit};
+use drawing::{Exemptions, Nodes, Refusal, Segments, threshold_unfit};
 use list_checks::{check_entries, check_lists, short_scratch};
 
 // The checks of the lists, the scratch of the given number of words, the entries and the threshold.
 pub fn check_clearance(
-    net: &[u32],
-    orientation: &[u8],
-    fixed: &[f64],
-    start: &[f64],
-    end: &[f64],
-    id: &[u32],
-    x: &[f64],
-    y: &[f64],
-    width: &[f64],
-    height: &[f64],
-    exempt_net: &[u32],
-    exempt_node: &[u32],
+    segments: &Segments<'_>,
+    nodes: &Nodes<'_>,
+    exemptions: &Exemptions<'_>,
     threshold: f64,
     words: usize,
 ) -> Result<(), Refusal>
-    ensures { result ≡ first_of (clearance_conditions (segment_columns net.now orientation.now fixed.now start.now end.now) (node_columns id.now x.now y.now width.now height.now) (exemption_columns exempt_net.now exempt_node.now) threshold words) }
+    ensures { result ≡ first_of (clearance_conditions (lent_segments segments.now) (lent_nodes nodes.now) (lent_exemptions exemptions.now) threshold words) }
 {
     let first = check_lists(
-        net,
-        orientation,
-        fixed,
-        start,
-        end,
-        id,
-        x,
-        y,
-        width,
-        height,
-        exempt_net,
-        exempt_node,
+        segments,
+        nodes,
+        exemptions,
     );
     let Ok(()) = first else {
         return first;
     };
-    if short_scratch(words, net.len(), id.len()) {
+    if short_scratch(words, segments.net.len(), nodes.id.len()) {
         return Err(Refusal::ShortScratch);
     }
-    let second = check_entries(net, orientation, fixed, start, end, id, x, y, width, height);
+    let second = check_entries(segments, nodes);
     let Ok(()) = second else {
         return second;
     };

@@ -63,7 +63,7 @@ module _ (t : Float) (w : List ℕ) (i n : ℕ) (p : Aabb) (marks groups : List 
     onwards = λ ex net l. let e : i + n - i ≡ n = omega arith in record { come = ap (λ (z : ℕ). within from.remaining (runs (leaf_visit ex t net p) (so_far from) (leaves_from w i z))) e };
   }
 
-  module _ (state : Walking) (j : ℕ) (u : Visiting state j) (less : j < i + n) (b : Aabb) (box : b ≡ box_at w (9 * j)) (d : Float) (e : d ≡ distance p b) (r : (Result Walking Refusal))
+  module _ (state : Walking) (j : ℕ) (u : Visiting state j) (less : j < i + n) (b : Aabb) (box : b ≡ box_at w (9 * j)) (d : Float) (e : d ≡ distance p b) (r : Result Walking Refusal)
       (h : outcome_of r ≡ within state.remaining (visit (free (with_pair (member marks (get_or groups j 0)) t d (so_far state))))) where
     now_visited : (ex : List Exemption) (net : ℕ) → MarksOf marks groups w ex net → outcome_of r ≡ within state.remaining (leaf_visit ex t net p (so_far state) (leaf_at w j))
     now_visited ex net l = by_mark marks groups w ex net l j (omega (arith, u.part.inside)) t d state.remaining (so_far state) (outcome_of r) h ∙ ap (λ (z : Float). within state.remaining (visit (free (with_pair (exempt ex net (leaf_at w j).id) t z (so_far state))))) (e ∙ ap (distance p) box)
@@ -75,7 +75,7 @@ module _ (t : Float) (w : List ℕ) (i n : ℕ) (p : Aabb) (marks groups : List 
         let place : suc j ≡ j + 1 = omega arith in
         ap (leaves_from w j) more ∙ ap (λ (z : ℕ). leaf_at w j ∷ leaves_from w z (i + n - (j + 1))) place
 
-    pub visiting_stopped : r ≡ (Err WorkLimitExceeded) → (ex : List Exemption) (net : ℕ) → MarksOf marks groups w ex net → outcome_of (Err WorkLimitExceeded) ≡ whole ex net
+    pub visiting_stopped : r ≡ Err WorkLimitExceeded → (ex : List Exemption) (net : ℕ) → MarksOf marks groups w ex net → outcome_of (Err WorkLimitExceeded) ≡ whole ex net
     unfolding outcome_of
     visiting_stopped x ex net l = sym (loop_stops (u.onwards ex net l) next (sym (ap outcome_of (sym x) ∙ now_visited ex net l)))
 
@@ -114,7 +114,7 @@ number-gap nan h = tt
 number-gap (inf s) h = (h, tt)
 number-gap (fin s m e) h = (h, tt)
 
-pub walks_unpruned : (ex : List Exemption) (t : Float) (w : List ℕ) (i n : ℕ) (p : Aabb) (net : ℕ) (st : Walking) (r : (Result Walking Refusal)) → T (fits binary64 st.least) → ((k : ℕ) → n ≤ k → TreeBelow p t (stored_tree k w i n))
+pub walks_unpruned : (ex : List Exemption) (t : Float) (w : List ℕ) (i n : ℕ) (p : Aabb) (net : ℕ) (st : Walking) (r : Result Walking Refusal) → T (fits binary64 st.least) → ((k : ℕ) → n ≤ k → TreeBelow p t (stored_tree k w i n))
     → outcome_of r ≡ within st.remaining (runs (leaf_visit ex t net p) (so_far st) (leaves_from w i n)) → Walks ex t w i n p net st r
 walks_unpruned ex t w i n p net st r h below e s on of k q =
     e

@@ -38,7 +38,7 @@ use Rattle.clearance_call.proofs.NestedTrees.{stored_same}
 use Rattle.clearance_call.proofs.StoredWalk.{onward_stopped, onward-went, next_room, half_walkable}
 
 -- the step at a part whose leaves were visited
-pub steps-visited : (ex : List Exemption) (t : Float) (w : List ℕ) (p : Aabb) (net : ℕ) (part : Subtree) (state : Walking) (r : (Result Walking Refusal)) (q : Step) → q ≡ step_of r → Walks ex t w part.first part.count p net state r → Steps ex t w p net part state q
+pub steps-visited : (ex : List Exemption) (t : Float) (w : List ℕ) (p : Aabb) (net : ℕ) (part : Subtree) (state : Walking) (r : Result Walking Refusal) (q : Step) → q ≡ step_of r → Walks ex t w part.first part.count p net state r → Steps ex t w p net part state q
 steps-visited ex t w p net part state (Err WorkLimitExceeded) q e h = rw e h
 steps-visited ex t w p net part state (Ok v) q e h = rw e h
 
@@ -141,7 +141,7 @@ module _ (t : Float) (w : List ℕ) (p : Aabb) where
     }
 
     -- what the whole walk returns, for every bound of the tree's depth
-    answers : (r : (Result Walking Refusal)) → ((ex : List Exemption) (s : Segment) → MarksOf marks groups w ex s.net → segment_box s ≡ p → outcome_of r ≡ within from.remaining (walk ex t s (tree whole) (so_far from)))
+    answers : (r : Result Walking Refusal) → ((ex : List Exemption) (s : Segment) → MarksOf marks groups w ex s.net → segment_box s ≡ p → outcome_of r ≡ within from.remaining (walk ex t s (tree whole) (so_far from)))
         → (ex : List Exemption) (net : ℕ) → MarksOf marks groups w ex net → Walks ex t w whole.first whole.count p net from r
     answers r h ex net l s on of k q = h ex s (rw of l) on ∙ ap (λ (z : Tree). within from.remaining (walk ex t s z (so_far from))) (stored_same whole.count k w whole.first whole.count (le_refl whole.count) q)
 

@@ -54,11 +54,11 @@ module _ (w : List ℕ) (i n : ℕ) where
   branch-bounds some more b e (suc k) h = e ∙ sym (ap bounds_of (stored-branch k w i n (omega arith)))
 
 -- ---- one walk after another, as the code returns it
-pub onward_stopped : (o : Outcome Figures) (f : Figures → ℕ → Outcome Figures) (r : (Result Walking Refusal)) → r ≡ (Err WorkLimitExceeded) → outcome_of r ≡ o → outcome_of (Err WorkLimitExceeded) ≡ onward o f
+pub onward_stopped : (o : Outcome Figures) (f : Figures → ℕ → Outcome Figures) (r : Result Walking Refusal) → r ≡ Err WorkLimitExceeded → outcome_of r ≡ o → outcome_of (Err WorkLimitExceeded) ≡ onward o f
 unfolding outcome_of onward
 onward_stopped o f r x e = ap (λ (z : Outcome Figures). onward z f) (ap outcome_of (sym x) ∙ e)
 
-pub onward-went : (o : Outcome Figures) (f : Figures → ℕ → Outcome Figures) (r : (Result Walking Refusal)) (w : Walking) → r ≡ Ok w → outcome_of r ≡ o → f (so_far w) w.remaining ≡ onward o f
+pub onward-went : (o : Outcome Figures) (f : Figures → ℕ → Outcome Figures) (r : Result Walking Refusal) (w : Walking) → r ≡ Ok w → outcome_of r ≡ o → f (so_far w) w.remaining ≡ onward o f
 unfolding outcome_of onward
 onward-went o f r w x e = ap (λ (z : Outcome Figures). onward z f) (ap outcome_of (sym x) ∙ e)
 
@@ -71,7 +71,7 @@ unfolding outcome_of
 visited-room m g c v h e = let p = within-left m c (so_far v) v.remaining (sym e) in omega (arith, p.0, p.2, ap (λ (f : Figures). f.violations) p.1)
 
 -- in the state after a walk this sum is no larger
-pub walk-room : (ex : List Exemption) (t : Float) (s : Segment) (tree : Tree) (st : Walking) (r : (Result Walking Refusal)) → outcome_of r ≡ within st.remaining (walk ex t s tree (so_far st)) → (v : Walking) → r ≡ Ok v → v.violations + v.remaining ≤ st.violations + st.remaining
+pub walk-room : (ex : List Exemption) (t : Float) (s : Segment) (tree : Tree) (st : Walking) (r : Result Walking Refusal) → outcome_of r ≡ within st.remaining (walk ex t s tree (so_far st)) → (v : Walking) → r ≡ Ok v → v.violations + v.remaining ≤ st.violations + st.remaining
 walk-room ex t s tree st r e v h = visited-room st.remaining (so_far st) _ v (walk-violations ex t s tree (so_far st)) (ap outcome_of (sym h) ∙ e)
 
 -- ---- what the walk of a part returns
@@ -86,7 +86,7 @@ known : (s : Segment) (p : Aabb) → segment_box s ≡ p → (tree : Tree) (d : 
 known s p on tree d e = ap (λ (q : Aabb). distance q (bounds_of tree)) on ∙ sym e
 
 module _ (ex : List Exemption) (t : Float) {w : List ℕ} {i n : ℕ} {d : Float} {p : Aabb} {st : Walking} (ready : Walkable w i n d p st) where
-  pub next_room : (net : ℕ) (r : (Result Walking Refusal)) → Walks ex t w i n p net st r → (v : Walking) → r ≡ Ok v → v.violations + v.remaining ≤ st.violations + st.remaining
+  pub next_room : (net : ℕ) (r : Result Walking Refusal) → Walks ex t w i n p net st r → (v : Walking) → r ≡ Ok v → v.violations + v.remaining ≤ st.violations + st.remaining
   unfolding segment_box
   next_room net r e v h =
       let s : Segment = record { net = net; orientation = ready.segment.orientation; fixed = ready.segment.fixed; start = ready.segment.start; end = ready.segment.end } in
@@ -100,7 +100,7 @@ module _ (ex : List Exemption) (t : Float) {w : List ℕ} {i n : ℕ} {d : Float
   walks_pruned far net s on of k h = sym (ap (within st.remaining) (walk_pruned ex t s (stored_tree k w i n) (so_far st) (reaches s on k h (stored_tree k w i n) refl false far)) ∙ within-free st.remaining (so_far st))
 
   module _ (close : contributes d t (gap_of_float st.least) ≡ true) where
-    pub walks_leaf : n ≡ 1 → (net : ℕ) (r : (Result Walking Refusal)) → outcome_of r ≡ within st.remaining (visit (free (with_pair (exempt ex net (leaf_at w i).id) t d (so_far st)))) → Walks ex t w i n p net st r
+    pub walks_leaf : n ≡ 1 → (net : ℕ) (r : Result Walking Refusal) → outcome_of r ≡ within st.remaining (visit (free (with_pair (exempt ex net (leaf_at w i).id) t d (so_far st)))) → Walks ex t w i n p net st r
     unfolding bounds_of
     walks_leaf one net r e s on of k h =
         let x = one-leaf w i n one k h in

@@ -57,16 +57,16 @@ module _ (x a b : Float) (p : Num binary64 x) (q : Good a) (r : Good b) where
   ]
 
 -- a least distance that is absent or a number
-abbrev pub NumberGap : (Option Float) → Type 0
+abbrev pub NumberGap : Option Float → Type 0
 NumberGap None = Unit {0}
 NumberGap (Some x) = Num binary64 x
 
-gap-turn : (g : (Option Float)) (a b : Float) → NumberGap g → Good a → Good b → lesser_gap (lesser_gap g (Some a)) (Some b) ≡ lesser_gap (lesser_gap g (Some b)) (Some a)
+gap-turn : (g : Option Float) (a b : Float) → NumberGap g → Good a → Good b → lesser_gap (lesser_gap g (Some a)) (Some b) ≡ lesser_gap (lesser_gap g (Some b)) (Some a)
 unfolding lesser_gap
 gap-turn None a b p q r = ap Some (lesser.comm a b q r)
 gap-turn (Some x) a b p q r = ap Some (lesser-turn x a b p q r)
 
-gap-number : (g : (Option Float)) (a : Float) → NumberGap g → Good a → NumberGap (lesser_gap g (Some a))
+gap-number : (g : Option Float) (a : Float) → NumberGap g → Good a → NumberGap (lesser_gap g (Some a))
 unfolding lesser_gap lesser_of
 gap-number None a p q = q.num
 gap-number (Some x) a p q = picked (Num binary64) (lt a x) x a p q.num
@@ -112,7 +112,7 @@ module _ (ex : List Exemption) (t : Float) (net : ℕ) (p : Aabb) where
   runs-perm (via q r) g h = runs-perm q g h ∙ runs-perm r g h
 
 -- ---- the walk
-below-contributes : (d t : Float) (g : (Option Float)) → lt d t ≡ true → contributes d t g ≡ true
+below-contributes : (d t : Float) (g : Option Float) → lt d t ≡ true → contributes d t g ≡ true
 unfolding contributes
 below-contributes d t None e = refl
 below-contributes d t (Some x) e = or_left (lt d t) (lt d x) e

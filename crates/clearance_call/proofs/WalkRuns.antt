@@ -67,12 +67,12 @@ module _ (t : ℕ → Float) (w : List ℕ) (m : ℕ) (order packed groups : Lis
   unfolding gap_of_float
   turned_none p h state e v l marks long = record { turns = p; room = omega arith; below = omega arith; long = long; low = omega arith; stand = λ ex a b h. absurd (omega arith); onwards = λ ex a b. record { come = λ i. within (l i) (runs (step ex) (record { least = gap_of_float (e i); violations = v i }) (rest 0)) } }
 
-  module _ (state : Walking) (marks : List ℕ) (used marked q : ℕ) (u : Turned state marks used marked q) (less : q < length c.net) (r : (Result Walking Refusal))
+  module _ (state : Walking) (marks : List ℕ) (used marked q : ℕ) (u : Turned state marks used marked q) (less : q < length c.net) (r : Result Walking Refusal)
       (e : (ex : List Exemption) → Holds packed ex → length ex ≡ k → outcome_of r ≡ within state.remaining (walk ex (t (segment_at c (get_or order q 0)).net) (segment_at c (get_or order q 0)) (stored_tree m w 0 m) (so_far state))) where
     next : rest q ≡ segment_at c (get_or order q 0) ∷ rest (q + 1)
     next = table_next 0 (segment_at c) (length c.net) order u.turns.inside (rest 0) refl q less
 
-    pub turned_stopped : r ≡ (Err WorkLimitExceeded) → (ex : List Exemption) → Holds packed ex → length ex ≡ k → outcome_of (Err WorkLimitExceeded) ≡ within allowance (all_walks ex t w m order c)
+    pub turned_stopped : r ≡ Err WorkLimitExceeded → (ex : List Exemption) → Holds packed ex → length ex ≡ k → outcome_of (Err WorkLimitExceeded) ≡ within allowance (all_walks ex t w m order c)
     unfolding outcome_of
     turned_stopped x ex a b = sym (loop_stops (u.onwards ex a b) next (sym (ap outcome_of (sym x) ∙ e ex a b)))
 

@@ -217,7 +217,7 @@ module _ (s : SegmentColumns) (n : NodeColumns) (e : ExemptionColumns) (words : 
         let e = length-nodes n z.nodes in
         subst Nested (sym (ap (λ (l : List ℕ). stored_tree m l 0 m) tree-words ∙ grown_tree n g z.nodes f w)) (nested-tree (nodes n) (omega arith) f)
 
-    pub walked_all : (t : ℕ → Float) (packed p₀ : List ℕ) → Gathered e p₀ packed → All FitSegment (segments s) → All FitNode (nodes n) → TreeStored n g → (allowance : ℕ) (r : (Result Walking Refusal))
+    pub walked_all : (t : ℕ → Float) (packed p₀ : List ℕ) → Gathered e p₀ packed → All FitSegment (segments s) → All FitNode (nodes n) → TreeStored n g → (allowance : ℕ) (r : Result Walking Refusal)
         → ((ex : List Exemption) → Holds packed ex → length ex ≡ length e.net → outcome_of r ≡ within allowance (all_walks ex t tree m (mid_of 0 (length s₂ - 0) s₂) s))
         → outcome_of r ≡ within allowance (walk_all (exemptions e) t (segments s) (nodes n))
     walked_all t packed p₀ gathered fs f w allowance r h =
@@ -232,12 +232,12 @@ pub held_of : (e : ExemptionColumns) (p₀ packed : List ℕ) → Gathered e p�
 held_of e p₀ packed g = record { ex = exemptions e; holds = g.holds; count = g.count }
 
 -- ---- the call
-pub refused-answer : (s : SegmentColumns) (n : NodeColumns) (e : ExemptionColumns) (t : Float) (allowance words : ℕ) (c : (Result Unit Refusal)) (r : Refusal) → c ≡ first_of (clearance_conditions s n e t words) → c ≡ Err r → Err r ≡ clearance_answer s n e t allowance words
+pub refused-answer : (s : SegmentColumns) (n : NodeColumns) (e : ExemptionColumns) (t : Float) (allowance words : ℕ) (c : Result Unit Refusal) (r : Refusal) → c ≡ first_of (clearance_conditions s n e t words) → c ≡ Err r → Err r ≡ clearance_answer s n e t allowance words
 unfolding clearance_answer
 refused-answer s n e t allowance words c r h g = sym (rw (sym h ∙ g))
 
-pub passed_answer : (s : SegmentColumns) (n : NodeColumns) (e : ExemptionColumns) (t : Float) (allowance words : ℕ) → passes s n e t words → Lent s n t → (w : (Result Walking Refusal)) → outcome_of w ≡ within allowance (walk_all (exemptions e) (λ net. t) (segments s) (nodes n))
-    → (a : (Result EdgeNodeClearance Refusal)) → Answers w allowance a → a ≡ clearance_answer s n e t allowance words
+pub passed_answer : (s : SegmentColumns) (n : NodeColumns) (e : ExemptionColumns) (t : Float) (allowance words : ℕ) → passes s n e t words → Lent s n t → (w : Result Walking Refusal) → outcome_of w ≡ within allowance (walk_all (exemptions e) (λ net. t) (segments s) (nodes n))
+    → (a : Result EdgeNodeClearance Refusal) → Answers w allowance a → a ≡ clearance_answer s n e t allowance words
 unfolding clearance_answer
 passed_answer s n e t allowance words p lent w h a k =
     let f = fit_call s n e t words lent p in

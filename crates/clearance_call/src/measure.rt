@@ -2,7 +2,8 @@
 ghost use Rattle.std.specs.Prelude.{◌≡◌, length, Ok};
 ghost use Rattle.laws.specs.Inner.Allowance.{within};
 ghost use Rattle.drawing.specs.Refusals.{first_of, scratch_after};
-ghost use Rattle.drawing.specs.Entries.{segment_columns, node_columns, exemption_columns, segments, nodes, exemptions};
+ghost use Rattle.drawing.specs.Entries as Entries;
+ghost use Rattle.drawing.specs.Entries.{lent_segments, lent_nodes, lent_exemptions, segments, nodes, exemptions};
 ghost use Rattle.drawing.specs.Held.{Binary64, SegmentsHeld, NodesHeld};
 ghost use Rattle.clearance.specs.Conditions.{clearance_conditions};
 ghost use Rattle.clearance.specs.Walk.{walk_all};
@@ -13,53 +14,40 @@ use crate::prepare::prepare_nodes;
 use crate::tables::order_segments;
 use crate::walk_all::walk_all;
 use clearance::{answer_of, at_start, check_clearance};
-use drawing::clear;
+use drawing::{Exemptions, Nodes, Segments, clear};
 use exemptions::gather;
 
 // The walks of all segments of a fit drawing. Without segments or without nodes there are no pairs, and nothing is put in order. Otherwise the scratch holds 6 words for each segment, for their order, then 20 for each node, for the tree and the groups of its leaves.
 fn walk_segments(
-    net: &[u32],
-    orientation: &[u8],
-    fixed: &[f64],
-    start: &[f64],
-    end: &[f64],
-    id: &[u32],
-    x: &[f64],
-    y: &[f64],
-    width: &[f64],
-    height: &[f64],
-    exempt_net: &[u32],
-    exempt_node: &[u32],
+    segments: &Segments<'_>,
+    nodes: &Nodes<'_>,
+    exemptions: &Exemptions<'_>,
     threshold: f64,
     allowance: usize,
     scratch: &mut [u64],
 ) -> Result<Walking, Refusal>
-    requires { first_of (clearance_conditions (segment_columns net.now orientation.now fixed.now start.now end.now) (node_columns id.now x.now y.now width.now height.now) (exemption_columns exempt_net.now exempt_node.now) threshold (length scratch.old)) ≡ (Ok tt) }
-    ensures { outcome_of result ≡ within allowance (walk_all (exemptions (exemption_columns exempt_net.now exempt_node.now)) (λ _. threshold) (segments (segment_columns net.now orientation.now fixed.now start.now end.now)) (nodes (node_columns id.now x.now y.now width.now height.now))) }
+    requires { first_of (clearance_conditions (lent_segments segments.now) (lent_nodes nodes.now) (lent_exemptions exemptions.now) threshold (length scratch.old)) ≡ (Ok tt) }
+    ensures { outcome_of result ≡ within allowance (walk_all (Entries.exemptions (lent_exemptions exemptions.now)) (λ _. threshold) (Entries.segments (lent_segments segments.now)) (Entries.nodes (lent_nodes nodes.now))) }
 {
-    if net.len() == 0 {
+    if segments.net.len() == 0 {
         return Ok(at_start(allowance));
     }
-    let m = id.len();
+    let m = nodes.id.len();
     if m == 0 {
         return Ok(at_start(allowance));
     }
     let mut packed = [0; 4096];
-    gather(&mut packed, exempt_net, exempt_node);
-    order_segments(scratch, net, orientation, fixed, start, end);
-    let first = 6 * net.len();
-    let k = exempt_net.len();
+    gather(&mut packed, exemptions);
+    order_segments(scratch, segments);
+    let first = 6 * segments.net.len();
+    let k = exemptions.net.len();
     let last = first + 20 * m;
-    prepare_nodes(&mut scratch[first..last], id, x, y, width, height, k);
+    prepare_nodes(&mut scratch[first..last], nodes, k);
     walk_all(
         &scratch[first + 11 * m..last],
         m,
         &scratch[0..],
-        net,
-        orientation,
-        fixed,
-        start,
-        end,
+        segments,
         threshold,
         &packed,
         k,
@@ -70,45 +58,27 @@ fn walk_segments(
 }
 
 pub fn measure_edge_node_clearance_bounded(
-    net: &[u32],
-    orientation: &[u8],
-    fixed: &[f64],
-    start: &[f64],
-    end: &[f64],
-    id: &[u32],
-    x: &[f64],
-    y: &[f64],
-    width: &[f64],
-    height: &[f64],
-    exempt_net: &[u32],
-    exempt_node: &[u32],
+    segments: &Segments<'_>,
+    nodes: &Nodes<'_>,
+    exemptions: &Exemptions<'_>,
     threshold: f64,
     allowance: usize,
     scratch: &mut [u64],
 ) -> Result<EdgeNodeClearance, Refusal>
-    ensures { let lent_segments = segment_columns net.now orientation.now fixed.now start.now end.now in
-        let lent_nodes = node_columns id.now x.now y.now width.now height.now in
-        let lent_exemptions = exemption_columns exempt_net.now exempt_node.now in
+    ensures { let s = lent_segments segments.now in
+        let n = lent_nodes nodes.now in
+        let e = lent_exemptions exemptions.now in
         let words = length scratch.old in
-        let refusal = first_of (clearance_conditions lent_segments lent_nodes lent_exemptions threshold words) in
-        (result ≡ clearance_answer lent_segments lent_nodes lent_exemptions threshold allowance words)
+        let refusal = first_of (clearance_conditions s n e threshold words) in
+        (result ≡ clearance_answer s n e threshold allowance words)
         × (scratch.new ≡ scratch_after refusal scratch.old)
-        × (refusal ≡ (Ok tt) → SegmentsHeld lent_segments × NodesHeld lent_nodes × Binary64 threshold) }
+        × (refusal ≡ Ok tt → SegmentsHeld s × NodesHeld n × Binary64 threshold) }
 {
     let words = scratch.len();
     let check = check_clearance(
-        net,
-        orientation,
-        fixed,
-        start,
-        end,
-        id,
-        x,
-        y,
-        width,
-        height,
-        exempt_net,
-        exempt_node,
+        segments,
+        nodes,
+        exemptions,
         threshold,
         words,
     );
@@ -116,18 +86,9 @@ pub fn measure_edge_node_clearance_bounded(
         return Err(why);
     }
     let walked = walk_segments(
-        net,
-        orientation,
-        fixed,
-        start,
-        end,
-        id,
-        x,
-        y,
-        width,
-        height,
-        exempt_net,
-        exempt_node,
+        segments,
+        nodes,
+        exemptions,
         threshold,
         allowance,
         scratch,

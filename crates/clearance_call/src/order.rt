@@ -1,10 +1,11 @@
 // The order of the tree's leaves (SCOPE 5.1, 5.2, 15.2): the index column is put in order along the wider axis, halved, and each half again.
 ghost use Rattle.std.specs.Prelude.{◌≡◌, cond, ◌++◌, ℕ, ◌+◌, ◌*◌, ◌^◌, ◌≤◌, ◌<◌, length, get_or, take, drop};
-ghost use Rattle.drawing.specs.Entries.{node_columns};
+ghost use Rattle.drawing.specs.Entries.{lent_nodes};
 ghost use Rattle.drawing.specs.Inner.Lengths.{NodesAgree};
 ghost use Rattle.clearance.specs.Tree as Tree;
 ghost use Rattle.clearance_call.specs.Inner.LeafOrder.{indexed_at, box_from, leaf_order, Places, Buildable};
 
+use drawing::Nodes;
 use boxes::Aabb;
 use floats::key_of;
 use sorting::sort_indices;
@@ -31,35 +32,27 @@ fn table_along(bounds: Aabb, t: usize, m: usize) -> usize
 // The box of the node at index i.
 pub(crate) fn box_at(
     i: usize,
-    id: &[u32],
-    x: &[f64],
-    y: &[f64],
-    width: &[f64],
-    height: &[f64],
+    nodes: &Nodes<'_>,
 ) -> Aabb
-    requires { (i < length id.now) × NodesAgree (node_columns id.now x.now y.now width.now height.now) }
-    ensures { result ≡ (indexed_at (node_columns id.now x.now y.now width.now height.now) i).bounds }
+    requires { (i < length nodes.now.id.now) × NodesAgree (lent_nodes nodes.now) }
+    ensures { result ≡ (indexed_at (lent_nodes nodes.now) i).bounds }
 {
-    Aabb::from_node(x[i], y[i], width[i], height[i])
+    Aabb::from_node(nodes.x[i], nodes.y[i], nodes.width[i], nodes.height[i])
 }
 
 // The box around the nodes whose indices are in the first n words.
 fn hull_of(
     s: &[u64],
     n: usize,
-    id: &[u32],
-    x: &[f64],
-    y: &[f64],
-    width: &[f64],
-    height: &[f64],
+    nodes: &Nodes<'_>,
 ) -> Aabb
-    requires { (0 < n) × Places s.now n (node_columns id.now x.now y.now width.now height.now) }
-    ensures { result ≡ box_from (node_columns id.now x.now y.now width.now height.now) (get_or s.now 0 0) (drop 1 (take n s.now)) }
+    requires { (0 < n) × Places s.now n (lent_nodes nodes.now) }
+    ensures { result ≡ box_from (lent_nodes nodes.now) (get_or s.now 0 0) (drop 1 (take n s.now)) }
 {
-    let mut bounds = box_at(s[0] as usize, id, x, y, width, height);
+    let mut bounds = box_at(s[0] as usize, nodes);
     let mut k = 1;
     while k < n {
-        bounds = bounds.union(box_at(s[k] as usize, id, x, y, width, height));
+        bounds = bounds.union(box_at(s[k] as usize, nodes));
         k += 1;
     }
     bounds
@@ -70,31 +63,23 @@ pub(crate) fn build_clearance_bvh(
     s: &mut [u64],
     n: usize,
     t: usize,
-    id: &[u32],
-    x: &[f64],
-    y: &[f64],
-    width: &[f64],
-    height: &[f64],
+    nodes: &Nodes<'_>,
 )
-    requires { Buildable s.old n t (node_columns id.now x.now y.now width.now height.now) }
-    ensures { (k : ℕ) → n ≤ k → s.new ≡ leaf_order k (node_columns id.now x.now y.now width.now height.now) (drop t s.old) (drop (t + 5 * length id.now) s.old) (take n s.old) ++ drop n s.old }
+    requires { Buildable s.old n t (lent_nodes nodes.now) }
+    ensures { (k : ℕ) → n ≤ k → s.new ≡ leaf_order k (lent_nodes nodes.now) (drop t s.old) (drop (t + 5 * length nodes.now.id.now) s.old) (take n s.old) ++ drop n s.old }
 {
     if n < 2 {
         return;
     }
-    let bounds = hull_of(s, n, id, x, y, width, height);
-    let table = table_along(bounds, t, id.len());
+    let bounds = hull_of(s, n, nodes);
+    let table = table_along(bounds, t, nodes.id.len());
     sort_indices(s, n, table, 5);
     let middle = n / 2;
-    build_clearance_bvh(s, middle, t, id, x, y, width, height);
+    build_clearance_bvh(s, middle, t, nodes);
     build_clearance_bvh(
         &mut s[middle..],
         n - middle,
         t - middle,
-        id,
-        x,
-        y,
-        width,
-        height,
+        nodes,
     );
 }

@@ -1,10 +1,11 @@
 // The tree in the scratch: nine words for each leaf, in leaf order. The first four are the edges of the leaf's box; the next four those of the branch whose right half starts at this leaf; the last is the node's id. The halves follow from the number of leaves, so no links are stored.
 ghost use Rattle.std.specs.Prelude.{◌≡◌, ◌+◌, ◌*◌, ◌≤◌, length};
-ghost use Rattle.drawing.specs.Entries.{node_columns};
+ghost use Rattle.drawing.specs.Entries.{lent_nodes};
 ghost use Rattle.boxes.specs.Inner.Fitting.{FitBox};
 ghost use Rattle.clearance_call.specs.Inner.LeafOrder.{Places};
 ghost use Rattle.clearance_call.specs.Inner.Stored.{box_at, BoxPut, LeafPut, LeavesPut, SplitsPut};
 
+use drawing::Nodes;
 use crate::order::box_at;
 use boxes::Aabb;
 use floats::{bits_of, float_of_bits};
@@ -67,19 +68,15 @@ fn put_leaf(words: &mut [u64], p: usize, id: u32, bounds: Aabb)
 pub(crate) fn put_leaves(
     words: &mut [u64],
     r: usize,
-    id: &[u32],
-    x: &[f64],
-    y: &[f64],
-    width: &[f64],
-    height: &[f64],
+    nodes: &Nodes<'_>,
 )
-    requires { Places words.old (length id.now) (node_columns id.now x.now y.now width.now height.now) × (length id.now ≤ r) × (r + 9 * length id.now ≤ length words.old) }
-    ensures { LeavesPut words.old words.new r (length id.now) (node_columns id.now x.now y.now width.now height.now) }
+    requires { Places words.old (length nodes.now.id.now) (lent_nodes nodes.now) × (length nodes.now.id.now ≤ r) × (r + 9 * length nodes.now.id.now ≤ length words.old) }
+    ensures { LeavesPut words.old words.new r (length nodes.now.id.now) (lent_nodes nodes.now) }
 {
     let mut k = 0;
-    while k < id.len() {
+    while k < nodes.id.len() {
         let i = words[k] as usize;
-        put_leaf(words, r + 9 * k, id[i], box_at(i, id, x, y, width, height));
+        put_leaf(words, r + 9 * k, nodes.id[i], box_at(i, nodes));
         k += 1;
     }
 }

@@ -2,13 +2,13 @@
 ghost use Rattle.std.specs.Prelude.{◌≡◌, [], ◌∷◌, ◌++◌, ◌+◌, ◌*◌, ◌≤◌, length, drop};
 ghost use Rattle.std.proofs.Math.Seq.{paste};
 ghost use Rattle.sorting.specs.Inner.Sorted.{up_to};
-ghost use Rattle.drawing.specs.Entries.{node_columns, segment_columns};
+ghost use Rattle.drawing.specs.Entries.{lent_nodes, lent_segments};
 ghost use Rattle.drawing.specs.Inner.Lengths.{NodesAgree, SegmentsAgree};
 ghost use Rattle.clearance.specs.Tree.{indexed_row};
 ghost use Rattle.clearance_call.specs.Inner.Tables.{node_row_at, segment_row_at, Filled, NodesFilled, SegmentsOrdered};
 
 use boxes::Aabb;
-use drawing::ends_in_order;
+use drawing::{Nodes, Segments, ends_in_order};
 use floats::key_of;
 use sorting::{fill_places, sort_indices};
 
@@ -53,19 +53,15 @@ fn fill_node_table(
     s: &mut [u64],
     at: usize,
     horizontal: bool,
-    id: &[u32],
-    x: &[f64],
-    y: &[f64],
-    width: &[f64],
-    height: &[f64],
+    nodes: &Nodes<'_>,
 )
-    requires { NodesAgree (node_columns id.now x.now y.now width.now height.now) × (at + 5 * length id.now ≤ length s.old) }
-    ensures { Filled (node_row_at horizontal (node_columns id.now x.now y.now width.now height.now)) at (length id.now) s.old s.new }
+    requires { NodesAgree (lent_nodes nodes.now) × (at + 5 * length nodes.now.id.now ≤ length s.old) }
+    ensures { Filled (node_row_at horizontal (lent_nodes nodes.now)) at (length nodes.now.id.now) s.old s.new }
 {
     let mut i = 0;
-    while i < id.len() {
-        let bounds = Aabb::from_node(x[i], y[i], width[i], height[i]);
-        put_node(s, at + 5 * i, horizontal, id[i], bounds);
+    while i < nodes.id.len() {
+        let bounds = Aabb::from_node(nodes.x[i], nodes.y[i], nodes.width[i], nodes.height[i]);
+        put_node(s, at + 5 * i, horizontal, nodes.id[i], bounds);
         i += 1;
     }
 }
@@ -74,39 +70,31 @@ fn fill_node_table(
 pub(crate) fn fill_node_tables(
     s: &mut [u64],
     at: usize,
-    id: &[u32],
-    x: &[f64],
-    y: &[f64],
-    width: &[f64],
-    height: &[f64],
+    nodes: &Nodes<'_>,
 )
-    requires { NodesAgree (node_columns id.now x.now y.now width.now height.now) × (at + 10 * length id.now ≤ length s.old) }
-    ensures { NodesFilled (node_columns id.now x.now y.now width.now height.now) at s.old s.new }
+    requires { NodesAgree (lent_nodes nodes.now) × (at + 10 * length nodes.now.id.now ≤ length s.old) }
+    ensures { NodesFilled (lent_nodes nodes.now) at s.old s.new }
 {
-    fill_node_table(s, at, true, id, x, y, width, height);
-    fill_node_table(s, at + 5 * id.len(), false, id, x, y, width, height);
+    fill_node_table(s, at, true, nodes);
+    fill_node_table(s, at + 5 * nodes.id.len(), false, nodes);
 }
 
 // The segments' rows, from `at` on: net, orientation byte and the keys of fixed, start and end, the ends in rising order.
 fn fill_segment_table(
     s: &mut [u64],
     at: usize,
-    net: &[u32],
-    orientation: &[u8],
-    fixed: &[f64],
-    start: &[f64],
-    end: &[f64],
+    segments: &Segments<'_>,
 )
-    requires { SegmentsAgree (segment_columns net.now orientation.now fixed.now start.now end.now) × (at + 5 * length net.now ≤ length s.old) }
-    ensures { Filled (segment_row_at (segment_columns net.now orientation.now fixed.now start.now end.now)) at (length net.now) s.old s.new }
+    requires { SegmentsAgree (lent_segments segments.now) × (at + 5 * length segments.now.net.now ≤ length s.old) }
+    ensures { Filled (segment_row_at (lent_segments segments.now)) at (length segments.now.net.now) s.old s.new }
 {
     let mut i = 0;
-    while i < net.len() {
-        let ends = ends_in_order(start[i], end[i]);
-        let f = key_of(fixed[i]);
+    while i < segments.net.len() {
+        let ends = ends_in_order(segments.start[i], segments.end[i]);
+        let f = key_of(segments.fixed[i]);
         let b = key_of(ends.start);
         let e = key_of(ends.end);
-        put_row(s, at + 5 * i, net[i] as u64, orientation[i] as u64, f, b, e);
+        put_row(s, at + 5 * i, segments.net[i] as u64, segments.orientation[i] as u64, f, b, e);
         i += 1;
     }
 }
@@ -114,17 +102,13 @@ fn fill_segment_table(
 // The indices of the segments in the order of SCOPE 9.4, in the first words of s; their rows follow.
 pub(crate) fn order_segments(
     s: &mut [u64],
-    net: &[u32],
-    orientation: &[u8],
-    fixed: &[f64],
-    start: &[f64],
-    end: &[f64],
+    segments: &Segments<'_>,
 )
-    requires { SegmentsAgree (segment_columns net.now orientation.now fixed.now start.now end.now) × (6 * length net.now ≤ length s.old) }
-    ensures { SegmentsOrdered (segment_columns net.now orientation.now fixed.now start.now end.now) s.old s.new }
+    requires { SegmentsAgree (lent_segments segments.now) × (6 * length segments.now.net.now ≤ length s.old) }
+    ensures { SegmentsOrdered (lent_segments segments.now) s.old s.new }
 {
-    let n = net.len();
+    let n = segments.net.len();
     places_in_front(s, n);
-    fill_segment_table(s, n, net, orientation, fixed, start, end);
+    fill_segment_table(s, n, segments);
     sort_indices(s, n, n, 5);
 }

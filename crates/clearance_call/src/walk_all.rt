@@ -1,7 +1,7 @@
 // The walks of all segments, one after another in the order of SCOPE 5.4.
 ghost use Rattle.std.specs.Prelude.{◌≡◌, List, ◌+◌, ◌*◌, ◌^◌, ◌≤◌, ◌<◌, length};
 ghost use Rattle.laws.specs.Inner.Allowance.{within};
-ghost use Rattle.drawing.specs.Entries.{Exemption, segment_columns, as_taken};
+ghost use Rattle.drawing.specs.Entries.{Exemption, lent_segments, as_taken};
 ghost use Rattle.boxes.specs.Boxes.{segment_box};
 ghost use Rattle.boxes.specs.Inner.Fitting.{FitBox};
 ghost use Rattle.clearance_call.specs.Inner.Stored.{stored_tree};
@@ -12,6 +12,7 @@ ghost use Rattle.clearance_call.specs.Inner.Marks.{Grouped, MarksOf};
 ghost use Rattle.clearance.specs.Inner.State.{so_far, outcome_of};
 ghost use Rattle.clearance_call.specs.Inner.Walking.{Part, NetMarks, HoldsCount, SegmentPlaces, all_walks};
 
+use drawing::Segments;
 use crate::marks::{MARK_WORDS, renew_marks};
 use crate::walk::{bounds_of, visit_segment_candidates};
 use boxes::Aabb;
@@ -54,11 +55,7 @@ pub(crate) fn walk_all(
     tree: &[u64],
     m: usize,
     order: &[u64],
-    net: &[u32],
-    orientation: &[u8],
-    fixed: &[f64],
-    start: &[f64],
-    end: &[f64],
+    segments: &Segments<'_>,
     threshold: f64,
     packed: &[u64],
     k: usize,
@@ -67,29 +64,29 @@ pub(crate) fn walk_all(
     allowance: usize,
 ) -> Result<Walking, Refusal>
     requires part { Part tree.now 0 m × (m ≤ 4096) }
-    requires segment_places { SegmentPlaces order.now (segment_columns net.now orientation.now fixed.now start.now end.now) }
+    requires segment_places { SegmentPlaces order.now (lent_segments segments.now) }
     requires held_and_grouped { HoldsCount packed.now k × (0 < k → Grouped ids.now groups.now tree.now m) × (length tree.now ≤ 9 * length groups.now) }
     requires nested { Nested (stored_tree m tree.now 0 m) }
-    ensures { (ex : List Exemption) → Holds packed.now ex → length ex ≡ k → outcome_of result ≡ within allowance (all_walks ex (λ _. threshold) tree.now m order.now (segment_columns net.now orientation.now fixed.now start.now end.now)) }
+    ensures { (ex : List Exemption) → Holds packed.now ex → length ex ≡ k → outcome_of result ≡ within allowance (all_walks ex (λ _. threshold) tree.now m order.now (lent_segments segments.now)) }
 {
     let mut state = at_start(allowance);
     let mut marks = [0; MARK_WORDS];
     let mut used = 0;
     let mut marked = NO_NET;
     let mut q = 0;
-    while q < net.len() {
+    while q < segments.net.len() {
         let i = order[q] as usize;
-        let own = net[i];
+        let own = segments.net[i];
         used = renew_marks(&mut marks, used, marked, own, packed, k, ids, m);
         marked = own as u64;
         let walked = walk_segment(
             tree,
             m,
             own,
-            orientation[i],
-            fixed[i],
-            start[i],
-            end[i],
+            segments.orientation[i],
+            segments.fixed[i],
+            segments.start[i],
+            segments.end[i],
             threshold,
             &marks[0..used],
             groups,

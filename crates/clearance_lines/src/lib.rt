@@ -33,7 +33,7 @@ pub fn clearance_of_lines(
         let refusal = first_of (clearance_conditions lent_segments lent_nodes lent_exemptions threshold words) in
         (result ≡ clearance_answer lent_segments lent_nodes lent_exemptions threshold allowance words)
         × (scratch.new ≡ scratch_after refusal scratch.old)
-        × (refusal ≡ (Ok tt) → SegmentsHeld lent_segments × NodesHeld lent_nodes × Binary64 threshold) }
+        × (refusal ≡ Ok tt → SegmentsHeld lent_segments × NodesHeld lent_nodes × Binary64 threshold) }
 {
     let mut net = [0; 4097];
     let mut orientation = [0; 4097];

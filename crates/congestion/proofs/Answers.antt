@@ -32,8 +32,8 @@ module _ (answer : SegmentColumns → Float → ℕ → ℕ → (Result Congesti
     (is : (s : SegmentColumns) (cutoff : Float) (m words : ℕ) → answer s cutoff m words ≡ checked Err (first_of (congestion_conditions s cutoff words)) (settled m (report cutoff (segments s)))) where
   settles : Settles answer report
   settles = record {
-    earlier = λ s cutoff m words r e. is s cutoff m words ∙ ap (λ (c : (Result Unit Refusal)). checked Err c (settled m (report cutoff (segments s)))) e;
-    behind = λ s cutoff m words p. is s cutoff m words ∙ ap (λ (c : (Result Unit Refusal)). checked Err c (settled m (report cutoff (segments s)))) p;
+    earlier = λ s cutoff m words r e. is s cutoff m words ∙ ap (λ (c : Result Unit Refusal). checked Err c (settled m (report cutoff (segments s)))) e;
+    behind = λ s cutoff m words p. is s cutoff m words ∙ ap (λ (c : Result Unit Refusal). checked Err c (settled m (report cutoff (segments s)))) p;
   }
 
 -- SCOPE 8.3: "A call whose allowance reaches it returns the all-pairs report, whose visits are that count; a call whose allowance does not returns the spent-allowance refusal", which is 7

@@ -3,7 +3,6 @@ use Rattle.drawing.specs.declared.refusal.Refusal.{Refusal}
 use Rattle.std.specs.Prelude.{Option, Some, None, Result, Ok, Err}
 use mathlib.Core.Path.{◌≡◌, refl}
 use mathlib.Core.List.{List, [], ◌∷◌}
-use mathlib.Core.Option.{none, some}
 use mathlib.Core.Bool.{true, false}
 use Prim.Native.Nat.{ℕ}
 use lib.Ieee.{Float, binary64, of_bits, to_bits, round, sub, div, lt}
@@ -20,7 +19,7 @@ use Rattle.drawing.specs.Orders.{segment_row, segments_in_order}
 use Rattle.drawing.specs.Refusals.{number_of, first_of}
 use Rattle.drawing.specs.Conditions.{differ, too_many, short_scratch, unfit_fields, unfit_segment, unfit_cutoff, off_grid_fields, off_grid_segment, off_grid_cutoff}
 use Rattle.drawing.specs.Checks.{segments_differ, segment_conditions}
-use Rattle.drawing.specs.Gaps.{gap_from, least_gap}
+use Rattle.drawing.specs.Gaps.{least_gap}
 use Rattle.drawing.specs.declared.refusal.Refusal.TheVariants.{OffGrid, WorkLimitExceeded}
 use Rattle.congestion.specs.Conditions.{congestion_conditions}
 use Rattle.congestion.specs.Wires.{Wire, cutoff_of}
@@ -61,7 +60,7 @@ abbrev f20 : Float
 f20 = float 0x4034_0000_0000_0000
 
 -- an accepted call's answer
-abbrev report : Float → Float → Float → ℕ → (Option Float) → ℕ → (Result CongestionReport Refusal)
+abbrev report : Float → Float → Float → ℕ → Option Float → ℕ → Result CongestionReport Refusal
 report t c o p g n = Ok (record { congestion = record { total_length = t; congested_length = c; pair_overlap_length = o; peak_close_neighbors = p }; minimum_positive = g; visits = n })
 
 -- SCOPE 11.5: "net 1 horizontal at 0 from 0 to 10; net 2 horizontal at 4 from 5 to 15"
@@ -130,13 +129,13 @@ pub record Marked : Type 0 where
   -- SCOPE 9.3: "Congestion of an empty list has total +0"
   pub empty_list : density_answer (segment_columns [] [] [] [] []) f6 0 64 ≡ report f0 f0 f0 0 None 0
   -- drawings in 64ths, by the definition and by the sweep
-  pub fork_figures : found 96 fork ≡ gathered 1216 1024 576 2 (some 64) 7
-  pub fork_sweep : sweep_wires 96 fork ≡ gathered 1216 1024 576 2 (some 64) 7
-  pub stack_figures : found 128 stack ≡ gathered 768 576 384 2 (some 64) 12
-  pub stack_sweep : sweep_wires 128 stack ≡ gathered 768 576 384 2 (some 64) 12
+  pub fork_figures : found 96 fork ≡ gathered 1216 1024 576 2 (Some 64) 7
+  pub fork_sweep : sweep_wires 96 fork ≡ gathered 1216 1024 576 2 (Some 64) 7
+  pub stack_figures : found 128 stack ≡ gathered 768 576 384 2 (Some 64) 12
+  pub stack_sweep : sweep_wires 128 stack ≡ gathered 768 576 384 2 (Some 64) 12
   -- one net: its close pairs cost visits, and none of it is congested
-  pub one-net : found 384 (flat 1 0 0 320 ∷ flat 1 64 0 320 ∷ []) ≡ gathered 640 0 0 0 none 4
+  pub one-net : found 384 (flat 1 0 0 320 ∷ flat 1 64 0 320 ∷ []) ≡ gathered 640 0 0 0 None 4
 
 pub marked : Marked
-unfolding of_bits to_bits round sub div lt some_of chosen fold pairs row_le insert_by sort_by lesser least runs settle key key_of lesser_of greater_of gap_of abs_of on_grid steps unit of_units segments segments_of segment_row segments_in_order number_of first_of differ too_many short_scratch unfit_fields unfit_segment unfit_cutoff off_grid_fields off_grid_segment off_grid_cutoff segments_differ congestion_conditions gap_from least_gap cutoff_of cells_from total stretches congested close_other_pairs pair_overlap peak lengths least_nonzero close_floats visit_count all_pairs in_order sweep along sweep_wires walk_all settled density_answer profile_answer congestion_answer result_of clamp ratio close_pairs visits segment_conditions
+unfolding of_bits to_bits round sub div lt some_of chosen fold pairs row_le insert_by sort_by lesser least runs settle key key_of lesser_of greater_of gap_of abs_of on_grid steps unit of_units segments segments_of segment_row segments_in_order number_of first_of differ too_many short_scratch unfit_fields unfit_segment unfit_cutoff off_grid_fields off_grid_segment off_grid_cutoff segments_differ congestion_conditions least_gap cutoff_of cells_from total stretches congested close_other_pairs pair_overlap peak lengths least_nonzero close_floats visit_count all_pairs in_order sweep along sweep_wires walk_all settled density_answer profile_answer congestion_answer result_of clamp ratio close_pairs visits segment_conditions
 marked = record { D_at_4 = refl; D_at_3 = refl; D_sheet = refl; D_spent = refl; D_profile = refl; D_congestion = refl; D_sweep = refl; D_ratio = refl; gap_equals_cutoff = refl; on_the_grid = refl; off_the_grid = refl; net_2_reversed = (refl, refl); reversed = (refl, refl); upright_reversed = (refl, refl); reversed_off_the_grid = refl; minus_zero = refl; cutoff-zero = refl; cutoff_minus_zero = refl; cutoff-below-zero = refl; empty_list = refl; fork_figures = refl; fork_sweep = refl; stack_figures = refl; stack_sweep = refl; one-net = refl }

@@ -1,7 +1,7 @@
 -- SCOPE 9.4: "List order decides nothing in a report": the figures over all pairs and the visits are the same for every order of the wires. Assumes nothing.
+use Rattle.std.specs.Prelude.{Option, None}
 use mathlib.Core.Path.{◌≡◌, refl, sym, ap, ap₂, ◌∙◌}
 use mathlib.Core.List.{List}
-use mathlib.Core.Option.{Option, none}
 use mathlib.Core.Bool.{Bool, true, false, not, ◌&&◌, beq, cond}
 use Prim.Native.Nat.{ℕ, ◌+◌, ◌-◌, ◌*◌, max}
 use native.Mathlib.Nat.{max_comm, min_comm}
@@ -64,7 +64,7 @@ module _ (c : ℕ) {l m : List Wire} (p : Perm l m) where
   overlap-order = overlap-sum c l ∙ pairs-perm plus (λ q. cond (close_other c q.0 q.1) (overlap q.0 q.1) 0) (λ s t. ap₂ (λ (b : Bool) (n : ℕ). cond b n 0) (close-other-turn c s t) (overlap-turn s t)) p ∙ sym (overlap-sum c m)
 
   least-order : least_units c l ≡ least_units c m
-  least-order = pairs-perm fewest (λ q. cond (close_other c q.0 q.1) (gap q.0 q.1) none) (λ s t. ap₂ (λ (b : Bool) (g : Option ℕ). cond b g none) (close-other-turn c s t) (gap-turn s t)) p
+  least-order = pairs-perm fewest (λ q. cond (close_other c q.0 q.1) (gap q.0 q.1) None) (λ s t. ap₂ (λ (b : Bool) (g : Option ℕ). cond b g None) (close-other-turn c s t) (gap-turn s t)) p
 
   visits_order : visits c l ≡ visits c m
   unfolding visits close_pairs

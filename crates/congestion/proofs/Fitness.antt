@@ -75,22 +75,22 @@ fit-segment s e g =
       rises = ltb→lt (unit s.start) (unit s.end) (subst T (lt_units s.start s.end b d) l.rising);
     }
 
-both_passed : (a b : (Result Unit Refusal)) → then a b ≡ (Ok tt) → (a ≡ (Ok tt)) × (b ≡ (Ok tt))
+both_passed : (a b : Result Unit Refusal) → then a b ≡ Ok tt → (a ≡ Ok tt) × (b ≡ Ok tt)
 both_passed (Ok tt) b e = (refl, e)
 both_passed (Err r) b e = (e, absurd (subst is-refused e tt))
   where
-    is-refused : (Result Unit Refusal) → Type 0
+    is-refused : Result Unit Refusal → Type 0
     is-refused (Ok tt) = ⊥
     is-refused (Err r) = Unit {0}
 
-module _ (s : SegmentColumns) (cutoff : Float) (words : ℕ) (passed : first_of (congestion_conditions s cutoff words) ≡ (Ok tt)) where
+module _ (s : SegmentColumns) (cutoff : Float) (words : ℕ) (passed : first_of (congestion_conditions s cutoff words) ≡ Ok tt) where
   -- the conditions of segments and scratch come first
   pub segments_passed : SegmentsPass s words
   unfolding congestion_conditions
   segments_passed = segments_pass s words (both_passed (first_of (segment_conditions s words)) _ (sym (first-append (segment_conditions s words) _) ∙ passed)).0
 
   -- then the cutoff, and the grid
-  last-three : first_of ((unfit_cutoff cutoff, InvalidInput) ∷ (some_of off_grid_segment (segments s), OffGrid) ∷ (off_grid_cutoff cutoff, OffGrid) ∷ []) ≡ (Ok tt)
+  last-three : first_of ((unfit_cutoff cutoff, InvalidInput) ∷ (some_of off_grid_segment (segments s), OffGrid) ∷ (off_grid_cutoff cutoff, OffGrid) ∷ []) ≡ Ok tt
   unfolding congestion_conditions
   last-three = (both_passed (first_of (segment_conditions s words)) _ (sym (first-append (segment_conditions s words) _) ∙ passed)).1
 

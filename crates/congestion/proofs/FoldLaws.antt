@@ -1,8 +1,8 @@
 -- Folds over chosen entries and over pairs, and least numbers: what the figures of this crate need besides the laws of folds. Assumes nothing.
+use Rattle.std.specs.Prelude.{Option, None, Some}
 use mathlib.Core.Path.{◌≡◌, refl, sym, ap, ◌∙◌}
 use mathlib.Core.Logic.{inl, inr}
 use mathlib.Core.List.{List, [], ◌∷◌, map}
-use mathlib.Core.Option.{Option, none, some}
 use mathlib.Core.Bool.{Bool, true, false, not, ◌||◌, cond}
 use Prim.Native.Nat.{ℕ, ◌+◌, ◌*◌}
 use native.Mathlib.Nat.{le_refl, suc-mul, zero-mul}
@@ -27,17 +27,17 @@ numbers_ranked = record { below = λ x y p q. refl; one = λ x y p q e. e }
 
 any : (a : Option ℕ) → Perhaps anything a
 unfolding anything
-any none = tt
-any (some n) = tt
+any None = tt
+any (Some n) = tt
 
-pub fewest : Monoid (lesser ltb) none
+pub fewest : Monoid (lesser ltb) None
 unfolding lesser
 fewest = record { assoc = λ a b c. lesser_assoc numbers_ranked a b c (any a) (any b) (any c); comm = λ a b. lesser_comm numbers_ranked a b (any a) (any b); idl = λ a. refl }
 
 pub lesser-same : (a : Option ℕ) → lesser ltb a a ≡ a
 unfolding lesser anything
-lesser-same none = refl
-lesser-same (some n) = lesser-first numbers_ranked n n tt tt (le_refl n)
+lesser-same None = refl
+lesser-same (Some n) = lesser-first numbers_ranked n n tt tt (le_refl n)
 
 -- ---- chosen entries
 module _ {M : Type 0} {◌⊕◌ : M → M → M} {u : M} (L : Monoid ◌⊕◌ u) where

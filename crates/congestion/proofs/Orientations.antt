@@ -1,7 +1,7 @@
 -- Wires of different orientations are never close: each figure is composed of those of the two orientations. Assumes nothing.
+use Rattle.std.specs.Prelude.{None}
 use mathlib.Core.Path.{◌≡◌, refl, sym, ap, ap₂, ◌∙◌, subst}
 use mathlib.Core.List.{List, [], ◌∷◌}
-use mathlib.Core.Option.{none}
 use mathlib.Core.Bool.{Bool, true, false, not, ◌&&◌, beq, cond}
 use Prim.Native.Nat.{ℕ, ◌+◌, ◌*◌, max}
 use native.Mathlib.Omega.{arith}
@@ -123,7 +123,7 @@ module _ (c : ℕ) where
       ∙ sym (ap₂ ◌+◌ (overlap-sum (only true l)) (overlap-sum (only false l)))
 
   pub least-two : (l : List Wire) → least_units c l ≡ lesser ltb (least_units c (only true l)) (least_units c (only false l))
-  least-two l = pairs-two fewest (λ p. cond (close_other c p.0 p.1) (gap p.0 p.1) none) l (λ s t e. ap (λ (b : Bool). cond b (gap s t) none) (far_other s t e))
+  least-two l = pairs-two fewest (λ p. cond (close_other c p.0 p.1) (gap p.0 p.1) None) l (λ s t e. ap (λ (b : Bool). cond b (gap s t) None) (far_other s t e))
 
   close-two : (l : List Wire) → close_pairs c l ≡ close_pairs c (only true l) + close_pairs c (only false l)
   unfolding close_pairs

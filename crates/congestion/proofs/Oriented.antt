@@ -1,7 +1,7 @@
 -- The sweep of one orientation finds the figures over all pairs. Assumes nothing.
+use Rattle.std.specs.Prelude.{Option, None}
 use mathlib.Core.Path.{◌≡◌, refl, sym, ap, ap₂, ◌∙◌, subst}
 use mathlib.Core.List.{List}
-use mathlib.Core.Option.{Option, none}
 use mathlib.Core.Bool.{Bool, true, false, not, ◌&&◌, beq, cond, and_comm}
 use Prim.Native.Nat.{ℕ, ◌+◌, ◌-◌, ◌*◌, ◌≤◌, ◌<◌, min, max}
 use native.Mathlib.Omega.{arith}
@@ -54,7 +54,7 @@ gap-turn s t = ap₂ gap_unless_zero (eqb_turn s.fixed t.fixed) (apart-turn s.fi
 
 -- the least nonzero gap of close pairs of different nets, as a number
 abbrev pub least_units : ℕ → List Wire → Option ℕ
-least_units c l = fold (lesser ltb) none (λ p. cond (close_other c p.0 p.1) (gap p.0 p.1) none) (pairs l)
+least_units c l = fold (lesser ltb) None (λ p. cond (close_other c p.0 p.1) (gap p.0 p.1) None) (pairs l)
 
 -- a wire's stretches are the cells on which it has neighbors
 pub stretches_are : (c : ℕ) (l : List Wire) (s : Wire) → stretches c l s ≡ sum (λ k. bit (not (eqb (neighbors_on c l s k) 0))) (cells s)
@@ -260,15 +260,15 @@ module _ (c : ℕ) (L : List Wire) (sound : Sound L) (alike : (s t : Wire) → M
   unfolding sweep lesser
   least-is =
       run_least c l fit 0 (in_order (wire_events l)) (begin l) (pending c l fit) (tracks c l fit)
-      ∙ at-events fewest (λ t i j. cond (active_at t j && facing c i j) (gap i.wire j.wire) none) none (λ p. cond (close_other c p.0.wire p.1.wire) (gap p.0.wire p.1.wire) none) own pair
-      ∙ ap (λ (z : Option ℕ). lesser ltb z (fold (lesser ltb) none (λ p. cond (close_other c p.0.wire p.1.wire) (gap p.0.wire p.1.wire) none) (pairs l))) (fold-unit fewest (λ (i : Item). none) l (λ i m. refl))
-      ∙ sym (pairs-numbered fewest (λ p. cond (close_other c p.0 p.1) (gap p.0 p.1) none) L)
+      ∙ at-events fewest (λ t i j. cond (active_at t j && facing c i j) (gap i.wire j.wire) None) None (λ p. cond (close_other c p.0.wire p.1.wire) (gap p.0.wire p.1.wire) None) own pair
+      ∙ ap (λ (z : Option ℕ). lesser ltb z (fold (lesser ltb) None (λ p. cond (close_other c p.0.wire p.1.wire) (gap p.0.wire p.1.wire) None) (pairs l))) (fold-unit fewest (λ (i : Item). None) l (λ i m. refl))
+      ∙ sym (pairs-numbered fewest (λ p. cond (close_other c p.0 p.1) (gap p.0 p.1) None) L)
     where
-      own : (i : Item) → Mem i l → lesser ltb (cond (active_at (end_key i) i && facing c i i) (gap i.wire i.wire) none) (cond (active_at (start_key i) i && facing c i i) (gap i.wire i.wire) none) ≡ none
-      own i m = ap (λ (b : Bool). lesser ltb (cond (active_at (end_key i) i && b) (gap i.wire i.wire) none) (cond (active_at (start_key i) i && b) (gap i.wire i.wire) none)) (facing_irr c i) ∙ rw (and_comm (active_at (end_key i) i) false, and_comm (active_at (start_key i) i) false)
+      own : (i : Item) → Mem i l → lesser ltb (cond (active_at (end_key i) i && facing c i i) (gap i.wire i.wire) None) (cond (active_at (start_key i) i && facing c i i) (gap i.wire i.wire) None) ≡ None
+      own i m = ap (λ (b : Bool). lesser ltb (cond (active_at (end_key i) i && b) (gap i.wire i.wire) None) (cond (active_at (start_key i) i && b) (gap i.wire i.wire) None)) (facing_irr c i) ∙ rw (and_comm (active_at (end_key i) i) false, and_comm (active_at (start_key i) i) false)
 
       -- of two one counts where o holds, and none where it does not
-      two : (x : Bool → Option ℕ) → x false ≡ none → (a b o : Bool) → bit a + bit b ≡ bit o → lesser ltb (x a) (x b) ≡ x o
+      two : (x : Bool → Option ℕ) → x false ≡ None → (a b o : Bool) → bit a + bit b ≡ bit o → lesser ltb (x a) (x b) ≡ x o
       two x z true true true e = lesser-same (x true)
       two x z true false true e = ap (lesser ltb (x true)) z ∙ idr fewest (x true)
       two x z false true true e = ap (λ (y : Option ℕ). lesser ltb y (x true)) z
@@ -285,14 +285,14 @@ module _ (c : ℕ) (L : List Wire) (sound : Sound L) (alike : (s t : Wire) → M
       order false false y = refl
 
       pair : (i j : Item) → Mem i l → Mem j l → i.index < j.index
-          → lesser ltb (lesser ltb (cond (active_at (end_key i) j && facing c i j) (gap i.wire j.wire) none) (cond (active_at (start_key i) j && facing c i j) (gap i.wire j.wire) none)) (lesser ltb (cond (active_at (end_key j) i && facing c j i) (gap j.wire i.wire) none) (cond (active_at (start_key j) i && facing c j i) (gap j.wire i.wire) none))
-          ≡ cond (close_other c i.wire j.wire) (gap i.wire j.wire) none
+          → lesser ltb (lesser ltb (cond (active_at (end_key i) j && facing c i j) (gap i.wire j.wire) None) (cond (active_at (start_key i) j && facing c i j) (gap i.wire j.wire) None)) (lesser ltb (cond (active_at (end_key j) i && facing c j i) (gap j.wire i.wire) None) (cond (active_at (start_key j) i && facing c j i) (gap j.wire i.wire) None))
+          ≡ cond (close_other c i.wire j.wire) (gap i.wire j.wire) None
       pair i j m n d =
-          ap₂ (λ (b : Bool) (z : Option ℕ). lesser ltb (lesser ltb (here (active_at (end_key i) j)) (here (active_at (start_key i) j))) (lesser ltb (cond (active_at (end_key j) i && b) z none) (cond (active_at (start_key j) i && b) z none))) (facing_sym c j i) (gap-turn j.wire i.wire)
+          ap₂ (λ (b : Bool) (z : Option ℕ). lesser ltb (lesser ltb (here (active_at (end_key i) j)) (here (active_at (start_key i) j))) (lesser ltb (cond (active_at (end_key j) i && b) z None) (cond (active_at (start_key j) i && b) z None))) (facing_sym c j i) (gap-turn j.wire i.wire)
           ∙ exchange fewest (here (active_at (end_key i) j)) (here (active_at (start_key i) j)) (here (active_at (end_key j) i)) (here (active_at (start_key j) i))
           ∙ ap₂ (lesser ltb) (two here refl (active_at (end_key i) j) (active_at (end_key j) i) (overlaps i.wire j.wire) (once_end i j m n d)) (two here refl (active_at (start_key i) j) (active_at (start_key j) i) (overlaps i.wire j.wire) (once_start i j m n d))
           ∙ lesser-same (here (overlaps i.wire j.wire))
-          ∙ ap (λ (b : Bool). cond b (gap i.wire j.wire) none) (order (overlaps i.wire j.wire) (in_range c i.wire j.wire) (other i.wire j.wire) ∙ ap (λ (b : Bool). (b && overlaps i.wire j.wire) && other i.wire j.wire) (sym (near-is i j m n)))
+          ∙ ap (λ (b : Bool). cond b (gap i.wire j.wire) None) (order (overlaps i.wire j.wire) (in_range c i.wire j.wire) (other i.wire j.wire) ∙ ap (λ (b : Bool). (b && overlaps i.wire j.wire) && other i.wire j.wire) (sym (near-is i j m n)))
         where
           here : Bool → Option ℕ
-          here b = cond (b && facing c i j) (gap i.wire j.wire) none
+          here b = cond (b && facing c i j) (gap i.wire j.wire) None

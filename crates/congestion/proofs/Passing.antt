@@ -1,8 +1,8 @@
 -- The sums of the sweep after all events: each sum over the stretches between events is a sum over cells. Assumes nothing.
+use Rattle.std.specs.Prelude.{Option, None}
 use mathlib.Core.Path.{◌≡◌, refl, sym, ap, ap₂, ◌∙◌}
 use mathlib.Core.Logic.{inl, inr}
 use mathlib.Core.List.{List, [], ◌∷◌}
-use mathlib.Core.Option.{Option, none}
 use mathlib.Core.Bool.{Bool, true, false, ◌&&◌, cond}
 use Prim.Native.Nat.{ℕ, ◌+◌, ◌-◌, ◌*◌, ◌≤◌}
 use native.Mathlib.Omega.{arith}
@@ -103,21 +103,21 @@ module _ (c : ℕ) (l : List Item) (fit : Fit l) where
 
   -- ---- the least gap to a neighbor at each event
   abbrev pub least_at : WireEvent → Option ℕ
-  least_at e = fold (lesser ltb) none (λ i. cond (active_at (key e) i && facing c e.item i) (gap e.item.wire i.wire) none) l
+  least_at e = fold (lesser ltb) None (λ i. cond (active_at (key e) i && facing c e.item i) (gap e.item.wire i.wire) None) l
 
-  pub run_least : (t : ℕ) (q : List WireEvent) (st : State) → Pending l t st.previous q → Tracks c l (active_at t) st → (run c q st).minimum_positive ≡ lesser ltb st.minimum_positive (fold (lesser ltb) none least_at q)
+  pub run_least : (t : ℕ) (q : List WireEvent) (st : State) → Pending l t st.previous q → Tracks c l (active_at t) st → (run c q st).minimum_positive ≡ lesser ltb st.minimum_positive (fold (lesser ltb) None least_at q)
   unfolding runs fold
-  run_least = sweep_ind (λ t q st. (run c q st).minimum_positive ≡ lesser ltb st.minimum_positive (fold (lesser ltb) none least_at q)) (λ t st pe. sym (idr fewest st.minimum_positive)) more
+  run_least = sweep_ind (λ t q st. (run c q st).minimum_positive ≡ lesser ltb st.minimum_positive (fold (lesser ltb) None least_at q)) (λ t st pe. sym (idr fewest st.minimum_positive)) more
     where
       here : (t : ℕ) (b : Bool) (s : Item) (q : List WireEvent) (st : State) → Pending l t st.previous (event b s ∷ q) → Tracks c l (active_at t) st
-          → fold (lesser ltb) none (λ r. cond (neighbor c s.wire r) (gap s.wire r.item.wire) none) st.wires ≡ least_at (event b s)
-      here t b s q st pe tr = over_rows fewest c l (active_at (key (event b s))) st (tracks_same c l (active_at t) (active_at (key (event b s))) st (unchanged l fit t st.previous (event b s) q pe) tr) (λ r. cond (neighbor c s.wire r) (gap s.wire r.item.wire) none)
+          → fold (lesser ltb) None (λ r. cond (neighbor c s.wire r) (gap s.wire r.item.wire) None) st.wires ≡ least_at (event b s)
+      here t b s q st pe tr = over_rows fewest c l (active_at (key (event b s))) st (tracks_same c l (active_at t) (active_at (key (event b s))) st (unchanged l fit t st.previous (event b s) q pe) tr) (λ r. cond (neighbor c s.wire r) (gap s.wire r.item.wire) None)
 
       put : (z a n r : Option ℕ) → a ≡ n → lesser ltb (lesser ltb z a) r ≡ lesser ltb z (lesser ltb n r)
       put z a n r e = fewest.assoc z a r ∙ ap (λ (y : Option ℕ). lesser ltb z (lesser ltb y r)) e
 
       more : (t : ℕ) (b : Bool) (s : Item) (q : List WireEvent) (st : State) → Pending l t st.previous (event b s ∷ q) → Tracks c l (active_at t) st
-          → (run c q (step c st (event b s)).value).minimum_positive ≡ lesser ltb (step c st (event b s)).value.minimum_positive (fold (lesser ltb) none least_at q)
-          → (run c q (step c st (event b s)).value).minimum_positive ≡ lesser ltb st.minimum_positive (lesser ltb (least_at (event b s)) (fold (lesser ltb) none least_at q))
-      more t true s q st pe tr ih = ih ∙ put st.minimum_positive _ (least_at (event true s)) (fold (lesser ltb) none least_at q) (here t true s q st pe tr)
-      more t false s q st pe tr ih = ih ∙ put st.minimum_positive _ (least_at (event false s)) (fold (lesser ltb) none least_at q) (here t false s q st pe tr)
+          → (run c q (step c st (event b s)).value).minimum_positive ≡ lesser ltb (step c st (event b s)).value.minimum_positive (fold (lesser ltb) None least_at q)
+          → (run c q (step c st (event b s)).value).minimum_positive ≡ lesser ltb st.minimum_positive (lesser ltb (least_at (event b s)) (fold (lesser ltb) None least_at q))
+      more t true s q st pe tr ih = ih ∙ put st.minimum_positive _ (least_at (event true s)) (fold (lesser ltb) None least_at q) (here t true s q st pe tr)
+      more t false s q st pe tr ih = ih ∙ put st.minimum_positive _ (least_at (event false s)) (fold (lesser ltb) None least_at q) (here t false s q st pe tr)

@@ -1,8 +1,8 @@
 -- The Rust's float sums of a whole drawing are the floats of the figures over all pairs. Assumes nothing.
+use Rattle.std.specs.Prelude.{Option, None}
 use mathlib.Core.Path.{◌≡◌, refl, sym, ap, ap₂, ◌∙◌, subst}
 use mathlib.Core.Logic.{inl, inr}
 use mathlib.Core.List.{List, [], ◌∷◌, map}
-use mathlib.Core.Option.{Option, none}
 use mathlib.Core.Bool.{Bool, true, false, beq}
 use Prim.Native.Nat.{ℕ, suc, ◌+◌, ◌^◌, ◌<◌}
 use native.Mathlib.Omega.{arith}
@@ -136,10 +136,10 @@ sweep_sums_exact c l f =
     let m = small-wires (only_of true l) fh in
     let x : 0 + congested c flat + congested c upright ≡ congested c (map wire_of l) = ap₂ (λ (p q : List Wire). 0 + congested c p + congested c q) (only-wires true l) (only-wires false l) ∙ last (congested c (only true (map wire_of l))) (congested c (only false (map wire_of l))) ∙ sym (congested-two c (map wire_of l)) in
     let y : 0 + pair_overlap c flat + pair_overlap c upright ≡ pair_overlap c (map wire_of l) = ap₂ (λ (p q : List Wire). 0 + pair_overlap c p + pair_overlap c q) (only-wires true l) (only-wires false l) ∙ last (pair_overlap c (only true (map wire_of l))) (pair_overlap c (only false (map wire_of l))) ∙ sym (overlap-two c (map wire_of l)) in
-    let z : lesser ltb (lesser ltb none (least_units c flat)) (least_units c upright) ≡ least_units c (map wire_of l) = ap₂ (λ (p q : List Wire). lesser ltb (lesser ltb none (least_units c p)) (least_units c q)) (only-wires true l) (only-wires false l) ∙ ap (λ (o : Option ℕ). lesser ltb o (least_units c (only false (map wire_of l)))) (fewest.idl (least_units c (only true (map wire_of l)))) ∙ sym (least-two c (map wire_of l)) in
-    ap (λ (s : Sums). rounded_join c (rounded_join c s (only_of true l)) (only_of false l)) (λ i. (sym zero_units i, sym zero_units i, gap_of_units none))
-    ∙ ap (λ (s : Sums). rounded_join c s (only_of false l)) (join_exact c (only_of true l) fh (only-alike true l) 0 0 none (omega arith) (omega arith) tt)
-    ∙ join_exact c (only_of false l) fv (only-alike false l) (0 + congested c flat) (0 + pair_overlap c flat) (lesser ltb none (least_units c flat)) (let h = congested-small c flat v m in omega arith) (let h = overlap-small c flat v m in omega arith) (held-lesser none (least_units c flat) tt (held-least c flat (low-wires (only_of true l) fh)))
+    let z : lesser ltb (lesser ltb None (least_units c flat)) (least_units c upright) ≡ least_units c (map wire_of l) = ap₂ (λ (p q : List Wire). lesser ltb (lesser ltb None (least_units c p)) (least_units c q)) (only-wires true l) (only-wires false l) ∙ ap (λ (o : Option ℕ). lesser ltb o (least_units c (only false (map wire_of l)))) (fewest.idl (least_units c (only true (map wire_of l)))) ∙ sym (least-two c (map wire_of l)) in
+    ap (λ (s : Sums). rounded_join c (rounded_join c s (only_of true l)) (only_of false l)) (λ i. (sym zero_units i, sym zero_units i, gap_of_units None))
+    ∙ ap (λ (s : Sums). rounded_join c s (only_of false l)) (join_exact c (only_of true l) fh (only-alike true l) 0 0 None (omega arith) (omega arith) tt)
+    ∙ join_exact c (only_of false l) fv (only-alike false l) (0 + congested c flat) (0 + pair_overlap c flat) (lesser ltb None (least_units c flat)) (let h = congested-small c flat v m in omega arith) (let h = overlap-small c flat v m in omega arith) (held-lesser None (least_units c flat) tt (held-least c flat (low-wires (only_of true l) fh)))
     ∙ (λ i. sums (x i) (y i) (z i))
   where
     last : (a b : ℕ) → 0 + a + b ≡ a + b

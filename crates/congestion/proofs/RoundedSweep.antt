@@ -1,8 +1,8 @@
 -- The Rust's float sums along the sweep are the floats of the sums in 64ths. Assumes nothing.
+use Rattle.std.specs.Prelude.{None, Some}
 use mathlib.Core.Path.{◌≡◌, refl, sym, ap, ap₂, ◌∙◌, subst}
 use mathlib.Core.Logic.{inl}
 use mathlib.Core.List.{List, [], ◌∷◌}
-use mathlib.Core.Option.{none, some}
 use mathlib.Core.Bool.{Bool, true, false, not, ◌&&◌, cond, beq}
 use Prim.Native.Nat.{ℕ, ◌+◌, ◌-◌, ◌*◌, ◌^◌, ◌≤◌, ◌<◌}
 use native.Mathlib.Omega.{arith}
@@ -104,13 +104,13 @@ module _ (c : ℕ) (l : List Item) (fit : Fit l) (few : length l ≤ 4096) (x : 
     least-neighbor : least_gap (chosen (λ r. neighbor c s.wire r && lt plus_zero (gap_of (x.fixed r.item) (x.fixed s))) (λ r. gap_of (x.fixed r.item) (x.fixed s)) st.wires) ≡ gap_of_units (least_here c s st)
     least-neighbor =
         least-of-chosen (λ r. neighbor c s.wire r && lt plus_zero (gap_of (x.fixed r.item) (x.fixed s))) (λ r. gap_of (x.fixed r.item) (x.fixed s)) (λ r. apart s.wire.fixed r.item.wire.fixed) st.wires separation
-        ∙ ap gap_of_units (fold_same fewest (λ r. cond (neighbor c s.wire r && lt plus_zero (gap_of (x.fixed r.item) (x.fixed s))) (some (apart s.wire.fixed r.item.wire.fixed)) none) (λ r. cond (neighbor c s.wire r) (gap s.wire r.item.wire) none) st.wires
+        ∙ ap gap_of_units (fold_same fewest (λ r. cond (neighbor c s.wire r && lt plus_zero (gap_of (x.fixed r.item) (x.fixed s))) (Some (apart s.wire.fixed r.item.wire.fixed)) None) (λ r. cond (neighbor c s.wire r) (gap s.wire r.item.wire) None) st.wires
         (λ r m. let h = separation r m in
-        ap (λ (b : Bool). cond (neighbor c s.wire r && b) (some (apart s.wire.fixed r.item.wire.fixed)) none) (ap (lt plus_zero) h.0 ∙ above_zero s.wire.fixed r.item.wire.fixed h.1)
+        ap (λ (b : Bool). cond (neighbor c s.wire r && b) (Some (apart s.wire.fixed r.item.wire.fixed)) None) (ap (lt plus_zero) h.0 ∙ above_zero s.wire.fixed r.item.wire.fixed h.1)
         ∙ nonzero-one (neighbor c s.wire r) (eqb s.wire.fixed r.item.wire.fixed) (apart s.wire.fixed r.item.wire.fixed)))
 
     held-neighbor : Representable (least_here c s st)
-    held-neighbor = held-fold (λ r. cond (neighbor c s.wire r) (gap s.wire r.item.wire) none) st.wires (λ r m. held-gap (neighbor c s.wire r) (eqb s.wire.fixed r.item.wire.fixed) (apart s.wire.fixed r.item.wire.fixed) (separation r m).1)
+    held-neighbor = held-fold (λ r. cond (neighbor c s.wire r) (gap s.wire r.item.wire) None) st.wires (λ r m. held-gap (neighbor c s.wire r) (eqb s.wire.fixed r.item.wire.fixed) (apart s.wire.fixed r.item.wire.fixed) (separation r m).1)
 
   -- ---- one event, and all
   module _ (t : ℕ) (b : Bool) (s : Item) (q : List WireEvent) (st : State) (pe : Pending l t st.previous (event b s ∷ q)) (tr : Tracks c l (active_at t) st) where
@@ -152,7 +152,7 @@ module _ (c : ℕ) (L : List Wire) (sound : Sound L) (small : Small L) (alike : 
   first_matches : Matches (begin l) (first_amounts x (in_order (wire_events l)))
   first_matches = go (in_order (wire_events l)) (in_list l fit)
     where
-      go : (q : List WireEvent) → ((e : WireEvent) → Mem e q → Mem e.item l) → Matches (record { wires = (begin l).wires; congested_active = 0; close_pairs = 0; previous = first_at q; congested_length = 0; pair_overlap_length = 0; peak_close_neighbors = 0; minimum_positive = none }) (first_amounts x q)
+      go : (q : List WireEvent) → ((e : WireEvent) → Mem e q → Mem e.item l) → Matches (record { wires = (begin l).wires; congested_active = 0; close_pairs = 0; previous = first_at q; congested_length = 0; pair_overlap_length = 0; peak_close_neighbors = 0; minimum_positive = None }) (first_amounts x q)
       go [] h = record { congested = sym zero_units; overlap = sym zero_units; last = zero_stands; least = refl; held = tt }
       go (e ∷ q) h = record { congested = sym zero_units; overlap = sym zero_units; last = event_stands x e.ends e.item (stands e.item (h e (inl refl))); least = refl; held = tt }
 

@@ -1,9 +1,8 @@
 -- The Rust's sweep over wires measures the figures over all pairs, and its visits are the formula. Assumes nothing.
-use Rattle.std.specs.Prelude.{Option}
+use Rattle.std.specs.Prelude.{Option, None}
 use mathlib.Core.Path.{◌≡◌, refl, sym, ap, ap₂, ◌∙◌, subst}
 use mathlib.Core.Logic.{inl, inr}
 use mathlib.Core.List.{List, [], ◌∷◌}
-use mathlib.Core.Option.{Option, none}
 use mathlib.Core.Bool.{Bool, true, false, not, ◌&&◌, beq, cond, and_comm}
 use Prim.Native.Nat.{ℕ, ◌+◌, ◌*◌, ◌<◌, max}
 use native.Mathlib.Omega.{arith}
@@ -50,8 +49,8 @@ module _ (c : ℕ) (l : List Wire) (no-others : (s t : Wire) → Mem s l → Mem
   unfolding pair_overlap close_other_pairs
   no_overlap = fold-chosen plus (λ p. overlap p.0 p.1) (λ p. close_other c p.0 p.1) (λ p. p) (pairs l) ∙ fold-unit plus (λ p. cond (close_other c p.0 p.1) (overlap p.0 p.1) 0) (pairs l) (λ p m. let h = mem_pairs p l m in ap (λ (b : Bool). cond b (overlap p.0 p.1) 0) (no-others p.0 p.1 h.0 h.1))
 
-  pub no_least : least_units c l ≡ none
-  no_least = fold-unit fewest (λ p. cond (close_other c p.0 p.1) (gap p.0 p.1) none) (pairs l) (λ p m. let h = mem_pairs p l m in ap (λ (b : Bool). cond b (gap p.0 p.1) none) (no-others p.0 p.1 h.0 h.1))
+  pub no_least : least_units c l ≡ None
+  no_least = fold-unit fewest (λ p. cond (close_other c p.0 p.1) (gap p.0 p.1) None) (pairs l) (λ p m. let h = mem_pairs p l m in ap (λ (b : Bool). cond b (gap p.0 p.1) None) (no-others p.0 p.1 h.0 h.1))
 
 -- a cutoff of 0
 none-near : (c : ℕ) → c ≡ 0 → (l : List Wire) (s t : Wire) → Mem s l → Mem t l → close_other c s t ≡ false
@@ -116,7 +115,7 @@ abbrev pub found : ℕ → List Wire → Charged (ParallelCongestion × (Option 
 found c l = gathered (total l) (congested c l) (pair_overlap c l) (peak c l) (least_units c l) (visits c l)
 
 -- SCOPE 3.16, 4.5: "Cutoff 0 or less gives total length, zeros and an absent gap", at no cost
-pub zero-cutoff : (c : ℕ) → c ≡ 0 → (l : List Wire) → found c l ≡ gathered (total l) 0 0 0 none 0
+pub zero-cutoff : (c : ℕ) → c ≡ 0 → (l : List Wire) → found c l ≡ gathered (total l) 0 0 0 None 0
 unfolding visits
 zero-cutoff c e l =
     let q = none-near c e l in

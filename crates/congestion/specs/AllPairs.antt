@@ -20,7 +20,7 @@ abbrev pub gapped : ℕ → Wire → Wire → Bool
 gapped c s t = close_other c s t && not (eqb s.fixed t.fixed)
 
 -- SCOPE 3.15: "the least nonzero gap of close different-net pairs", each gap one rounded subtraction of the given coordinates; +0 and -0 have the same number of 64ths, so the gap between them counts as zero
-unfoldable pub least_nonzero : ℕ → List Segment → (Option Float)
+unfoldable pub least_nonzero : ℕ → List Segment → Option Float
 least_nonzero c l = least_gap (chosen (λ p. gapped c (wire_of p.0) (wire_of p.1)) (λ p. gap_of p.0.fixed p.1.fixed) (pairs l))
 
 -- SCOPE 6.3: the figures of the report and the least gap, and what they cost, for a drawing on the grid: a float off it is no number of 64ths, and check 6 comes first. "The all-pairs report is the measure's figures above with its visit count."

@@ -16,11 +16,11 @@ abbrev pub report_of : ParallelCongestion × (Option Float) → ℕ → Congesti
 report_of p n = record { congestion = p.0; minimum_positive = p.1; visits = n }
 
 -- SCOPE 7.7, 8.3: "7. `WorkLimitExceeded`: the visit count exceeds the allowance"
-unfoldable pub settled : ℕ → Charged (ParallelCongestion × (Option Float)) → (Result CongestionReport Refusal)
+unfoldable pub settled : ℕ → Charged (ParallelCongestion × (Option Float)) → Result CongestionReport Refusal
 settled allowance c = settle (λ p n. Ok (report_of p n)) (Err WorkLimitExceeded) allowance c
 
 -- SCOPE 6.2: `measure_parallel_density_profile_bounded`, "the congestion reference", with a scratch whose length is `words`
-unfoldable pub density_answer : SegmentColumns → Float → ℕ → ℕ → (Result CongestionReport Refusal)
+unfoldable pub density_answer : SegmentColumns → Float → ℕ → ℕ → Result CongestionReport Refusal
 density_answer s cutoff allowance words = checked Err (first_of (congestion_conditions s cutoff words)) (settled allowance (all_pairs cutoff (segments s)))
 
 -- SCOPE 6.2: "is the same with pair overlap and peak zero"
@@ -30,11 +30,11 @@ without_density c =
     record { value = (record { total_length = p.total_length; congested_length = p.congested_length; pair_overlap_length = plus_zero; peak_close_neighbors = 0 }, c.value.1); cost = c.cost }
 
 -- SCOPE 6.2: `measure_parallel_congestion_profile_bounded`
-unfoldable pub profile_answer : SegmentColumns → Float → ℕ → ℕ → (Result CongestionReport Refusal)
+unfoldable pub profile_answer : SegmentColumns → Float → ℕ → ℕ → Result CongestionReport Refusal
 profile_answer s cutoff allowance words = checked Err (first_of (congestion_conditions s cutoff words)) (settled allowance (without_density (all_pairs cutoff (segments s))))
 
 -- SCOPE 6.2: `measure_parallel_congestion` "counts as having an allowance that always reaches"
-unfoldable pub congestion_answer : SegmentColumns → Float → ℕ → (Result CongestionReport Refusal)
+unfoldable pub congestion_answer : SegmentColumns → Float → ℕ → Result CongestionReport Refusal
 congestion_answer s cutoff words = let c = all_pairs cutoff (segments s) in checked Err (first_of (congestion_conditions s cutoff words)) (Ok (report_of c.value c.cost))
 
 -- SCOPE 6.3: "a report of zeros and absent gaps"
@@ -42,6 +42,6 @@ abbrev pub zeros : CongestionReport
 zeros = record { congestion = record { total_length = plus_zero; congested_length = plus_zero; pair_overlap_length = plus_zero; peak_close_neighbors = 0 }; minimum_positive = None; visits = 0 }
 
 -- SCOPE 6.3, 8.5: "A refusal returns its number and a report of zeros and absent gaps": each case by its number, 0 for a report, and its values
-unfoldable pub result_of : (Result CongestionReport Refusal) → ℕ × CongestionReport
+unfoldable pub result_of : Result CongestionReport Refusal → ℕ × CongestionReport
 result_of (Ok r) = (0, r)
 result_of (Err r) = (number_of r, zeros)

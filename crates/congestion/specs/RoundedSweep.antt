@@ -24,7 +24,7 @@ pub record Amounts : Type 0 where
   pub congested_length : Float
   pub pair_overlap_length : Float
   pub previous : Float
-  pub minimum_positive : (Option Float)
+  pub minimum_positive : Option Float
 
 -- `congested_length += congested_active as f64 * (coordinate.0 - previous)`, and the same for the pairs; then the least of the separations of the neighbors that are `> 0.0`
 unfoldable pub rounded_step : ℕ → Coordinates → State → Amounts → WireEvent → Amounts

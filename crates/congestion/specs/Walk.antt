@@ -1,6 +1,5 @@
 -- The Rust's sweep with no limit (SCOPE 5.12), over wires: a state for each event, and the visits that each event costs.
 use Rattle.std.specs.Prelude.{List, [], ◌∷◌, map, Bool, true, false, not, ◌&&◌, cond, ℕ, suc, ◌+◌, ◌-◌, ◌*◌, max, ltb, eqb, Float, length, Option, Some, None}
-use Rattle.std.proofs.Math.Option.{Option, none, some}
 use Rattle.std.specs.Bool.{beq}
 use Rattle.laws.specs.Lists.{keep, bit, fold, count}
 use Rattle.laws.specs.Rows.{row_le}
@@ -90,8 +89,8 @@ pub record State : Type 0 where
 
 -- the gap of two wires, where it is not zero
 abbrev pub gap_unless_zero : Bool → ℕ → Option ℕ
-gap_unless_zero true g = none
-gap_unless_zero false g = some g
+gap_unless_zero true g = None
+gap_unless_zero false g = Some g
 
 abbrev pub gap : Wire → Wire → Option ℕ
 gap s t = gap_unless_zero (eqb s.fixed t.fixed) (apart s.fixed t.fixed)
@@ -104,7 +103,7 @@ module _ (c : ℕ) (i : Item) (st : State) where
 
   -- the least nonzero gap to a neighbor
   abbrev pub least_here : Option ℕ
-  least_here = fold (lesser ltb) none (λ r. cond (neighbor c i.wire r) (gap i.wire r.item.wire) none) st.wires
+  least_here = fold (lesser ltb) None (λ r. cond (neighbor c i.wire r) (gap i.wire r.item.wire) None) st.wires
 
   -- 1 where the item's own count is not 0
   abbrev pub was_congested : ℕ
@@ -150,7 +149,7 @@ first_at (e ∷ l) = at e
 
 -- before the first event: nothing is active, and `previous` is the first coordinate
 abbrev pub begin : List Item → State
-begin l = record { wires = map (λ i. record { item = i; active = false; neighbors = 0 }) l; congested_active = 0; close_pairs = 0; previous = first_at (in_order (wire_events l)); congested_length = 0; pair_overlap_length = 0; peak_close_neighbors = 0; minimum_positive = none }
+begin l = record { wires = map (λ i. record { item = i; active = false; neighbors = 0 }) l; congested_active = 0; close_pairs = 0; previous = first_at (in_order (wire_events l)); congested_length = 0; pair_overlap_length = 0; peak_close_neighbors = 0; minimum_positive = None }
 
 -- `congested_length_for_orientation`
 unfoldable pub sweep : ℕ → List Wire → Charged State
@@ -165,9 +164,9 @@ abbrev pub only : Bool → List Wire → List Wire
 only h l = keep (λ s. beq h s.horizontal) l
 
 -- the gap of a number of 64ths
-abbrev pub gap_of_units : Option ℕ → (Option Float)
-gap_of_units none = None
-gap_of_units (some n) = Some (of_units n)
+abbrev pub gap_of_units : Option ℕ → Option Float
+gap_of_units None = None
+gap_of_units (Some n) = Some (of_units n)
 
 -- SCOPE 3.16, 5.12: `measure_parallel_profile_bounded` with no limit; on an empty list, where the Rust returns early too, all is 0
 unfoldable pub sweep_wires : ℕ → List Wire → Charged (ParallelCongestion × (Option Float))

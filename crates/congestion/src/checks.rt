@@ -2,12 +2,13 @@
 ghost use Rattle.std.specs.Prelude.{◌≡◌};
 ghost use Rattle.laws.specs.Lists.{some_of};
 ghost use Rattle.drawing.specs.Refusals.{first_of};
-ghost use Rattle.drawing.specs.Entries.{segment_columns, segments};
+ghost use Rattle.drawing.specs.Entries as Entries;
+ghost use Rattle.drawing.specs.Entries.{lent_segments, segments};
 ghost use Rattle.drawing.specs.Inner.Lengths.{SegmentsAgree};
 ghost use Rattle.drawing.specs.Conditions.{off_grid_fields, off_grid_segment};
 ghost use Rattle.congestion.specs.Conditions.{congestion_conditions};
 
-use drawing::Refusal;
+use drawing::{Refusal, Segments};
 use floats::{is_finite, on_grid};
 use list_checks::check_segments;
 
@@ -25,18 +26,14 @@ fn segment_off_grid(fixed: f64, start: f64, end: f64) -> bool
 }
 
 fn segments_off_grid(
-    net: &[u32],
-    orientation: &[u8],
-    fixed: &[f64],
-    start: &[f64],
-    end: &[f64],
+    segments: &Segments<'_>,
 ) -> bool
-    requires { SegmentsAgree (segment_columns net.now orientation.now fixed.now start.now end.now) }
-    ensures { result ≡ some_of off_grid_segment (segments (segment_columns net.now orientation.now fixed.now start.now end.now)) }
+    requires { SegmentsAgree (lent_segments segments.now) }
+    ensures { result ≡ some_of off_grid_segment (Entries.segments (lent_segments segments.now)) }
 {
     let mut i = 0;
-    while i < net.len() {
-        if segment_off_grid(fixed[i], start[i], end[i]) {
+    while i < segments.net.len() {
+        if segment_off_grid(segments.fixed[i], segments.start[i], segments.end[i]) {
             return true;
         }
         i += 1;
@@ -46,24 +43,20 @@ fn segments_off_grid(
 
 // The checks of segments and scratch, then those of the cutoff and the grid.
 pub fn check_congestion(
-    net: &[u32],
-    orientation: &[u8],
-    fixed: &[f64],
-    start: &[f64],
-    end: &[f64],
+    segments: &Segments<'_>,
     cutoff: f64,
     words: usize,
 ) -> Result<(), Refusal>
-    ensures { result ≡ first_of (congestion_conditions (segment_columns net.now orientation.now fixed.now start.now end.now) cutoff words) }
+    ensures { result ≡ first_of (congestion_conditions (lent_segments segments.now) cutoff words) }
 {
-    let first = check_segments(net, orientation, fixed, start, end, words);
+    let first = check_segments(segments, words);
     let Ok(()) = first else {
         return first;
     };
     if !is_finite(cutoff) {
         return Err(Refusal::InvalidInput);
     }
-    if segments_off_grid(net, orientation, fixed, start, end) {
+    if segments_off_grid(segments) {
         return Err(Refusal::OffGrid);
     }
     if !on_grid(cutoff) {

@@ -24,7 +24,7 @@ pub plain-answer : (c : SegmentColumns) (cutoff : Float) (allowance words : ℕ)
 unfolding density_answer profile_answer settled settle
 plain-answer c cutoff allowance words = go (first_of (congestion_conditions c cutoff words)) (reaches allowance (all_pairs cutoff (segments c)))
   where
-    go : (k : (Result Unit Refusal)) (b : Bool)
+    go : (k : Result Unit Refusal) (b : Bool)
         → answer_without_density (checked Err k (cond b (Ok (report_of (all_pairs cutoff (segments c)).value (all_pairs cutoff (segments c)).cost)) (Err WorkLimitExceeded)))
         ≡ checked Err k (cond b (Ok (report_of (without_density (all_pairs cutoff (segments c))).value (all_pairs cutoff (segments c)).cost)) (Err WorkLimitExceeded))
     go (Checked.Refused r) b = refl
@@ -36,7 +36,7 @@ pub great_allowance : (c : SegmentColumns) (cutoff : Float) (m words : ℕ) → 
 unfolding settled
 great_allowance c cutoff m words h = go (first_of (congestion_conditions c cutoff words)) refl
   where
-    go : (k : (Result Unit Refusal)) → first_of (congestion_conditions c cutoff words) ≡ k → density_answer c cutoff m words ≡ congestion_answer c cutoff words
+    go : (k : Result Unit Refusal) → first_of (congestion_conditions c cutoff words) ≡ k → density_answer c cutoff m words ≡ congestion_answer c cutoff words
     go (Checked.Refused r) e = density_settles.earlier c cutoff m words r e ∙ sym (congestion-earlier c cutoff words r e)
     go Checked.Passed e =
         let few = (fit_list c cutoff words e).few in

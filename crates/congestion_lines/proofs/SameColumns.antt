@@ -13,8 +13,8 @@ use Rattle.congestion.specs.Conditions.{congestion_conditions}
 use Rattle.congestion.specs.Answer.{density_answer, profile_answer, congestion_answer}
 
 -- `answer` is what the call answers of columns and the length of the scratch
-abbrev Promised : (SegmentColumns → ℕ → (Result CongestionReport Refusal)) → Float → List ℕ → (Result CongestionReport Refusal) → List ℕ → SegmentColumns → Type 0
-Promised answer cutoff before told after s = (told ≡ answer s (length before)) × (after ≡ scratch_after (first_of (congestion_conditions s cutoff (length before))) before) × (first_of (congestion_conditions s cutoff (length before)) ≡ (Ok tt) → SegmentsHeld s × Binary64 cutoff)
+abbrev Promised : (SegmentColumns → ℕ → (Result CongestionReport Refusal)) → Float → List ℕ → Result CongestionReport Refusal → List ℕ → SegmentColumns → Type 0
+Promised answer cutoff before told after s = (told ≡ answer s (length before)) × (after ≡ scratch_after (first_of (congestion_conditions s cutoff (length before))) before) × (first_of (congestion_conditions s cutoff (length before)) ≡ Ok tt → SegmentsHeld s × Binary64 cutoff)
 
 module _ (cutoff : Float) (allowance : ℕ) (before : List ℕ) {told : (Result CongestionReport Refusal)} {after : List ℕ} {s t : SegmentColumns} where
   pub density-of-equal : s ≡ t → Promised (λ u. density_answer u cutoff allowance) cutoff before told after s → Promised (λ u. density_answer u cutoff allowance) cutoff before told after t

@@ -22,7 +22,7 @@ pub fn density_of_lines(
         let refusal = first_of (congestion_conditions lent cutoff words) in
         (result ≡ density_answer lent cutoff allowance words)
         × (scratch.new ≡ scratch_after refusal scratch.old)
-        × (refusal ≡ (Ok tt) → SegmentsHeld lent × Binary64 cutoff) }
+        × (refusal ≡ Ok tt → SegmentsHeld lent × Binary64 cutoff) }
 {
     let mut net = [0; 4097];
     let mut orientation = [0; 4097];

@@ -21,7 +21,7 @@ pub fn congestion_of_lines(
         let refusal = first_of (congestion_conditions lent cutoff words) in
         (result ≡ congestion_answer lent cutoff words)
         × (scratch.new ≡ scratch_after refusal scratch.old)
-        × (refusal ≡ (Ok tt) → SegmentsHeld lent × Binary64 cutoff) }
+        × (refusal ≡ Ok tt → SegmentsHeld lent × Binary64 cutoff) }
 {
     let mut net = [0; 4097];
     let mut orientation = [0; 4097];

@@ -45,7 +45,7 @@ reported r = refl
 abbrev floats_of : ParallelCongestion × (Option Float) → List Float
 floats_of f = density.floats f
 
-all-numbers : (s : SegmentColumns) (cutoff : Float) (words : ℕ) → first_of (congestion_conditions s cutoff words) ≡ (Ok tt) → All Reported (floats_of (all_pairs cutoff (segments s)).value)
+all-numbers : (s : SegmentColumns) (cutoff : Float) (words : ℕ) → first_of (congestion_conditions s cutoff words) ≡ Ok tt → All Reported (floats_of (all_pairs cutoff (segments s)).value)
 unfolding all_pairs lengths least_nonzero
 all-numbers s cutoff words p =
     let f = fit_list s cutoff words p in (
@@ -67,7 +67,7 @@ module _ (part : Charges → Charges) (A : Type 0) (reach : A → ℕ → Bool) 
     (costs : (c : Charges) → (part c).cost ≡ c.cost)
     (parts : (c : Charges) → All Reported (floats_of c.value) → All Reported (floats_of (part c).value))
     (refuses : (s : SegmentColumns) (cutoff : Float) (a : A) (words : ℕ) (r : Refusal) → first_of (congestion_conditions s cutoff words) ≡ Err r → answers s cutoff a words ≡ Err r)
-    (settles : (s : SegmentColumns) (cutoff : Float) (a : A) (words : ℕ) → first_of (congestion_conditions s cutoff words) ≡ (Ok tt) → result_of (answers s cutoff a words) ≡ cond (reach a (all_pairs cutoff (segments s)).cost) (0, report_of (part (all_pairs cutoff (segments s))).value (all_pairs cutoff (segments s)).cost) (7, zeros)) where
+    (settles : (s : SegmentColumns) (cutoff : Float) (a : A) (words : ℕ) → first_of (congestion_conditions s cutoff words) ≡ Ok tt → result_of (answers s cutoff a words) ≡ cond (reach a (all_pairs cutoff (segments s)).cost) (0, report_of (part (all_pairs cutoff (segments s))).value (all_pairs cutoff (segments s)).cost) (7, zeros)) where
   facts : Facts (of_congestion part A reach answers)
   unfolding all_pairs
   facts = record {
@@ -85,7 +85,7 @@ module _ (part : Charges → Charges) (A : Type 0) (reach : A → ℕ → Bool) 
 
 -- a call with an allowance
 module _ (part : Charges → Charges) (answers : SegmentColumns → Float → ℕ → ℕ → (Result CongestionReport Refusal)) (costs : (c : Charges) → (part c).cost ≡ c.cost) (parts : (c : Charges) → All Reported (floats_of c.value) → All Reported (floats_of (part c).value)) (d : Settles answers (λ cutoff l. part (all_pairs cutoff l))) where
-  settled : (s : SegmentColumns) (cutoff : Float) (a words : ℕ) → first_of (congestion_conditions s cutoff words) ≡ (Ok tt)
+  settled : (s : SegmentColumns) (cutoff : Float) (a words : ℕ) → first_of (congestion_conditions s cutoff words) ≡ Ok tt
       → result_of (answers s cutoff a words) ≡ cond (leb (part (all_pairs cutoff (segments s))).cost a) (0, report_of (part (all_pairs cutoff (segments s))).value (part (all_pairs cutoff (segments s))).cost) (7, zeros)
   unfolding settle
   settled s cutoff a words p = ap result_of (d.behind s cutoff a words p) ∙ result_settles a (part (all_pairs cutoff (segments s)))

@@ -12,7 +12,7 @@ use Rattle.demands.proofs.OneCall.{refusing}
 use Rattle.demands.proofs.AllFacts.{all_facts}
 use Rattle.demands.proofs.CheckingOrder.{in_order}
 
-checking : (l : List (Bool × Refusal)) (answer : (Result Unit Refusal)) → answer ≡ first_of l → Checking l answer
+checking : (l : List (Bool × Refusal)) (answer : Result Unit Refusal) → answer ≡ first_of l → Checking l answer
 unfolding number_of_check
 checking l answer e = record { unfit = λ why f. ap number_of_check (e ∙ first-refused l why f); fit = λ h. ap number_of_check (e ∙ none_passed l h) }
 

@@ -9,7 +9,7 @@ use Rattle.drawing.specs.Refusals.{number_of, first_of}
 use Rattle.demands.specs.Measures.{Measure, Reported}
 
 abbrev pub Passes : (m : Measure) → m.Drawing → m.Settings → ℕ → Type 0
-Passes m d s words = first_of (m.conditions d s words) ≡ (Ok tt)
+Passes m d s words = first_of (m.conditions d s words) ≡ Ok tt
 
 -- two drawings have one report
 pub record Same (m : Measure) (d e : m.Drawing) (s : m.Settings) : Type 0 where

@@ -24,7 +24,7 @@ pub first-refused : (l : List (Bool × Refusal)) (why : Refusal) → First l why
 first-refused l why f = ap first_of f.it ∙ behind f.before ((true, why) ∷ f.after) f.none_before ∙ first_yes true why f.after refl
 
 -- where none applies the checks pass
-pub none_passed : (l : List (Bool × Refusal)) → NoneApplies l → first_of l ≡ (Ok tt)
+pub none_passed : (l : List (Bool × Refusal)) → NoneApplies l → first_of l ≡ Ok tt
 none_passed [] h = first-none
 none_passed (c ∷ l) h = first_no c.0 c.1 l h.0 ∙ none_passed l h.1
 

@@ -42,14 +42,14 @@ use Rattle.demands.proofs.FirstMet.{first-refused, none_passed, some_or_none}
 use Rattle.demands.proofs.Directions.{SeenAlike, seen_alike}
 
 -- ---- from the outcome of the checks
-module _ (c out : SegmentColumns) (k : (Result Unit Refusal)) (e : first_of (join_conditions c out) ≡ k) where
+module _ (c out : SegmentColumns) (k : Result Unit Refusal) (e : first_of (join_conditions c out) ≡ k) where
   answer-is : join_answer c out ≡ checked Refused k (joined_of (segments c))
   unfolding join_answer
-  answer-is = ap (λ (z : (Result Unit Refusal)). checked Refused z (joined_of (segments c))) e
+  answer-is = ap (λ (z : Result Unit Refusal). checked Refused z (joined_of (segments c))) e
 
   output_is : output_after c out ≡ checked (λ r. out) k (written (joined (segments c)) out)
   unfolding output_after
-  output_is = ap (λ (z : (Result Unit Refusal)). checked (λ r. out) z (written (joined (segments c)) out)) e
+  output_is = ap (λ (z : Result Unit Refusal). checked (λ r. out) z (written (joined (segments c)) out)) e
 
 unfit : (r : JoinRun) (refusal : Refusal) → First (join_conditions r.lent r.before) refusal → JoinRefused r refusal
 unfolding result_of
@@ -62,11 +62,11 @@ abbrev pieces : JoinRun → List Segment
 pieces r = joined (segments r.lent)
 
 -- ---- a call whose list passes: 8 alone decides
-abbrev room : ℕ → SegmentColumns → (Result Unit Refusal)
+abbrev room : ℕ → SegmentColumns → Result Unit Refusal
 room needed out = first_of ((short_output needed (output_lengths out), ShortOutput) ∷ [])
 
 module _ (r : JoinRun) (h : ListFit r) where
-  list_passes : first_of (segment_list_conditions r.lent) ≡ (Ok tt)
+  list_passes : first_of (segment_list_conditions r.lent) ≡ Ok tt
   list_passes = none_passed (segment_list_conditions r.lent) h
 
   fit_all : All FitSegment (segments r.lent)
@@ -96,7 +96,7 @@ unfolding written columns_of
 front-written l c = λ i. segment_columns (front_over (λ (s : Segment). s.net) l c.net i) (front_over (λ (s : Segment). s.orientation) l c.orientation i) (front_over (λ (s : Segment). s.fixed) l c.fixed i) (front_over (λ (s : Segment). s.start) l c.start i) (front_over (λ (s : Segment). s.end) l c.end i)
 
 module _ (r : JoinRun) (h : JoinFit r) where
-  passes : first_of (join_conditions r.lent r.before) ≡ (Ok tt)
+  passes : first_of (join_conditions r.lent r.before) ≡ Ok tt
   passes = none_passed (join_conditions r.lent r.before) h
 
   list_fit : ListFit r
@@ -123,7 +123,7 @@ module _ (r : JoinRun) (h : JoinFit r) where
   read_back = ap as_lent front-is ∙ columns_entries (pieces r)
 
 -- ---- two calls whose lists pass, and whose output columns held the same
-same_outcome : (k : (Result Unit Refusal)) (n g h : ℕ) (x y : JoinAnswer) → x ≡ checked Refused k (Joined n g) → y ≡ checked Refused k (Joined n h) → ((result_of x).0 ≡ (result_of y).0) × ((result_of x).1 ≡ (result_of y).1)
+same_outcome : (k : Result Unit Refusal) (n g h : ℕ) (x y : JoinAnswer) → x ≡ checked Refused k (Joined n g) → y ≡ checked Refused k (Joined n h) → ((result_of x).0 ≡ (result_of y).0) × ((result_of x).1 ≡ (result_of y).1)
 unfolding result_of
 same_outcome (Ok tt) n g h x y p q = (rw (p, q), rw (p, q))
 same_outcome (checks.Refused w) n g h x y p q = (rw (p, q), rw (p, q))

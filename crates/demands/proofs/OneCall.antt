@@ -34,7 +34,7 @@ module _ (m : Measure) (facts : Facts m) where
   -- and the scratch after it
   clears : (r : Run m) → NoneApplies (earlier m r) → r.after ≡ cleared r.before
   unfolding scratch_after
-  clears r h = r.says.leaves ∙ ap (λ (c : (Result Unit Refusal)). scratch_after c r.before) (passes r h)
+  clears r h = r.says.leaves ∙ ap (λ (c : Result Unit Refusal). scratch_after c r.before) (passes r h)
 
   -- ---- demand 1
   some-unfit : (r : Run m) → Some (earlier m r) ⊎ NoneApplies (earlier m r) → Unfit m r ⊎ NoneApplies (earlier m r)
@@ -47,7 +47,7 @@ module _ (m : Measure) (facts : Facts m) where
       let is = first-refused (earlier m r) why f in
       record {
         returned = ap m.result r.says.answers ∙ facts.refuses r.drawing r.settings r.allowance (length r.before) why is;
-        left = r.says.leaves ∙ ap (λ (c : (Result Unit Refusal)). scratch_after c r.before) is;
+        left = r.says.leaves ∙ ap (λ (c : Result Unit Refusal). scratch_after c r.before) is;
       }
 
   pub refusing : Refusing m

@@ -64,8 +64,8 @@ module _ (m : Measure) (facts : Facts m) (results : Results m) (d : m.Drawing) (
   returns : (r : Run m) → On m d s words r → result_of_run m r ≡ m.result (m.answer d s r.allowance (length r.before))
   returns r on = ap m.result r.says.answers ∙ (λ i. m.result (m.answer (on.same-drawing i) (on.same-settings i) r.allowance (length r.before)))
 
-  leaves : (r : Run m) → On m d s words r → (c : (Result Unit Refusal)) → first_of (m.conditions d s words) ≡ c → r.after ≡ scratch_after c r.before
-  leaves r on c e = r.says.leaves ∙ ap (λ (x : (Result Unit Refusal)). scratch_after x r.before) (checks r on ∙ e)
+  leaves : (r : Run m) → On m d s words r → (c : Result Unit Refusal) → first_of (m.conditions d s words) ≡ c → r.after ≡ scratch_after c r.before
+  leaves r on c e = r.says.leaves ∙ ap (λ (x : Result Unit Refusal). scratch_after x r.before) (checks r on ∙ e)
 
   passes-there : Passes m d s words → (w : ℕ) → words ≤ w → Passes m d s w
   passes-there p w h = ap first_of (sym (roomy w h)) ∙ p
@@ -88,7 +88,7 @@ module _ (m : Measure) (facts : Facts m) (results : Results m) (d : m.Drawing) (
 
   -- ---- the same from the result of one call, with a scratch of this length or longer
   module _ (long : ℕ) (room : words ≤ long) (a : m.Allowance) (f : m.Figures) (n : ℕ) (is : result_on m d s a long ≡ m.accepted f n) where
-    passed : (c : (Result Unit Refusal)) → first_of (m.conditions d s long) ≡ c → first_of (m.conditions d s long) ≡ (Ok tt)
+    passed : (c : Result Unit Refusal) → first_of (m.conditions d s long) ≡ c → first_of (m.conditions d s long) ≡ Ok tt
     passed (Ok tt) e = e
     passed (Err x) e = absurd (not_zero x (sym (results.of_report f n) ∙ ap results.number (sym is) ∙ ap results.number (facts.refuses d s a long x e) ∙ results.of-refusal (number_of x)))
 
@@ -125,7 +125,7 @@ module _ (m : Measure) (facts : Facts m) (results : Results m) (d : m.Drawing) (
     not_settled true g = not-0 (sym (results.of_report _ _) ∙ g)
     not_settled false g = not-7 (sym (results.of-refusal 7) ∙ g)
 
-    which : (c : (Result Unit Refusal)) → first_of (m.conditions d s long) ≡ c → Stops (m.conditions d s words) k
+    which : (c : Result Unit Refusal) → first_of (m.conditions d s long) ≡ c → Stops (m.conditions d s words) k
     which (Err x) e = record { refusal = x; first = ap first_of (roomy long room) ∙ e; numbered = sym (results.of-refusal (number_of x)) ∙ number_is _ (facts.refuses d s a long x e) }
     which (Ok tt) e = absurd (not_settled (m.reaches a (m.count d s)) (number_is _ (facts.settles d s a long e)))
 

@@ -1,7 +1,6 @@
 -- The tight pair. Assumes nothing.
 use Rattle.std.specs.Prelude.{Option, Some, None, Result, Ok, Err}
 use mathlib.Core.Path.{◌≡◌, refl, ap, ◌∙◌}
-use mathlib.Core.Option.{none}
 use lib.Ieee.{Float}
 use Rattle.drawing.specs.declared.refusal.Refusal.{Refusal}
 use Rattle.drawing.specs.Entries.{SegmentColumns, NodeColumns, ExemptionColumns, segments, nodes, exemptions}
@@ -19,15 +18,15 @@ use Rattle.demands.proofs.CheckingOrder.{of-tight-pair}
 
 module _ (s : SegmentColumns) (n : NodeColumns) (e : ExemptionColumns) (r : TightPair) (a : Answered s n e r) where
   -- from the outcome of the checks, and from the least clearance
-  answered : (c : (Result Unit Refusal)) → first_of (tight_pair_conditions s n e) ≡ c → (g : (Option Float)) → least_gap (distances (exemptions e) (segments s) (nodes n)) ≡ g → r ≡ checked tightPair.Refused c (pair_if_any g a.choice)
+  answered : (c : Result Unit Refusal) → first_of (tight_pair_conditions s n e) ≡ c → (g : Option Float) → least_gap (distances (exemptions e) (segments s) (nodes n)) ≡ g → r ≡ checked tightPair.Refused c (pair_if_any g a.choice)
   unfolding tight_pair_answer
   answered c p g q = a.is ∙ (λ i. checked tightPair.Refused (p i) (pair_if_any (q i) a.choice))
 
-  unfit : (why : Refusal) → First (tight_pair_conditions s n e) why → result_of r ≡ (number_of why, none)
+  unfit : (why : Refusal) → First (tight_pair_conditions s n e) why → result_of r ≡ (number_of why, None)
   unfolding result_of
   unfit why f = ap result_of (answered (Err why) (first-refused (tight_pair_conditions s n e) why f) _ refl)
 
-  no_pair : NoneApplies (tight_pair_conditions s n e) → (threshold : Float) → (figures (exemptions e) (λ net. threshold) (segments s) (nodes n)).least ≡ None → result_of r ≡ (0, none)
+  no_pair : NoneApplies (tight_pair_conditions s n e) → (threshold : Float) → (figures (exemptions e) (λ net. threshold) (segments s) (nodes n)).least ≡ None → result_of r ≡ (0, None)
   unfolding pair_if_any result_of figures
   no_pair h threshold g = ap result_of (answered (Ok tt) (none_passed (tight_pair_conditions s n e) h) None g)
 

@@ -31,7 +31,7 @@ pub record Refusing (m : Measure) : Type 0 where
   pub accepted : (r : Run m) → NoneApplies (earlier m r) → m.reaches r.allowance (visit_count m r) ≡ true → Returns m r (all_pairs_report m r) (cleared r.before)
 
 -- what a check of these conditions returns, by its number: that of the first refusal that applies, or 0
-pub record Checking (l : List (Bool × Refusal)) (answer : (Result Unit Refusal)) : Type 0 where
+pub record Checking (l : List (Bool × Refusal)) (answer : Result Unit Refusal) : Type 0 where
   pub unfit : (refusal : Refusal) → First l refusal → number_of_check answer ≡ number_of refusal
   pub fit : NoneApplies l → number_of_check answer ≡ 0
 
@@ -40,4 +40,4 @@ pub record Demand1 : Type 0 where
   -- SCOPE 7.0, "in document 01's list": the conditions of each call are in the order of that list, so the first of them that holds is the first there
   pub in_order : (call : Call) (d : (measure_of call).Drawing) (s : (measure_of call).Settings) (words : ℕ) → InOrder 0 ((measure_of call).conditions d s words)
   -- the public checks: the contract of each is that it returns `first_of` of its conditions
-  pub of_checks : (l : List (Bool × Refusal)) (answer : (Result Unit Refusal)) → answer ≡ first_of l → Checking l answer
+  pub of_checks : (l : List (Bool × Refusal)) (answer : Result Unit Refusal) → answer ≡ first_of l → Checking l answer

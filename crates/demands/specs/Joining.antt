@@ -21,7 +21,7 @@ use Rattle.demands.specs.Directions.{columns_as_taken}
 pub record JoinSays (lent before : SegmentColumns) (returned : JoinAnswer) (after : SegmentColumns) : Type 0 where
   pub answers : returned ≡ join_answer lent before
   pub leaves : after ≡ output_after lent before
-  pub held : first_of (segment_list_conditions lent) ≡ (Ok tt) → SegmentsHeld lent
+  pub held : first_of (segment_list_conditions lent) ≡ Ok tt → SegmentsHeld lent
 
 -- a call of the joiner
 pub record JoinRun : Type 0 where

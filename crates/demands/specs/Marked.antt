@@ -90,15 +90,15 @@ abbrev pub result_on : (m : Measure) → m.Drawing → m.Settings → m.Allowanc
 result_on m drawing settings allowance words = m.result (m.answer drawing settings allowance words)
 
 -- separation: least, least nonzero, visits
-abbrev pub separation_is : (Option Float) → (Option Float) → ℕ → separation.Result
+abbrev pub separation_is : Option Float → Option Float → ℕ → separation.Result
 separation_is g h n = separation.accepted (record { least = g; least_nonzero = h }) n
 
 -- clearance: least, violations, visits
-abbrev pub clearance_is : (Option Float) → ℕ → ℕ → clearance.Result
+abbrev pub clearance_is : Option Float → ℕ → ℕ → clearance.Result
 clearance_is g v n = clearance.accepted (record { least = g; violations = v }) n
 
 -- congestion: total, congested, pair overlap, peak, least nonzero close gap, visits
-abbrev pub congestion_is : Float → Float → Float → ℕ → (Option Float) → ℕ → density.Result
+abbrev pub congestion_is : Float → Float → Float → ℕ → Option Float → ℕ → density.Result
 congestion_is t c o p g n = density.accepted (record { total_length = t; congested_length = c; pair_overlap_length = o; peak_close_neighbors = p }, g) n
 
 pub record Marked : Type 0 where

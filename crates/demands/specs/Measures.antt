@@ -76,7 +76,7 @@ abbrev pub Reported : Float → Type 0
 Reported x = Binary64 x × (unsigned x ≡ true)
 
 -- the float of a gap, where there is one
-abbrev pub present : (Option Float) → List Float
+abbrev pub present : Option Float → List Float
 present None = []
 present (Some x) = x ∷ []
 
@@ -181,7 +181,7 @@ measure_of parallel_congestion = congestion
 pub record Says (m : Measure) (drawing : m.Drawing) (settings : m.Settings) (allowance : m.Allowance) (before : List ℕ) (returned : m.Answer) (after : List ℕ) : Type 0 where
   pub answers : returned ≡ m.answer drawing settings allowance (length before)
   pub leaves : after ≡ scratch_after (first_of (m.conditions drawing settings (length before))) before
-  pub held : first_of (m.conditions drawing settings (length before)) ≡ (Ok tt) → m.Held drawing settings
+  pub held : first_of (m.conditions drawing settings (length before)) ≡ Ok tt → m.Held drawing settings
 
 -- a run of a measure: a call of which its contract holds, by columns or by a thin entry, whose list of records is read as columns (SCOPE 2.6). `readability`, specs/Calls, shows that the functions' own contracts imply it of every call.
 pub record Run (m : Measure) : Type 0 where

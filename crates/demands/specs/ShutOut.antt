@@ -31,7 +31,7 @@ RefusedWith m drawing settings words number = (r : Run m) → On m drawing setti
 
 -- ---- congestion, by all three calls
 -- total, congested, pair overlap, peak; and the least nonzero close gap
-abbrev congestion_figures : Float → Float → Float → ℕ → (Option Float) → ParallelCongestion × (Option Float)
+abbrev congestion_figures : Float → Float → Float → ℕ → Option Float → ParallelCongestion × (Option Float)
 congestion_figures t c o p g = (record { total_length = t; congested_length = c; pair_overlap_length = o; peak_close_neighbors = p }, g)
 
 pub record Congestion (drawing : SegmentColumns) (cutoff : Float) (words : ℕ) (figures : ParallelCongestion × (Option Float)) (visits : ℕ) : Type 0 where

@@ -1,7 +1,6 @@
 -- SCOPE 12.1, 12.2: "Tight pair (added; no threshold, allowance or scratch): checks 2, 3 and 5 of clearance, then answers any pair, by segment and node position, that is not exempt and whose distance is the least clearance, or absent if there is none."
 -- What follows from `Answered`, which is the call's contract (`readability`, specs/Calls). `proofs/TightPair.antt` proves `TightPairs`.
 use Rattle.std.specs.Prelude.{◌≡◌, ℕ, Float, Option, Some, None}
-use Rattle.std.proofs.Math.Option.{none, some}
 use Rattle.drawing.specs.declared.refusal.Refusal.{Refusal}
 use Rattle.drawing.specs.Entries.{SegmentColumns, NodeColumns, ExemptionColumns, segments, nodes, exemptions}
 use Rattle.drawing.specs.Refusals.{number_of}
@@ -13,21 +12,21 @@ use Rattle.demands.specs.Measures.{clearance}
 
 module _ (s : SegmentColumns) (n : NodeColumns) (e : ExemptionColumns) (r : TightPair) where
   -- SCOPE 3.5, the least clearance: no threshold changes it
-  abbrev least_clearance : Float → (Option Float)
+  abbrev least_clearance : Float → Option Float
   least_clearance threshold = (clearance.figures (record { segments = s; nodes = n; exemptions = e }) threshold).least
 
   -- a pair that is answered
   pub record Pair : Type 0 where
     pub segment : ℕ
     pub node : ℕ
-    pub returned : result_of r ≡ (0, some (segment, node))
+    pub returned : result_of r ≡ (0, Some (segment, node))
     pub tight : Tight (exemptions e) (segments s) (nodes n) segment node
 
   pub record Holds : Type 0 where
     -- SCOPE 12.1: "for the tight pair, an absent pair"
-    pub unfit : (refusal : Refusal) → First (tight_pair_conditions s n e) refusal → result_of r ≡ (number_of refusal, none)
+    pub unfit : (refusal : Refusal) → First (tight_pair_conditions s n e) refusal → result_of r ≡ (number_of refusal, None)
     -- SCOPE 12.2: "or absent if there is none"
-    pub no_pair : NoneApplies (tight_pair_conditions s n e) → (threshold : Float) → least_clearance threshold ≡ None → result_of r ≡ (0, none)
+    pub no_pair : NoneApplies (tight_pair_conditions s n e) → (threshold : Float) → least_clearance threshold ≡ None → result_of r ≡ (0, None)
     -- SCOPE 12.2: "any pair .. that is not exempt and whose distance is the least clearance"
     pub some_pair : NoneApplies (tight_pair_conditions s n e) → (threshold least : Float) → least_clearance threshold ≡ Some least → Pair
 

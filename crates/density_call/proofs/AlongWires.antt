@@ -215,7 +215,7 @@ module _ (s e : List ℕ) (o n : ℕ) (c : SegmentColumns) (a : AtColumns (lengt
           room = omega (arith, rows-kept s e o n c a.agree narrow orders kept);
         }
 
-    pub more_swept : (b : Bool) (cut allowance : ℕ) (r : (Result Found Refusal)) → ((x : AtRows u n from (length c.net)) → r ≡ swept_of (within allowance (sweep cut (map (wire_of_row x.across) x.l)))) → r ≡ swept_of (within allowance (along cut (map (wire_of_row b) l)))
+    pub more_swept : (b : Bool) (cut allowance : ℕ) (r : Result Found Refusal) → ((x : AtRows u n from (length c.net)) → r ≡ swept_of (within allowance (sweep cut (map (wire_of_row x.across) x.l)))) → r ≡ swept_of (within allowance (along cut (map (wire_of_row b) l)))
     unfolding along at_rows
     more_swept b cut allowance r g =
         let k : 2 ≤ length (map (wire_of_row b) l) = omega (arith, length-map l (wire_of_row b), count) in

@@ -90,7 +90,7 @@ reached m c f e = elim (le_or_lt c.cost m) [
     one : (f g : Found) → Ok f ≡ Ok g → f ≡ g
     one f g e = cc
 
-    never : Ok f ≡ (Err WorkLimitExceeded) → ⊥
+    never : Ok f ≡ Err WorkLimitExceeded → ⊥
     never e = let z : ◌≡◌ {A = ℕ} 0 1 = cc in omega arith
 
 -- ---- one orientation after the other
@@ -200,21 +200,21 @@ module _ (cutoff : Float) (grid : T (on_grid cutoff)) (l : List Segment) (fit : 
     too_few m n e k = sym (ap found_of (within-short m (all_pairs cutoff l) (omega (arith, cost-least))))
 
     -- ---- what the code answers, from the outcomes of its sweeps
-    module _ (m : ℕ) (first : (Result Found Refusal)) (one : first ≡ swept_of (within m (across c some l))) where
+    module _ (m : ℕ) (first : Result Found Refusal) (one : first ≡ swept_of (within m (across c some l))) where
       whole : within m (all_pairs cutoff l) ≡ onward (within m (across c some l)) (second c some l)
       whole = ap (within m) all-pairs_are ∙ wires-within c some l m
 
-      pub stops : first ≡ (Err WorkLimitExceeded) → (Err WorkLimitExceeded) ≡ found_of (within m (all_pairs cutoff l))
+      pub stops : first ≡ Err WorkLimitExceeded → (Err WorkLimitExceeded) ≡ found_of (within m (all_pairs cutoff l))
       unfolding found_of
       stops e =
           let z : onward (within m (across c some l)) (second c some l) ≡ spent = rw (spent-is (within m (across c some l)) (sym e ∙ one)) (onward-spent (second c some l)) in
           sym (ap found_of (whole ∙ z))
 
-      module _ (a : Found) (went : first ≡ Ok a) (next : (Result Found Refusal)) (other : next ≡ swept_of (within a.remaining (down c some l))) where
+      module _ (a : Found) (went : first ≡ Ok a) (next : Result Found Refusal) (other : next ≡ swept_of (within a.remaining (down c some l))) where
         on : within m (all_pairs cutoff l) ≡ second c some l h a.remaining
         on = whole ∙ rw (reached m (across c some l) a (sym went ∙ one)).paid (onward-left h a.remaining (second c some l))
 
-        pub stops_later : next ≡ (Err WorkLimitExceeded) → (Err WorkLimitExceeded) ≡ found_of (within m (all_pairs cutoff l))
+        pub stops_later : next ≡ Err WorkLimitExceeded → (Err WorkLimitExceeded) ≡ found_of (within m (all_pairs cutoff l))
         unfolding found_of
         stops_later e =
             let z : second c some l h a.remaining ≡ spent = rw (spent-is (within a.remaining (down c some l)) (sym e ∙ other)) (onward-spent (λ w r. left (together c some l h w) r)) in

@@ -99,11 +99,11 @@ event_key c L s tabled e h = elim (le_or_lt (length L) e) [
 pub event_starts : (s : List ℕ) (n e : ℕ) (state : Sweeping) → n ≤ e → AtEvent s n e state → AtEvent s n (n + (e - n)) state
 event_starts s n e state h a = subst (λ (k : ℕ). AtEvent s n k state) (sym (add-sub_of_le h)) a
 
-pub handled_start : (s t : List ℕ) (n e : ℕ) (state : Sweeping) (r : (Result Sweeping Refusal)) → n ≤ e → Handles s t n (n + (e - n)) state r → Handles s t n e state r
+pub handled_start : (s t : List ℕ) (n e : ℕ) (state : Sweeping) (r : Result Sweeping Refusal) → n ≤ e → Handles s t n (n + (e - n)) state r → Handles s t n e state r
 handled_start s t n e state r h f = subst (λ (k : ℕ). Handles s t n k state r) (add-sub_of_le h) f
 
 -- ---- what the code's answer says
-never : {A : Type 0} (t : Sweeping) → Ok t ≡ (Err WorkLimitExceeded) → A
+never : {A : Type 0} (t : Sweeping) → Ok t ≡ Err WorkLimitExceeded → A
 never t e = let z : ◌≡◌ {A = ℕ} 0 1 = cc in absurd (omega arith)
 
 same_state : (t u : Sweeping) → Ok t ≡ Ok u → t ≡ u
@@ -235,8 +235,8 @@ module _ (s₀ : List ℕ) (n allowance : ℕ) (a : AtFirst s₀ n) where
       abbrev taken : Charged State
       taken = step a.c g.st now
 
-      module _ (r : (Result Sweeping Refusal)) (t : List ℕ) (steps : Steps a.c a.L n g.st now t state.remaining r) where
-        pub going_stops : r ≡ (Err WorkLimitExceeded) → (Err WorkLimitExceeded) ≡ swept_of (within allowance all)
+      module _ (r : Result Sweeping Refusal) (t : List ℕ) (steps : Steps a.c a.L n g.st now t state.remaining r) where
+        pub going_stops : r ≡ Err WorkLimitExceeded → (Err WorkLimitExceeded) ≡ swept_of (within allowance all)
         unfolding swept_of
         going_stops e = elim (le_or_lt taken.cost state.remaining) [
           | inl h ↦ never (steps.1 h).to (sym (steps.1 h).went ∙ e)
@@ -264,7 +264,7 @@ module _ (s₀ : List ℕ) (n allowance : ℕ) (a : AtFirst s₀ n) where
         ]
 
     -- ---- after the last
-    pub going_all : 2 * n ≤ q → (r : (Option Float)) → r ≡ gap_of_float state.minimum_positive → Ok (record { congested_length = state.congested_length; pair_overlap_length = state.pair_overlap_length; peak_close_neighbors = state.peak_close_neighbors; minimum_positive = r; remaining = state.remaining }) ≡ swept_of (within allowance all)
+    pub going_all : 2 * n ≤ q → (r : Option Float) → r ≡ gap_of_float state.minimum_positive → Ok (record { congested_length = state.congested_length; pair_overlap_length = state.pair_overlap_length; peak_close_neighbors = state.peak_close_neighbors; minimum_positive = r; remaining = state.remaining }) ≡ swept_of (within allowance all)
     unfolding swept_of
     going_all h r f =
         let gap = f ∙ ap gap_of_float g.follows.least ∙ gap-again g.st.minimum_positive g.follows.held in
@@ -283,8 +283,8 @@ module _ (s₀ : List ℕ) (n allowance : ℕ) where
     pub run_event : AtFirst s₀ n → q < 2 * n → AtEvent s n (get_or s q 0) state
     run_event a less = event_due s₀ n allowance a state s q (g a) less
 
-    module _ (less : q < 2 * n) (r : (Result Sweeping Refusal)) (t : List ℕ) (f : Handles s t n (get_or s q 0) state r) where
-      pub run_stops : r ≡ (Err WorkLimitExceeded) → (a : AtFirst s₀ n) → (Err WorkLimitExceeded) ≡ swept_of (within allowance (sweep a.c a.L))
+    module _ (less : q < 2 * n) (r : Result Sweeping Refusal) (t : List ℕ) (f : Handles s t n (get_or s q 0) state r) where
+      pub run_stops : r ≡ Err WorkLimitExceeded → (a : AtFirst s₀ n) → (Err WorkLimitExceeded) ≡ swept_of (within allowance (sweep a.c a.L))
       unfolding event_due
       run_stops e a = going_stops s₀ n allowance a state s q (g a) less r t (f (event_due s₀ n allowance a state s q (g a) less)) e
 

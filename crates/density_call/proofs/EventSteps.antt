@@ -1,10 +1,9 @@
 -- An event by the code's steps is a step of the sweep. Assumes nothing.
 use Rattle.drawing.specs.declared.refusal.Refusal.TheVariants.{WorkLimitExceeded}
 use Rattle.drawing.specs.declared.refusal.Refusal.{Refusal}
-use Rattle.std.specs.Prelude.{Result, Ok, Err}
+use Rattle.std.specs.Prelude.{Result, Ok, Err, None}
 use mathlib.Core.Path.{◌≡◌, refl, sym, ap, ap₂, ◌∙◌, subst}
 use mathlib.Core.Logic.{inl, inr}
-use mathlib.Core.Option.{none}
 use mathlib.Core.Bool.{Bool, true, false, not, ◌&&◌, cond}
 use mathlib.Core.List.{List, map}
 use Prim.Native.Nat.{ℕ, ◌+◌, ◌-◌, ◌*◌, ◌^◌, ◌≤◌, ◌<◌, max}
@@ -84,7 +83,7 @@ module _ (c : ℕ) (L : List Wire) (s w : List ℕ) (st : State) (tabled : Table
   fixed-small i h = let k = tabled.fixed i h in subst (λ (u : ℕ). u ≤ 134217728) k.is (unit_bound (float_at (get_or s (4 * length L + i) 0)) k.grid)
 
   held_here : (j : ℕ) → j < length L → Representable (least_here c (item_at L j) st)
-  held_here j h = held-fold (λ r. cond (neighbor c (item_at L j).wire r) (gap (item_at L j).wire r.item.wire) none) st.wires (λ r m.
+  held_here j h = held-fold (λ r. cond (neighbor c (item_at L j).wire r) (gap (item_at L j).wire r.item.wire) None) st.wires (λ r m.
       let p = row-place L w r (subst (Mem r) rows m) in
       let e : r.item.wire.fixed ≡ (item_at L p.0).wire.fixed = ap (λ (z : WireState). z.item.wire.fixed) p.2 in
       let near : apart (item_at L j).wire.fixed r.item.wire.fixed < 2 ^ 53 = omega (arith, fixed-small j h, fixed-small p.0 p.1) in
@@ -114,21 +113,21 @@ module _ (s : List ℕ) (n e : ℕ) (state : Sweeping) (a : AtEvent s n e state)
   tabled-then t u only e = tables_stay a.c a.L s u (subst (λ (m : ℕ). take (8 * m) u ≡ take (8 * m) s) (sym a.size) (e ∙ only.front)) a.tabled
 
 -- ---- a meeting's answer decides whether the sweep continues
-never : {A : Type 0} (m : Meeting) → Ok m ≡ (Err WorkLimitExceeded) → A
+never : {A : Type 0} (m : Meeting) → Ok m ≡ Err WorkLimitExceeded → A
 never m e = let z : ◌≡◌ {A = ℕ} 0 1 = cc in absurd (omega arith)
 
 same_meeting : (m k : Meeting) → Ok m ≡ Ok k → m ≡ k
 same_meeting m k e = cc
 
 -- M is the meeting where the visits can be paid, and R what holds then
-abbrev Answered : ℕ → ℕ → (Result Meeting Refusal) → Meeting → Type 0 → Type 0
-Answered m cost met M R = (m < cost → met ≡ (Err WorkLimitExceeded)) × (cost ≤ m → (met ≡ Ok M) × R)
+abbrev Answered : ℕ → ℕ → Result Meeting Refusal → Meeting → Type 0 → Type 0
+Answered m cost met M R = (m < cost → met ≡ Err WorkLimitExceeded) × (cost ≤ m → (met ≡ Ok M) × R)
 
-module _ (c : ℕ) (L : List Wire) (n : ℕ) (st : State) (e : WireEvent) (m : ℕ) (met : (Result Meeting Refusal)) (M : Meeting) (R : Type 0) (answer : Answered m (step c st e).cost met M R) where
+module _ (c : ℕ) (L : List Wire) (n : ℕ) (st : State) (e : WireEvent) (m : ℕ) (met : Result Meeting Refusal) (M : Meeting) (R : Type 0) (answer : Answered m (step c st e).cost met M R) where
   known : (meeting : Meeting) → met ≡ Ok meeting → meeting ≡ M
   known meeting h = elim (le_or_lt (step c st e).cost m) [ inl l ↦ same_meeting meeting M (sym h ∙ (answer.1 l).0) | inr l ↦ never meeting (sym h ∙ answer.0 l) ]
 
-  stops : (t : List ℕ) → met ≡ (Err WorkLimitExceeded) → Steps c L n st e t m (Err WorkLimitExceeded)
+  stops : (t : List ℕ) → met ≡ Err WorkLimitExceeded → Steps c L n st e t m (Err WorkLimitExceeded)
   stops t h = (λ l. refl, λ l. never M (sym (answer.1 l).0 ∙ h))
 
   goes : (meeting : Meeting) (to : Sweeping) (t : List ℕ) → met ≡ Ok meeting → (meeting ≡ M → R → Onward c L n (step c st e).value t (m - (step c st e).cost) (Ok to)) → Steps c L n st e t m (Ok to)
@@ -182,13 +181,13 @@ module _ (s : List ℕ) (n j : ℕ) (state : Sweeping) where
       key = key-start;
     }
 
-  module _ (t : List ℕ) (x : Float) (passed : Sweeping) (met : (Result Meeting Refusal)) (read : x ≡ float_at start_word) (pass : passed ≡ passed_to state x) (meets : Meets true s t n j passed.minimum_positive passed.remaining met) where
+  module _ (t : List ℕ) (x : Float) (passed : Sweeping) (met : Result Meeting Refusal) (read : x ≡ float_at start_word) (pass : passed ≡ passed_to state x) (meets : Meets true s t n j passed.minimum_positive passed.remaining met) where
     start-answer : (a : AtEvent s n (n + j) state) → Answered state.remaining (visits_of a.c a.L j a.st) met (met_at_start a state.remaining) (rows_at_start a t)
     start-answer a =
         subst (λ (m : ℕ). Answered m (visits_of a.c a.L j a.st) met (met_at_start a m) (rows_at_start a t)) (ap (λ (z : Sweeping). z.remaining) pass)
         (meets a.c a.L a.st a.st.minimum_positive a.size a.tabled a.stored (ap (λ (z : Sweeping). z.minimum_positive) pass ∙ a.follows.least) a.follows.held)
 
-    pub start_stops : met ≡ (Err WorkLimitExceeded) → Handles s t n (n + j) state (Err WorkLimitExceeded)
+    pub start_stops : met ≡ Err WorkLimitExceeded → Handles s t n (n + j) state (Err WorkLimitExceeded)
     start_stops h a =
         subst (λ (e : WireEvent). Steps a.c a.L n a.st e t state.remaining (Err WorkLimitExceeded)) (sym (starts-at a.L n j a.size))
         (stops a.c a.L n a.st (event false (starting a)) state.remaining met (met_at_start a state.remaining) (rows_at_start a t) (start-answer a) t h)
@@ -279,13 +278,13 @@ module _ (s : List ℕ) (n j : ℕ) (state : Sweeping) (inside : j < n) where
       key = key-end;
     }
 
-  module _ (t : List ℕ) (x : Float) (own : ℕ) (passed : Sweeping) (met : (Result Meeting Refusal)) (read : x ≡ float_at end_word) (counted : own ≡ own_count) (pass : passed ≡ passed_to state x) (meets : Meets false s t n j passed.minimum_positive passed.remaining met) where
+  module _ (t : List ℕ) (x : Float) (own : ℕ) (passed : Sweeping) (met : Result Meeting Refusal) (read : x ≡ float_at end_word) (counted : own ≡ own_count) (pass : passed ≡ passed_to state x) (meets : Meets false s t n j passed.minimum_positive passed.remaining met) where
     end-answer : (a : AtEvent s n j state) → Answered state.remaining (visits_of a.c a.L j a.st) met (met_at_end a state.remaining) (rows_at_end a t)
     end-answer a =
         subst (λ (m : ℕ). Answered m (visits_of a.c a.L j a.st) met (met_at_end a m) (rows_at_end a t)) (ap (λ (z : Sweeping). z.remaining) pass)
         (meets a.c a.L a.st a.st.minimum_positive a.size a.tabled a.stored (ap (λ (z : Sweeping). z.minimum_positive) pass ∙ a.follows.least) a.follows.held)
 
-    pub end_stops : met ≡ (Err WorkLimitExceeded) → Handles s t n j state (Err WorkLimitExceeded)
+    pub end_stops : met ≡ Err WorkLimitExceeded → Handles s t n j state (Err WorkLimitExceeded)
     end_stops h a =
         subst (λ (e : WireEvent). Steps a.c a.L n a.st e t state.remaining (Err WorkLimitExceeded)) (sym (ends-at a.L j (place a)))
         (stops a.c a.L n a.st (event true (ending a)) state.remaining met (met_at_end a state.remaining) (rows_at_end a t) (end-answer a) t h)

@@ -1,7 +1,7 @@
 -- A least gap of 64ths kept as a float, a NaN where there is none yet. Assumes nothing.
+use Rattle.std.specs.Prelude.{Option, None, Some}
 use mathlib.Core.Path.{◌≡◌, refl, sym, ap, ap₂, ◌∙◌, subst}
 use mathlib.Core.Logic.{inl, inr}
-use mathlib.Core.Option.{Option, none, some}
 use mathlib.Core.Bool.{Bool, true, false, not, cond}
 use Prim.Native.Nat.{ℕ, ◌^◌, ◌≤◌, ◌<◌}
 use native.Mathlib.Omega.{arith}
@@ -26,7 +26,7 @@ use Rattle.congestion.proofs.FoldLaws.{fewest}
 use Rattle.congestion.proofs.Oriented.{apart-turn}
 use Rattle.congestion.proofs.LeastGap.{held-lesser, lt_units, grid-gap, above_zero}
 
-pub lesser-none : (o : Option ℕ) → lesser ltb o none ≡ o
+pub lesser-none : (o : Option ℕ) → lesser ltb o None ≡ o
 lesser-none o = idr fewest o
 
 -- the float of a number of 64ths is not a NaN
@@ -42,14 +42,14 @@ units_number n h = value-number (of_units n) false n 64 (of_units-value false n 
 
 -- ---- after the sweep it becomes a gap
 pub gap-again : (o : Option ℕ) → Representable o → gap_of_float (least_float o) ≡ gap_of_units o
-gap-again none h = none_absent
-gap-again (some n) h = number-present (of_units n) (units_number n h)
+gap-again None h = none_absent
+gap-again (Some n) h = number-present (of_units n) (units_number n h)
 
 -- ---- a gap joins it
-lesser-float : (o : Option ℕ) (a : ℕ) → Representable o → a < 2 ^ 53 → lesser_of (of_units a) (least_float o) ≡ least_float (lesser ltb o (some a))
+lesser-float : (o : Option ℕ) (a : ℕ) → Representable o → a < 2 ^ 53 → lesser_of (of_units a) (least_float o) ≡ least_float (lesser ltb o (Some a))
 unfolding lesser_of lt lesser
-lesser-float none a h k = refl
-lesser-float (some n) a h k = ap (λ (t : Bool). cond t (of_units n) (of_units a)) (lt_units n a h k) ∙ either (ltb n a) ∙ ap of_units (turned n a)
+lesser-float None a h k = refl
+lesser-float (Some n) a h k = ap (λ (t : Bool). cond t (of_units n) (of_units a)) (lt_units n a h k) ∙ either (ltb n a) ∙ ap of_units (turned n a)
   where
     either : (t : Bool) → cond t (of_units n) (of_units a) ≡ of_units (cond t n a)
     either true = refl
@@ -70,7 +70,7 @@ lesser-float (some n) a h k = ap (λ (t : Bool). cond t (of_units n) (of_units a
 
 joined_units : (o : Option ℕ) (b : Bool) (a : ℕ) (g : Float) → Representable o → a < 2 ^ 53 → g ≡ of_units a → lt plus_zero g ≡ not b → (with_gap (least_float o) g ≡ least_float (lesser ltb o (gap_unless_zero b a))) × Representable (lesser ltb o (gap_unless_zero b a))
 joined_units o true a g h k e z = (cond_false (lt plus_zero g) (lesser_of g (least_float o)) (least_float o) z ∙ sym (ap least_float (lesser-none o)), subst Representable (sym (lesser-none o)) h)
-joined_units o false a g h k e z = (cond_true (lt plus_zero g) (lesser_of g (least_float o)) (least_float o) z ∙ ap (λ (z : Float). lesser_of z (least_float o)) e ∙ lesser-float o a h k, held-lesser o (some a) h k)
+joined_units o false a g h k e z = (cond_true (lt plus_zero g) (lesser_of g (least_float o)) (least_float o) z ∙ ap (λ (z : Float). lesser_of z (least_float o)) e ∙ lesser-float o a h k, held-lesser o (Some a) h k)
 
 pub keys_join : (o : Option ℕ) (w w' u u' : ℕ) → Representable o → Key w u → Key w' u' → (with_gap (least_float o) (gap_of (float_at w) (float_at w')) ≡ least_float (lesser ltb o (gap_unless_zero (eqb u' u) (apart u' u)))) × Representable (lesser ltb o (gap_unless_zero (eqb u' u) (apart u' u)))
 keys_join o w w' u u' h k k' =

@@ -1,10 +1,9 @@
 -- The loop over the wires that an event's wire meets: when the indices from p on are done, the figures are those of the rows of these indices, and their counts are the new ones. Assumes nothing.
 use Rattle.drawing.specs.declared.refusal.Refusal.TheVariants.{WorkLimitExceeded}
-use Rattle.std.specs.Prelude.{Option, Ok, Err}
+use Rattle.std.specs.Prelude.{Option, Ok, Err, None}
 use mathlib.Core.Path.{◌≡◌, refl, sym, ap, ap₂, ◌∙◌, subst}
 use mathlib.Core.Logic.{inl, inr}
 use mathlib.Core.List.{List, map, map-map}
-use mathlib.Core.Option.{Option, none}
 use mathlib.Core.Bool.{Bool, true, false, not, ◌&&◌, cond, and_assoc, and-false}
 use Prim.Native.Nat.{ℕ, ◌+◌, ◌-◌, ◌*◌, ◌≤◌, ◌<◌, max}
 use native.Mathlib.Omega.{arith}
@@ -98,7 +97,7 @@ module _ (starts : Bool) (n j : ℕ) (s₀ : List ℕ) (least₀ : Float) (allow
   reached k = cond (near k) (top starts (row k).neighbors) 0
 
   abbrev gap_at : ℕ → Option ℕ
-  gap_at k = cond (near k) (gap wire (row k).item.wire) none
+  gap_at k = cond (near k) (gap wire (row k).item.wire) None
 
   abbrev count_at : ℕ → ℕ
   count_at k = (moved starts (near k) (row k)).neighbors
@@ -111,7 +110,7 @@ module _ (starts : Bool) (n j : ℕ) (s₀ : List ℕ) (least₀ : Float) (allow
     pub neighbors : met.neighbors ≡ since ◌+◌ 0 n p (λ k. bit (near k))
     pub changed : met.changed ≡ since ◌+◌ 0 n p (λ k. bit (turned k))
     pub highest : met.highest ≡ since max 0 n p reached
-    pub least : (m : Option ℕ) → least₀ ≡ least_float m → Representable m → (met.least ≡ least_float (lesser ltb m (since (lesser ltb) none n p gap_at))) × Representable (lesser ltb m (since (lesser ltb) none n p gap_at))
+    pub least : (m : Option ℕ) → least₀ ≡ least_float m → Representable m → (met.least ≡ least_float (lesser ltb m (since (lesser ltb) None n p gap_at))) × Representable (lesser ltb m (since (lesser ltb) None n p gap_at))
 
   pub going_few : (met : Meeting) (s : List ℕ) (p : ℕ) → Going met s p → (met.neighbors ≤ n) × (met.changed ≤ n)
   going_few met s p g = let a = g.neighbors in let b = g.changed in (omega (arith, since_at_most n p near), omega (arith, since_at_most n p turned))
@@ -127,8 +126,8 @@ module _ (starts : Bool) (n j : ℕ) (s₀ : List ℕ) (least₀ : Float) (allow
     unseen_reached : reached k ≡ 0
     unseen_reached = cond_false (near k) (top starts (row k).neighbors) 0 unseen_near
 
-    unseen_gap : gap_at k ≡ none
-    unseen_gap = cond_false (near k) (gap wire (row k).item.wire) none unseen_near
+    unseen_gap : gap_at k ≡ None
+    unseen_gap = cond_false (near k) (gap wire (row k).item.wire) None unseen_near
 
     unseen_count : count_at k ≡ (row k).neighbors
     unseen_count = ap (λ (b : Bool). (moved starts b (row k)).neighbors) unseen_near ∙ ap (λ (r : WireState). r.neighbors) (moved_not starts (row k))
@@ -171,12 +170,12 @@ module _ (starts : Bool) (n j : ℕ) (s₀ : List ℕ) (least₀ : Float) (allow
             ]
           ]
 
-      new_least : (m : Option ℕ) → least₀ ≡ least_float m → Representable m → (next.least ≡ least_float (lesser ltb m (since (lesser ltb) none n i gap_at))) × Representable (lesser ltb m (since (lesser ltb) none n i gap_at))
+      new_least : (m : Option ℕ) → least₀ ≡ least_float m → Representable m → (next.least ≡ least_float (lesser ltb m (since (lesser ltb) None n i gap_at))) × Representable (lesser ltb m (since (lesser ltb) None n i gap_at))
       new_least m e h =
-          let old = since (lesser ltb) none n p gap_at in
+          let old = since (lesser ltb) None n p gap_at in
           let l = g.least m e h in
           let k = a.least (lesser ltb m old) l.0 l.1 in
-          let z : lesser ltb (lesser ltb m old) (gap_at i) ≡ lesser ltb m (since (lesser ltb) none n i gap_at) = fewest.assoc m old (gap_at i) ∙ ap (lesser ltb m) (sym (since_next fewest n i p gap_at x.inside x.below (λ q u v w. unseen_gap q (x.between q u v w)))) in
+          let z : lesser ltb (lesser ltb m old) (gap_at i) ≡ lesser ltb m (since (lesser ltb) None n i gap_at) = fewest.assoc m old (gap_at i) ∙ ap (lesser ltb m) (sym (since_next fewest n i p gap_at x.inside x.below (λ q u v w. unseen_gap q (x.between q u v w)))) in
           (k.0 ∙ ap least_float z, subst Representable z k.1)
 
       pub going_next : Going next t i
@@ -237,7 +236,7 @@ module _ (starts : Bool) (n j : ℕ) (s₀ : List ℕ) (least₀ : Float) (allow
       changed = sym (since_none plus n hi (λ k. bit (turned k)) (λ k h a. unseen_turned k (past-range k h a)));
       highest = sym (since_none greatest n hi reached (λ k h a. unseen_reached k (past-range k h a)));
       least = λ m f h.
-          let z : m ≡ lesser ltb m (since (lesser ltb) none n hi gap_at) = sym (lesser-none m) ∙ ap (lesser ltb m) (sym (since_none fewest n hi gap_at (λ k h a. unseen_gap k (past-range k h a)))) in
+          let z : m ≡ lesser ltb m (since (lesser ltb) None n hi gap_at) = sym (lesser-none m) ∙ ap (lesser ltb m) (sym (since_none fewest n hi gap_at (λ k h a. unseen_gap k (past-range k h a)))) in
           (f ∙ ap least_float z, subst Representable z h);
     })
 
@@ -356,7 +355,7 @@ module _ (starts : Bool) (n j : ℕ) (s₀ : List ℕ) (least₀ : Float) (allow
         remaining = allowance - visits;
       }
 
-      pub spent-meets : allowance < fold ◌+◌ 0 (λ k. bit (seen k)) (up_to n) → (m : Option ℕ) (t : List ℕ) → (allowance < visits → (Err WorkLimitExceeded) ≡ (Err WorkLimitExceeded)) × (visits ≤ allowance → ((Err WorkLimitExceeded) ≡ Ok (outcome m)) × (wire_states_from L (drop (8 * n) t) ≡ map (λ x. moved starts (neighbor c wire x) x) st.wires))
+      pub spent-meets : allowance < fold ◌+◌ 0 (λ k. bit (seen k)) (up_to n) → (m : Option ℕ) (t : List ℕ) → (allowance < visits → (Err WorkLimitExceeded) ≡ Err WorkLimitExceeded) × (visits ≤ allowance → ((Err WorkLimitExceeded) ≡ Ok (outcome m)) × (wire_states_from L (drop (8 * n) t) ≡ map (λ x. moved starts (neighbor c wire x) x) st.wires))
       spent-meets h m t = (λ a. refl, λ a. absurd (omega (arith, visits_are)))
 
       module _ (met : Meeting) (s : List ℕ) (p : ℕ) (g : Going met s p) (last : NoneIn (drop (9 * n) s) lo p) where
@@ -375,7 +374,7 @@ module _ (starts : Bool) (n j : ℕ) (s₀ : List ℕ) (least₀ : Float) (allow
             let b : met.changed ≡ count (λ x. neighbor c wire x && eqb x.neighbors (changing_count starts)) st.wires = g.changed ∙ since_all plus n p (λ k. bit (turned k)) (λ k h a. unseen_turned k (rest_unseen k h a)) ∙ sym (over_rows plus (λ x. bit (neighbor c wire x && eqb x.neighbors (changing_count starts)))) in
             let d : met.highest ≡ topmost starts (neighbor c wire) st.wires = g.highest ∙ since_all greatest n p reached (λ k h a. unseen_reached k (rest_unseen k h a)) ∙ sym (over_rows greatest (λ x. cond (neighbor c wire x) (top starts x.neighbors) 0)) ∙ topmost-is starts (neighbor c wire) st.wires in
             let k = g.least m e h in
-            let f : met.least ≡ least_float (lesser ltb m (least_here c (item_at L j) st)) = k.0 ∙ ap (λ (o : Option ℕ). least_float (lesser ltb m o)) (since_all fewest n p gap_at (λ k h a. unseen_gap k (rest_unseen k h a)) ∙ sym (over_rows fewest (λ x. cond (neighbor c wire x) (gap wire x.item.wire) none))) in
+            let f : met.least ≡ least_float (lesser ltb m (least_here c (item_at L j) st)) = k.0 ∙ ap (λ (o : Option ℕ). least_float (lesser ltb m o)) (since_all fewest n p gap_at (λ k h a. unseen_gap k (rest_unseen k h a)) ∙ sym (over_rows fewest (λ x. cond (neighbor c wire x) (gap wire x.item.wire) None))) in
             let l : met.remaining ≡ allowance - visits = omega (arith, left_is) in
             λ i. record { neighbors = a i; changed = b i; highest = d i; least = f i; remaining = l i }
 
@@ -396,5 +395,5 @@ module _ (starts : Bool) (n j : ℕ) (s₀ : List ℕ) (least₀ : Float) (allow
             ∙ sym (map-map (λ x. moved starts (neighbor c wire x) x) row (up_to (length L)))
             ∙ ap (map (λ x. moved starts (neighbor c wire x) x)) (sym stored.wires)
 
-        pub went-meets : (m : Option ℕ) → least₀ ≡ least_float m → Representable m → (allowance < visits → Ok met ≡ (Err WorkLimitExceeded)) × (visits ≤ allowance → (Ok met ≡ Ok (outcome m)) × (wire_states_from L (drop (8 * n) s) ≡ map (λ x. moved starts (neighbor c wire x) x) st.wires))
+        pub went-meets : (m : Option ℕ) → least₀ ≡ least_float m → Representable m → (allowance < visits → Ok met ≡ Err WorkLimitExceeded) × (visits ≤ allowance → (Ok met ≡ Ok (outcome m)) × (wire_states_from L (drop (8 * n) s) ≡ map (λ x. moved starts (neighbor c wire x) x) st.wires))
         went-meets m e h = (λ a. absurd (omega (arith, left_is)), λ a. (ap Ok (met-is m e h), rows_are))

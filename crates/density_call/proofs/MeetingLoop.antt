@@ -1,6 +1,6 @@
 -- The loop over the wires that an event's wire meets, for whatever wires the tables are of. Assumes nothing.
 use Rattle.drawing.specs.declared.refusal.Refusal.TheVariants.{WorkLimitExceeded}
-use Rattle.std.specs.Prelude.{Ok, Err}
+use Rattle.std.specs.Prelude.{Ok, Err, Option, Some, None}
 use mathlib.Core.Path.{◌≡◌, refl, sym, ap, ◌∙◌, subst}
 use mathlib.Core.List.{List}
 use mathlib.Core.Bool.{Bool}
@@ -14,8 +14,6 @@ use Rattle.laws.specs.Lists.{Mem}
 use Rattle.laws.proofs.ListLaws.{map_mem}
 use Rattle.laws.proofs.Parts.{tail_lent}
 use Rattle.sorting.specs.Inner.Sorted.{up_to}
-use Rattle.bitset.specs.declared.Last.{Last}
-use Rattle.bitset.specs.declared.Last.TheVariants.{Found, Empty}
 use Rattle.bitset.specs.Inner.Members.{rest_below, last_below, last_with}
 use Rattle.bitset.proofs.Lasts.{Greatest, last_found, last_empty}
 use Rattle.bitset.proofs.Rests.{last-with}
@@ -57,17 +55,17 @@ module _ {starts : Bool} {n j : ℕ} {s₀ : List ℕ} {least₀ : Float} {allow
   pub turn-only : CountsOnly n s₀ s
   turn-only = the_going.only
 
-  module _ {r : Last} (told : r ≡ last_with (mid_of (9 * n) (length s - 9 * n) s) (get_or s₀ (6 * n + j) 0) to rest) where
+  module _ {r : Option (ℕ × ℕ)} (told : r ≡ last_with (mid_of (9 * n) (length s - 9 * n) s) (get_or s₀ (6 * n + j) 0) to rest) where
     last-is : last_below (drop (9 * n) s) (get_or s₀ (6 * n + j) 0) to ≡ r
     last-is =
         sym (last-with (drop (9 * n) s) to rest (a.rest-is ∙ ap (λ (w : List ℕ). rest_below w to) (sym turn-only.behind)) (get_or s₀ (6 * n + j) 0))
         ∙ ap (λ (w : List ℕ). last_with w (get_or s₀ (6 * n + j) 0) to rest) (sym (tail_lent (9 * n) s))
         ∙ sym told
 
-    pub turn-ends : r ≡ Empty → Meets starts s₀ s n j least₀ allowance (Ok met)
+    pub turn-ends : r ≡ None → Meets starts s₀ s n j least₀ allowance (Ok met)
     turn-ends e c L st m size tabled stored f h = went-meets starts n j s₀ least₀ allowance c L size tabled known.inside st stored met s to (a.going c L size tabled) (last_empty (drop (9 * n) s) (get_or s₀ (6 * n + j) 0) to (last-is ∙ e)) m f h
 
-    module _ {i x : ℕ} (found : r ≡ Found i x) where
+    module _ {i x : ℕ} (found : r ≡ Some (i, x)) where
       last : Greatest (drop (9 * n) s) (get_or s₀ (6 * n + j) 0) to i × (x ≡ rest_below (drop (9 * n) s) i)
       last = last_found (drop (9 * n) s) (get_or s₀ (6 * n + j) 0) to i x (last-is ∙ found)
 

@@ -51,7 +51,7 @@ module _ (x : Float) (g : T (on_grid x)) where
       record { grid = g; some = omega arith }
 
 -- ---- what the checks leave
-module _ (s : SegmentColumns) (cutoff : Float) (words : ℕ) (passed : first_of (congestion_conditions s cutoff words) ≡ (Ok tt)) where
+module _ (s : SegmentColumns) (cutoff : Float) (words : ℕ) (passed : first_of (congestion_conditions s cutoff words) ≡ Ok tt) where
   -- nothing is swept
   pub nothing_swept : le cutoff plus_zero ≡ true → (m : ℕ) → Ok (record { congested_length = plus_zero; pair_overlap_length = plus_zero; peak_close_neighbors = 0; minimum_positive = None; remaining = m }) ≡ found_of (within m (all_pairs cutoff (segments s)))
   unfolding found_of lengths

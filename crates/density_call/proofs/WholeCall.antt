@@ -40,7 +40,7 @@ answer_replies (left p m) total allowance k =
 
 -- ---- `measure_parallel_density_profile_bounded`
 module _ (c : SegmentColumns) (cutoff : Float) (allowance words : ℕ) where
-  pub refused-answer : (k : (Result Unit Refusal)) (r : Refusal) → k ≡ first_of (congestion_conditions c cutoff words) → k ≡ Checked.Refused r → Err r ≡ density_answer c cutoff allowance words
+  pub refused-answer : (k : Result Unit Refusal) (r : Refusal) → k ≡ first_of (congestion_conditions c cutoff words) → k ≡ Checked.Refused r → Err r ≡ density_answer c cutoff allowance words
   refused-answer k r h g = sym (density_settles.earlier c cutoff allowance words r (sym h ∙ g))
 
   module _ (passed : Passes c cutoff words) where
@@ -51,11 +51,11 @@ module _ (c : SegmentColumns) (cutoff : Float) (allowance words : ℕ) where
     same_total : (total : Float) → total ≡ rounded_total (segments c) → (p : Profile) (m : ℕ) → within allowance report ≡ left p m → total ≡ p.0.total_length
     same_total total t p m e = t ∙ (report_exact cutoff (segments c) (fit_list c cutoff words passed)).total ∙ ap (λ (v : Profile). v.0.total_length) (within-left allowance report p m e).1
 
-    pub passed_answer : (r : (Result Found Refusal)) → r ≡ found_of (within allowance report) → (total : Float) → total ≡ rounded_total (segments c) → (a : (Result CongestionReport Refusal)) → a ≡ answer_of r total allowance → a ≡ density_answer c cutoff allowance words
+    pub passed_answer : (r : Result Found Refusal) → r ≡ found_of (within allowance report) → (total : Float) → total ≡ rounded_total (segments c) → (a : Result CongestionReport Refusal) → a ≡ answer_of r total allowance → a ≡ density_answer c cutoff allowance words
     unfolding density_answer settled
     passed_answer r e total t a f =
         f
-        ∙ ap (λ (o : (Result Found Refusal)). answer_of o total allowance) e
+        ∙ ap (λ (o : Result Found Refusal). answer_of o total allowance) e
         ∙ answer_replies (within allowance report) total allowance (same_total total t)
         ∙ settle-within (λ p n. Ok (report_of p n)) (Err WorkLimitExceeded) allowance report
-        ∙ sym (ap (λ (k : (Result Unit Refusal)). checked Err k (settled allowance report)) passed)
+        ∙ sym (ap (λ (k : Result Unit Refusal). checked Err k (settled allowance report)) passed)

@@ -1,7 +1,8 @@
 // One orientation's wires: their tables are made in the scratch, and the sweep runs over them.
 ghost use Rattle.std.specs.Prelude.{◌≡◌, map, eqb, length};
 ghost use Rattle.laws.specs.Inner.Allowance.{within};
-ghost use Rattle.drawing.specs.Entries.{segment_columns, segments};
+ghost use Rattle.drawing.specs.Entries as Entries;
+ghost use Rattle.drawing.specs.Entries.{lent_segments, segments};
 ghost use Rattle.rows.specs.Rows as Rows;
 ghost use Rattle.congestion.specs.Wires.{cutoff_of};
 ghost use Rattle.congestion.specs.Walk.{sweep, along};
@@ -11,7 +12,7 @@ ghost use Rattle.density_call.specs.Inner.Measuring.{wire_of_row, Cutoff, AtRows
 use crate::ranges::fill_ranges;
 use crate::run::run_events;
 use congestion::Found;
-use drawing::clear;
+use drawing::{Segments, clear};
 use rows::{order_events, order_rows, spread_rows};
 
 // Makes the tables of n rows: their indices in order are stored from word `from` on, and the rows themselves `table` words later. The words after the tables are cleared: no wire is active yet. Then the sweep runs.
@@ -39,21 +40,17 @@ fn sweep_rows(
 pub(crate) fn sweep_along(
     s: &mut [u64],
     wanted: u8,
-    net: &[u32],
-    orientation: &[u8],
-    fixed: &[f64],
-    start: &[f64],
-    end: &[f64],
+    segments: &Segments<'_>,
     cutoff: f64,
     allowance: usize,
 ) -> Result<Found, Refusal>
-    requires at_columns { AtColumns (length s.old) wanted (segment_columns net.now orientation.now fixed.now start.now end.now) }
+    requires at_columns { AtColumns (length s.old) wanted (lent_segments segments.now) }
     requires cutoff { Cutoff cutoff }
-    ensures { result ≡ swept_of (within allowance (along (cutoff_of cutoff) (map (wire_of_row (eqb wanted 1)) (Rows.oriented wanted (segments (segment_columns net.now orientation.now fixed.now start.now end.now)))))) }
+    ensures { result ≡ swept_of (within allowance (along (cutoff_of cutoff) (map (wire_of_row (eqb wanted 1)) (Rows.oriented wanted (Entries.segments (lent_segments segments.now)))))) }
 {
-    let total = net.len();
+    let total = segments.net.len();
     let from = 16 * total;
-    let n = order_rows(&mut s[from..], wanted, net, orientation, fixed, start, end);
+    let n = order_rows(&mut s[from..], wanted, segments);
     if n < 2 {
         return Ok(Found {
             congested_length: 0.0,

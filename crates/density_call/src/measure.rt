@@ -2,7 +2,8 @@
 ghost use Rattle.std.specs.Prelude.{◌≡◌, length, Ok};
 ghost use Rattle.laws.specs.Inner.Allowance.{within};
 ghost use Rattle.drawing.specs.Refusals.{first_of, scratch_after};
-ghost use Rattle.drawing.specs.Entries.{segment_columns, segments};
+ghost use Rattle.drawing.specs.Entries as Entries;
+ghost use Rattle.drawing.specs.Entries.{lent_segments, segments};
 ghost use Rattle.drawing.specs.Held.{Binary64, SegmentsHeld};
 ghost use Rattle.congestion.specs.Conditions.{congestion_conditions};
 ghost use Rattle.congestion.specs.AllPairs.{all_pairs};
@@ -12,7 +13,7 @@ ghost use Rattle.density_call.specs.Inner.Measuring.{found_of, combined_of};
 use crate::along::sweep_along;
 use crate::counts::greater;
 use congestion::{Found, answer_of, check_congestion, total_length};
-use drawing::{clear, minimum_option};
+use drawing::{Segments, clear, minimum_option};
 use rows::segments_to_sweep;
 
 // The figures of both orientations, with the remaining visits of the second sweep.
@@ -35,17 +36,13 @@ fn combined(across: Found, down: Found) -> Found
 // The sweep over a fit drawing: horizontal segments first, then vertical ones with the remaining visits. A cutoff of 0 or less costs nothing.
 // Each segment that is swept costs at least one visit. Where the allowance is below that, it counts as spent before any table is made.
 fn walk_segments(
-    net: &[u32],
-    orientation: &[u8],
-    fixed: &[f64],
-    start: &[f64],
-    end: &[f64],
+    segments: &Segments<'_>,
     cutoff: f64,
     allowance: usize,
     scratch: &mut [u64],
 ) -> Result<Found, Refusal>
-    requires { first_of (congestion_conditions (segment_columns net.now orientation.now fixed.now start.now end.now) cutoff (length scratch.old)) ≡ (Ok tt) }
-    ensures { result ≡ found_of (within allowance (all_pairs cutoff (segments (segment_columns net.now orientation.now fixed.now start.now end.now)))) }
+    requires { first_of (congestion_conditions (lent_segments segments.now) cutoff (length scratch.old)) ≡ (Ok tt) }
+    ensures { result ≡ found_of (within allowance (all_pairs cutoff (Entries.segments (lent_segments segments.now)))) }
 {
     if cutoff <= 0.0 {
         return Ok(Found {
@@ -56,17 +53,13 @@ fn walk_segments(
             remaining: allowance,
         });
     }
-    if allowance < segments_to_sweep(orientation) {
+    if allowance < segments_to_sweep(segments.orientation) {
         return Err(Refusal::WorkLimitExceeded);
     }
     let first = sweep_along(
         scratch,
         1,
-        net,
-        orientation,
-        fixed,
-        start,
-        end,
+        segments,
         cutoff,
         allowance,
     );
@@ -76,11 +69,7 @@ fn walk_segments(
     let second = sweep_along(
         scratch,
         0,
-        net,
-        orientation,
-        fixed,
-        start,
-        end,
+        segments,
         cutoff,
         across.remaining,
     );
@@ -91,34 +80,26 @@ fn walk_segments(
 }
 
 pub fn measure_parallel_density_profile_bounded(
-    net: &[u32],
-    orientation: &[u8],
-    fixed: &[f64],
-    start: &[f64],
-    end: &[f64],
+    segments: &Segments<'_>,
     cutoff: f64,
     allowance: usize,
     scratch: &mut [u64],
 ) -> Result<CongestionReport, Refusal>
-    ensures { let lent = segment_columns net.now orientation.now fixed.now start.now end.now in
+    ensures { let lent = lent_segments segments.now in
         let words = length scratch.old in
         let refusal = first_of (congestion_conditions lent cutoff words) in
         (result ≡ density_answer lent cutoff allowance words)
         × (scratch.new ≡ scratch_after refusal scratch.old)
-        × (refusal ≡ (Ok tt) → SegmentsHeld lent × Binary64 cutoff) }
+        × (refusal ≡ Ok tt → SegmentsHeld lent × Binary64 cutoff) }
 {
     let words = scratch.len();
-    let check = check_congestion(net, orientation, fixed, start, end, cutoff, words);
+    let check = check_congestion(segments, cutoff, words);
     if let Err(why) = check {
         return Err(why);
     }
-    let total = total_length(net, orientation, fixed, start, end);
+    let total = total_length(segments);
     let swept = walk_segments(
-        net,
-        orientation,
-        fixed,
-        start,
-        end,
+        segments,
         cutoff,
         allowance,
         scratch,

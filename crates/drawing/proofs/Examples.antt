@@ -32,8 +32,8 @@ second_fault = refl
 
 -- SCOPE 2.8, 7.5: a segment is fit in either direction, "Start equal to end still gives 5", and -0 equals +0 in either direction; a number that is not finite is refused wherever it is given
 pub record EndsChecked : Type 0 where
-  pub from_10_to_5 : first_of (segment_conditions (one-segment 0 0x4024_0000_0000_0000 0x4014_0000_0000_0000) 96) ≡ (Ok tt)
-  pub from_5_to_10 : first_of (segment_conditions (one-segment 0 0x4014_0000_0000_0000 0x4024_0000_0000_0000) 96) ≡ (Ok tt)
+  pub from_10_to_5 : first_of (segment_conditions (one-segment 0 0x4024_0000_0000_0000 0x4014_0000_0000_0000) 96) ≡ Ok tt
+  pub from_5_to_10 : first_of (segment_conditions (one-segment 0 0x4014_0000_0000_0000 0x4024_0000_0000_0000) 96) ≡ Ok tt
   pub from_5_to_5 : first_of (segment_conditions (one-segment 0 0x4014_0000_0000_0000 0x4014_0000_0000_0000) 96) ≡ Err InvalidInput
   pub from_minus_zero_to_zero : first_of (segment_conditions (one-segment 0 0x8000_0000_0000_0000 0) 96) ≡ Err InvalidInput
   pub from-zero-to_minus_zero : first_of (segment_conditions (one-segment 0 0 0x8000_0000_0000_0000) 96) ≡ Err InvalidInput

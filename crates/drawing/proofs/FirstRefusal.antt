@@ -27,12 +27,12 @@ pub first_no : (b : Bool) (r : Refusal) (l : List (Bool × Refusal)) → b ≡ f
 unfolding first_of
 first_no b r l e = rw e
 
-pub first-none : first_of [] ≡ (Ok tt)
+pub first-none : first_of [] ≡ Ok tt
 unfolding first_of
 first-none = refl
 
 -- one check after another: the first that refuses decides
-abbrev pub then : (Result Unit Refusal) → (Result Unit Refusal) → (Result Unit Refusal)
+abbrev pub then : Result Unit Refusal → Result Unit Refusal → Result Unit Refusal
 then (Ok tt) d = d
 then (Err r) d = Err r
 
@@ -46,18 +46,18 @@ first-append (c ∷ l) m = go c.0 (first-append l m)
     go false e = e
 
 -- the answer c of the first conditions is the answer, or the others decide
-pub first_stop : (l m : List (Bool × Refusal)) (c : (Result Unit Refusal)) (r : Refusal) → c ≡ first_of l → c ≡ Err r → c ≡ first_of (l ++ m)
-first_stop l m c r e g = g ∙ sym (first-append l m ∙ ap (λ (d : (Result Unit Refusal)). then d (first_of m)) (sym e ∙ g))
+pub first_stop : (l m : List (Bool × Refusal)) (c : Result Unit Refusal) (r : Refusal) → c ≡ first_of l → c ≡ Err r → c ≡ first_of (l ++ m)
+first_stop l m c r e g = g ∙ sym (first-append l m ∙ ap (λ (d : Result Unit Refusal). then d (first_of m)) (sym e ∙ g))
 
-pub first_go_on : (l m : List (Bool × Refusal)) (c : (Result Unit Refusal)) → c ≡ first_of l → c ≡ (Ok tt) → first_of (l ++ m) ≡ first_of m
-first_go_on l m c e g = first-append l m ∙ ap (λ (d : (Result Unit Refusal)). then d (first_of m)) (sym e ∙ g)
+pub first_go_on : (l m : List (Bool × Refusal)) (c : Result Unit Refusal) → c ≡ first_of l → c ≡ Ok tt → first_of (l ++ m) ≡ first_of m
+first_go_on l m c e g = first-append l m ∙ ap (λ (d : Result Unit Refusal). then d (first_of m)) (sym e ∙ g)
 
 -- ---- where all pass
-abbrev is_passed : (Result Unit Refusal) → Bool
+abbrev is_passed : Result Unit Refusal → Bool
 is_passed (Ok tt) = true
 is_passed (Err r) = false
 
-pub passed_head : (b : Bool) (r : Refusal) (l : List (Bool × Refusal)) → first_of ((b, r) ∷ l) ≡ (Ok tt) → (b ≡ false) × (first_of l ≡ (Ok tt))
+pub passed_head : (b : Bool) (r : Refusal) (l : List (Bool × Refusal)) → first_of ((b, r) ∷ l) ≡ Ok tt → (b ≡ false) × (first_of l ≡ Ok tt)
 passed_head b r l e = elim (decide b) [
   | inl t ↦ clash true refl (ap is_passed (sym e ∙ first_yes b r l t))
   | inr f ↦ (f, sym (first_no b r l f) ∙ e)
@@ -92,7 +92,7 @@ pub record SegmentsPass (s : SegmentColumns) (words : ℕ) : Type 0 where
   pub room : 32 * length s.net + 64 ≤ words
   pub fit : some_of unfit_segment (segments s) ≡ false
 
-pub segments_pass : (s : SegmentColumns) (words : ℕ) → first_of (segment_conditions s words) ≡ (Ok tt) → SegmentsPass s words
+pub segments_pass : (s : SegmentColumns) (words : ℕ) → first_of (segment_conditions s words) ≡ Ok tt → SegmentsPass s words
 unfolding segment_conditions short_scratch
 segments_pass s words e =
     let a = passed_head _ _ _ e in
@@ -107,7 +107,7 @@ pub record SegmentListPasses (s : SegmentColumns) : Type 0 where
   pub few-segments : length s.net ≤ 4096
   pub fit : some_of unfit_segment (segments s) ≡ false
 
-pub segment_list_passes : (s : SegmentColumns) → first_of (segment_list_conditions s) ≡ (Ok tt) → SegmentListPasses s
+pub segment_list_passes : (s : SegmentColumns) → first_of (segment_list_conditions s) ≡ Ok tt → SegmentListPasses s
 unfolding segment_list_conditions
 segment_list_passes s e =
     let a = passed_head _ _ _ e in
@@ -123,7 +123,7 @@ pub record ListsPass (s : SegmentColumns) (n : NodeColumns) (x : ExemptionColumn
   pub few-nodes : length n.id ≤ 4096
   pub few-exemptions : length x.net ≤ 4096
 
-pub lists_pass : (s : SegmentColumns) (n : NodeColumns) (x : ExemptionColumns) → first_of (list_conditions s n x) ≡ (Ok tt) → ListsPass s n x
+pub lists_pass : (s : SegmentColumns) (n : NodeColumns) (x : ExemptionColumns) → first_of (list_conditions s n x) ≡ Ok tt → ListsPass s n x
 unfolding list_conditions
 lists_pass s n x e =
     let a = passed_head _ _ _ e in
@@ -135,7 +135,7 @@ lists_pass s n x e =
     record { segments = segments-agree s a.0; nodes = nodes-agree n b.0; few-segments = few _ d.0; few-nodes = few _ f.0; few-exemptions = few _ g.0 }
 
 -- after their checks the columns need not be compared again
-pub entries_compared : (s : SegmentColumns) (n : NodeColumns) (x : ExemptionColumns) → first_of (list_conditions s n x) ≡ (Ok tt) → first_of (compared_entry_conditions s n) ≡ first_of (entry_conditions s n)
+pub entries_compared : (s : SegmentColumns) (n : NodeColumns) (x : ExemptionColumns) → first_of (list_conditions s n x) ≡ Ok tt → first_of (compared_entry_conditions s n) ≡ first_of (entry_conditions s n)
 unfolding list_conditions compared_entry_conditions
 entries_compared s n x e =
     let a = passed_head _ _ _ e in
@@ -143,14 +143,14 @@ entries_compared s n x e =
     first_no _ _ _ a.0 ∙ first_no _ _ _ b.0
 
 -- what is refused does not pass
-pub not_passed : {A : Type 0} (k c : (Result Unit Refusal)) (r : Refusal) → c ≡ k → c ≡ Err r → k ≡ (Ok tt) → A
+pub not_passed : {A : Type 0} (k c : Result Unit Refusal) (r : Refusal) → c ≡ k → c ≡ Err r → k ≡ Ok tt → A
 not_passed k c r h g e = clash true refl (ap is_passed (sym e ∙ sym h ∙ g))
 
 -- ---- the scratch at exit, from what a call's checks returned
-pub refused-scratch : (k c : (Result Unit Refusal)) (r : Refusal) (l : List ℕ) → c ≡ k → c ≡ Err r → l ≡ scratch_after k l
+pub refused-scratch : (k c : Result Unit Refusal) (r : Refusal) (l : List ℕ) → c ≡ k → c ≡ Err r → l ≡ scratch_after k l
 unfolding scratch_after
 refused-scratch k c r l h g = sym (rw (sym h ∙ g))
 
-pub passed_scratch : (k c : (Result Unit Refusal)) (l r : List ℕ) → c ≡ k → c ≡ (Ok tt) → r ≡ replicate (length l) 0 → r ≡ scratch_after k l
+pub passed_scratch : (k c : Result Unit Refusal) (l r : List ℕ) → c ≡ k → c ≡ Ok tt → r ≡ replicate (length l) 0 → r ≡ scratch_after k l
 unfolding scratch_after
 passed_scratch k c l r h g e = sym (rw (sym h ∙ g) (sym e))

@@ -95,7 +95,7 @@ at_most (fin s m e) (inf false) p q = refl
 at_most (fin s m e) (fin t n d) p q = signed s t (m * up e * down d) (n * up d * down e)
 
 -- ---- compared with one more gap: either there is none yet, and the comparison fails, or two numbers are compared
-pub by-least : (x d : Float) → Number d → (P : (Option Float) → Type 0) → (le x d ≡ false → P None) → (le x d ≡ not (lt d x) → P (Some x)) → P (gap_of_float x)
+pub by-least : (x d : Float) → Number d → (P : Option Float → Type 0) → (le x d ≡ false → P None) → (le x d ≡ not (lt d x) → P (Some x)) → P (gap_of_float x)
 unfolding gap_of_float is_nan le
 by-least nan d q P a b = a refl
 by-least (inf s) d q P a b = b (at_most (inf s) d tt q)

@@ -2,6 +2,9 @@
 use Rattle.std.specs.Prelude.{List, [], ◌∷◌, map, ℕ, Float}
 use Rattle.floats.specs.Values.{lesser_of, greater_of}
 use Rattle.drawing.specs.declared.ends.Ends.{Ends}
+use Rattle.drawing.specs.declared.lists.Segments.{Segments}
+use Rattle.drawing.specs.declared.lists.Nodes.{Nodes}
+use Rattle.drawing.specs.declared.lists.Exemptions.{Exemptions}
 
 pub record Segment : Type 0 where
   pub net : ℕ
@@ -48,6 +51,16 @@ node_columns is xs ys ws hs = record { id = is; x = xs; y = ys; width = ws; heig
 
 abbrev pub exemption_columns : List ℕ → List ℕ → ExemptionColumns
 exemption_columns ns ms = record { net = ns; node = ms }
+
+-- what a call's argument lends
+abbrev pub lent_segments : Segments → SegmentColumns
+lent_segments s = segment_columns s.net.now s.orientation.now s.fixed.now s.start.now s.end.now
+
+abbrev pub lent_nodes : Nodes → NodeColumns
+lent_nodes n = node_columns n.id.now n.x.now n.y.now n.width.now n.height.now
+
+abbrev pub lent_exemptions : Exemptions → ExemptionColumns
+lent_exemptions e = exemption_columns e.net.now e.node.now
 
 -- the entries at each index, as many as the shortest column holds
 unfoldable pub segments_of : List ℕ → List ℕ → List Float → List Float → List Float → List Segment

@@ -15,21 +15,21 @@ number_of WorkLimitExceeded = 7
 number_of ShortOutput = 8
 
 -- the number of what a check returns: 0 where it passed, as for an accepted call
-unfoldable pub number_of_check : (Result Unit Refusal) → ℕ
-number_of_check (Ok tt) = 0
+unfoldable pub number_of_check : Result Unit Refusal → ℕ
+number_of_check (Ok u) = 0
 number_of_check (Err r) = number_of r
 
 -- conditions with their refusals, in checking order. SCOPE 7.0, 8.1: "the first refusal that applies"
-unfoldable pub first_of : List (Bool × Refusal) → (Result Unit Refusal)
-first_of [] = (Ok tt)
+unfoldable pub first_of : List (Bool × Refusal) → Result Unit Refusal
+first_of [] = Ok tt
 first_of (c ∷ l) = let r = first_of l in cond c.0 (Err c.1) r
 
 -- the answer of a call: the first refusal that applies, else what follows
-abbrev pub checked : {A : Type 0} → (Refusal → A) → (Result Unit Refusal) → A → A
-checked refused (Ok tt) a = a
+abbrev pub checked : {A : Type 0} → (Refusal → A) → Result Unit Refusal → A → A
+checked refused (Ok u) a = a
 checked refused (Err r) a = refused r
 
 -- the scratch at exit. SCOPE 6.5: "After an accepted call or a spent allowance the whole scratch is zero"; an earlier refusal leaves it as it was
-unfoldable pub scratch_after : (Result Unit Refusal) → List ℕ → List ℕ
-scratch_after (Ok tt) s = replicate (length s) 0
+unfoldable pub scratch_after : Result Unit Refusal → List ℕ → List ℕ
+scratch_after (Ok u) s = replicate (length s) 0
 scratch_after (Err r) s = s

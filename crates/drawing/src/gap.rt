@@ -1,4 +1,4 @@
-// A least gap: the Rust's `Option<f64>`, absent or one float (SCOPE 6.4, 15.5). And the least gap so far, as a walk keeps it: one float.
+// A least gap: absent or one float (SCOPE 6.4, 15.5). And the least gap so far, as a walk keeps it: one float.
 ghost use Rattle.std.specs.Prelude.{◌≡◌};
 ghost use Rattle.std.specs.Float.{nan};
 ghost use Rattle.drawing.specs.Gaps as Gaps;
@@ -6,22 +6,14 @@ ghost use Rattle.drawing.specs.Inner.LeastFloats as LeastFloats;
 
 use floats::lesser;
 
-#[derive(Clone, Copy)]
-pub enum Gap {
-    Absent,
-    Present(f64),
-}
-
 // The lesser of two gaps, the present one where the other is absent.
 pub fn minimum_option(left: Option<f64>, right: Option<f64>) -> Option<f64>
     ensures { result ≡ Gaps.lesser_gap left right }
 {
-    match left {
-        None => right,
-        Some(a) => match right {
-            None => left,
-            Some(b) => Some(lesser(a, b)),
-        },
+    match (left, right) {
+        (None, _) => right,
+        (_, None) => left,
+        (Some(a), Some(b)) => Some(lesser(a, b)),
     }
 }
 

@@ -2,37 +2,23 @@
 ghost use Rattle.std.specs.Prelude.{◌≡◌};
 ghost use Rattle.drawing.specs.Refusals as Refusals;
 
-#[derive(Clone, Copy)]
+#[derive(Clone, Copy, PartialEq, Eq, Debug)]
 pub enum Refusal {
-    MalformedFile,
-    ColumnsDiffer,
-    TooManyEntries,
-    ShortScratch,
-    InvalidInput,
-    OffGrid,
-    WorkLimitExceeded,
-    ShortOutput,
-}
-
-// What the checks of a call return before any work starts.
-#[derive(Clone, Copy)]
-pub enum Check {
-    Passed,
-    Refused(Refusal),
+    MalformedFile = 1,
+    ColumnsDiffer = 2,
+    TooManyEntries = 3,
+    ShortScratch = 4,
+    InvalidInput = 5,
+    OffGrid = 6,
+    WorkLimitExceeded = 7,
+    ShortOutput = 8,
 }
 
 // The refusal's number.
-pub fn number(refusal: Refusal) -> u8
-    ensures { result ≡ Refusals.number_of refusal }
-{
-    match refusal {
-        Refusal::MalformedFile => 1,
-        Refusal::ColumnsDiffer => 2,
-        Refusal::TooManyEntries => 3,
-        Refusal::ShortScratch => 4,
-        Refusal::InvalidInput => 5,
-        Refusal::OffGrid => 6,
-        Refusal::WorkLimitExceeded => 7,
-        Refusal::ShortOutput => 8,
+impl From<Refusal> for u8 {
+    ghost from_gives = { λ refusal number. number ≡ Refusals.number_of refusal };
+
+    fn from(refusal: Refusal) -> u8 {
+        refusal as u8
     }
 }

@@ -2,11 +2,12 @@
 #![tactic(auto)]
 
 ghost use Rattle.std.specs.Prelude.{◌≡◌, List, ℕ, ◌≤◌, length};
-ghost use Rattle.drawing.specs.Entries.{Exemption, exemption_columns};
+ghost use Rattle.drawing.specs.Entries.{Exemption, lent_exemptions};
 ghost use Rattle.drawing.specs.Inner.Lengths.{ExemptionsAgree};
 ghost use Rattle.clearance.specs.Figures.{exempt};
 ghost use Rattle.exemptions.specs.Inner.Exempting.{word, word_at, node_of, Ascending, Rising, Gathered, LowerBound, Own, Listed};
 
+use drawing::Exemptions;
 use sorting::sort_indices;
 
 // 2 to the power 32: the upper half of a word is the net, the lower the node.
@@ -26,11 +27,11 @@ fn pack(net: u32, node: u32) -> u64
 }
 
 // Packs the exemptions into the first words and puts them in ascending order. That the columns agree and that there are enough words is known from a drawing's checks; otherwise nothing is written.
-pub fn gather(words: &mut [u64], exempt_net: &[u32], exempt_node: &[u32])
-    ensures { ExemptionsAgree (exemption_columns exempt_net.now exempt_node.now) → length exempt_net.now ≤ length words.old → Gathered (exemption_columns exempt_net.now exempt_node.now) words.old words.new }
+pub fn gather(words: &mut [u64], exemptions: &Exemptions<'_>)
+    ensures { ExemptionsAgree (lent_exemptions exemptions.now) → length exemptions.now.net.now ≤ length words.old → Gathered (lent_exemptions exemptions.now) words.old words.new }
 {
-    let k = exempt_net.len();
-    if exempt_node.len() != k {
+    let k = exemptions.net.len();
+    if exemptions.node.len() != k {
         return;
     }
     if words.len() < k {
@@ -38,7 +39,7 @@ pub fn gather(words: &mut [u64], exempt_net: &[u32], exempt_node: &[u32])
     }
     let mut i = 0;
     while i < k {
-        words[i] = pack(exempt_net[i], exempt_node[i]);
+        words[i] = pack(exemptions.net[i], exemptions.node[i]);
         i += 1;
     }
     sort_indices(words, k, k, 0);

@@ -1,6 +1,5 @@
 -- Results in words: how the exported calls write them (SCOPE 6.7).
 use Rattle.std.specs.Prelude.{◌≡◌, List, [], ◌∷◌, ℕ, Option, Some, None}
-use Rattle.std.proofs.Math.Option.{Option, none, some}
 use Rattle.std.specs.Float.{binary64}
 use Rattle.std.specs.Float.Ieee.{to_bits}
 use Rattle.drawing.specs.Entries.{SegmentColumns, NodeColumns, ExemptionColumns}
@@ -11,12 +10,12 @@ use Rattle.separation.specs.declared.report.ParallelSeparation.{ParallelSeparati
 use Rattle.congestion.specs.declared.report.CongestionReport.{CongestionReport}
 
 -- whether the gap is present
-unfoldable pub present_word : (Option Float) → ℕ
+unfoldable pub present_word : Option Float → ℕ
 present_word None = 0
 present_word (Some x) = 1
 
 -- its bits, 0 where it is absent
-unfoldable pub bits_word : (Option Float) → ℕ
+unfoldable pub bits_word : Option Float → ℕ
 bits_word None = 0
 bits_word (Some x) = to_bits binary64 x
 
@@ -40,8 +39,8 @@ join_words result = result.1 ∷ result.2 ∷ []
 
 -- SCOPE 6.7, 12.2: the words of a tight pair: whether there is one, and its positions, "by segment and node position"; zeros where it is absent
 unfoldable pub pair_words : Option (ℕ × ℕ) → List ℕ
-pair_words none = 0 ∷ 0 ∷ 0 ∷ []
-pair_words (some p) = 1 ∷ p.0 ∷ p.1 ∷ []
+pair_words None = 0 ∷ 0 ∷ 0 ∷ []
+pair_words (Some p) = 1 ∷ p.0 ∷ p.1 ∷ []
 
 -- what is returned of the tight pair, a number, and what is written, words, are of one and the same answer, of which the call's promise holds. SCOPE 12.2: "any pair", so the choice is left to the program
 pub record PairWritten (s : SegmentColumns) (n : NodeColumns) (e : ExemptionColumns) (number : ℕ) (words : List ℕ) : Type 0 where

@@ -15,7 +15,7 @@ use Rattle.file.specs.Columns.{header_of, reading_of, result_of, file_result, co
 use Rattle.file.proofs.FixedPlaces.{length-places, map-from}
 
 -- an answer has the number and values of its file
-pub reading_result : (x : (Result Header Refusal)) (r : Read Drawing) → x ≡ reading_of r → result_of x ≡ file_result r
+pub reading_result : (x : Result Header Refusal) (r : Read Drawing) → x ≡ reading_of r → result_of x ≡ file_result r
 unfolding reading_of result_of file_result
 reading_result x (got d rest) e = ap result_of e
 reading_result x (refused w) e = ap result_of e
@@ -38,7 +38,7 @@ column-read list f value g o w n at to l d r old out e p q k h =
     h ∙ sym (ap (λ (y : Read Drawing). column_after list f y old) e ∙ (λ i. same i ++ drop (count i) old))
 
 -- a refused file leaves a column as it was
-pub column-kept : {A B : Type 0} (list : Drawing → List A) (f : A → B) (l : List ℕ) (x : (Result Header Refusal)) (q : Refusal) (old : List B) → x ≡ reading_of (read l) → x ≡ answers.Refused q → old ≡ column_after list f (read l) old
+pub column-kept : {A B : Type 0} (list : Drawing → List A) (f : A → B) (l : List ℕ) (x : Result Header Refusal) (q : Refusal) (old : List B) → x ≡ reading_of (read l) → x ≡ answers.Refused q → old ≡ column_after list f (read l) old
 unfolding column_after reading_of
 column-kept list f l x q old e g = go (read l) refl
   where

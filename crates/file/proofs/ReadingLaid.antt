@@ -104,7 +104,7 @@ laid_read l d r e = go (parts l) refl
     go (got a rest) g = laid_parts l a rest g (ended_inverse a d rest r (sym (then-got (parts l) ended a rest g) ∙ e))
 
 -- the counts are those that the call returns
-pub laid : (l : List ℕ) (x : (Result Header Refusal)) (h : Header) → x ≡ reading_of (read l) → x ≡ answers.Read h → Laid l h.segments h.nodes h.exemptions
+pub laid : (l : List ℕ) (x : Result Header Refusal) (h : Header) → x ≡ reading_of (read l) → x ≡ answers.Read h → Laid l h.segments h.nodes h.exemptions
 unfolding reading_of
 laid l x h e g = go (read l) refl
   where

@@ -1,7 +1,6 @@
 -- What reading a drawing file returns, with the number and values of each case (SCOPE 8.5, 10.3), and what the lent columns hold then.
 use Rattle.drawing.specs.declared.refusal.Refusal.{Refusal}
-use Rattle.std.specs.Prelude.{List, ℕ, length, Option, Result}
-use Rattle.std.proofs.Math.Option.{Option, none, some}
+use Rattle.std.specs.Prelude.{List, ℕ, length, Option, Result, None, Some}
 use Rattle.drawing.specs.Refusals.{number_of}
 use Rattle.drawing.specs.Outputs.{written_over}
 use Rattle.file.specs.declared.reading.Header.{Header}
@@ -15,19 +14,19 @@ header_of d =
     record { segments = length d.segments; nodes = length d.nodes; exemptions = length d.exemptions; threshold = set.threshold; cutoff = set.cutoff; clearance = set.clearance; separation = set.separation; congestion = set.congestion }
 
 -- the answer: the counts and settings of a file that is read, or the refusal
-unfoldable pub reading_of : Read Drawing → (Result Header Refusal)
+unfoldable pub reading_of : Read Drawing → Result Header Refusal
 reading_of (got d rest) = answers.Read (header_of d)
 reading_of (refused r) = answers.Refused r
 
 -- each case of the answer by its number, 0 for a file that is read, and its values. SCOPE 8.5, 10.3: "A refusal returns its number", and there is no header
-unfoldable pub result_of : (Result Header Refusal) → ℕ × Option Header
-result_of (answers.Read h) = (0, some h)
-result_of (answers.Refused w) = (number_of w, none)
+unfoldable pub result_of : Result Header Refusal → ℕ × Option Header
+result_of (answers.Read h) = (0, Some h)
+result_of (answers.Refused w) = (number_of w, None)
 
 -- the number and values of a file
 unfoldable pub file_result : Read Drawing → ℕ × Option Header
-file_result (got d rest) = (0, some (header_of d))
-file_result (refused w) = (number_of w, none)
+file_result (got d rest) = (0, Some (header_of d))
+file_result (refused w) = (number_of w, None)
 
 -- a lent column: f of each entry of its list, and past these what was there. SCOPE 8.1, 10.3: a refused file "touches no lent memory"
 unfoldable pub column_after : {A B : Type 0} → (Drawing → List A) → (A → B) → Read Drawing → List B → List B

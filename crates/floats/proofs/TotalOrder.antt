@@ -7,7 +7,10 @@ use lib.Ieee.Bits.{of_bits-fits, to_bits-of_bits, nan_bits_is}
 use Rattle.laws.proofs.Tests.{same_test, is_true, is_false, cond_true, cond_false, le_or_lt}
 use Rattle.floats.specs.TotalOrder.{sign_set, quiet, payload, numbers_in_order, positive_nans_in_order, nans_in_order, total_order, key, key_of}
 use Rattle.floats.specs.Inner.TotalOrder.{total_cmp}
-use Rattle.floats.specs.declared.total_order.Ordering.TheVariants.{Less, Equal, Greater}
+use Rattle.std.specs.Cmp.{ranks}
+use Rattle.std.specs.Ordering.{nat_cmp, MatchOrdering}
+use Rattle.std.specs.declared.cmp.Ordering.{Ordering}
+use Rattle.std.specs.declared.cmp.Ordering.TheVariants.{Less, Equal, Greater}
 use Rattle.floats.proofs.Rank.{sgn, rank, Num, lt→, →lt}
 use Rattle.floats.proofs.Bits.{rank_one, Zero, nan-bits}
 use Rattle.floats.proofs.Keys.{key-low, key-high}
@@ -187,3 +190,11 @@ module _ (a b : ℕ) (p : a < 2 ^ 64) (q : b < 2 ^ 64) where
   pub equal-of_keys : key a ≡ key b → total_cmp a b ≡ Equal
   unfolding total_cmp
   equal-of_keys h = cond_true (total_order b a) (cond (total_order a b) Equal Greater) Less (order-of_keys b a q p (omega arith)) ∙ cond_true (total_order a b) Equal Greater (order-of_keys a b p q (omega arith))
+
+  pub compared-by_keys : nat_cmp (key a) (key b) ≡ total_cmp a b
+  compared-by_keys = go (nat_cmp (key a) (key b)) (ranks (key a) (key b))
+    where
+      go : (r : Ordering) → MatchOrdering r (key a < key b) (key a ≡ key b) (key b < key a) → r ≡ total_cmp a b
+      go Less h = sym (less_of_keys h)
+      go Equal h = sym (equal-of_keys h)
+      go Greater h = sym (greater_of_keys h)

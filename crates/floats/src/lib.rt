@@ -9,5 +9,5 @@ pub mod values;
 
 pub use grid::on_grid;
 pub use patterns::{bits_of, float_of_bits};
-pub use total_order::{Ordering, float_of_key, key_of, total_cmp, total_order_key};
+pub use total_order::{float_of_key, key_of, total_cmp, total_order_key};
 pub use values::{absolute, canonical_zero, greater, is_finite, lesser};

@@ -4,13 +4,7 @@ ghost use Rattle.floats.specs.TotalOrder as TotalOrder;
 ghost use Rattle.floats.specs.Inner.TotalOrder as InnerTotalOrder;
 
 use crate::patterns::{bits_of, float_of_bits};
-
-#[derive(Clone, Copy)]
-pub enum Ordering {
-    Less,
-    Equal,
-    Greater,
-}
+use std::cmp::Ordering;
 
 // The key of a bit pattern: its position in totalOrder.
 pub fn total_order_key(bits: u64) -> u64
@@ -38,15 +32,7 @@ fn pattern_of_key(key: u64) -> u64
 pub fn total_cmp(a: u64, b: u64) -> Ordering
     ensures { result ≡ InnerTotalOrder.total_cmp a b }
 {
-    let x = total_order_key(a);
-    let y = total_order_key(b);
-    if x < y {
-        Ordering::Less
-    } else if y < x {
-        Ordering::Greater
-    } else {
-        Ordering::Equal
-    }
+    total_order_key(a).cmp(&total_order_key(b))
 }
 
 // The key of a float.

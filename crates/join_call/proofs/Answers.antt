@@ -173,33 +173,33 @@ module _ (c out : SegmentColumns) where
 
 -- ---- the whole call: what its checks returned decides
 module _ (c out : SegmentColumns) where
-  by_check : (k : (Result Unit Refusal)) → first_of (join_conditions c out) ≡ k → (join_answer c out ≡ checked Refused k (joined_of (segments c))) × (output_after c out ≡ checked (λ r. out) k (written (joined (segments c)) out))
+  by_check : (k : Result Unit Refusal) → first_of (join_conditions c out) ≡ k → (join_answer c out ≡ checked Refused k (joined_of (segments c))) × (output_after c out ≡ checked (λ r. out) k (written (joined (segments c)) out))
   unfolding join_answer output_after
-  by_check k e = (ap (λ (z : (Result Unit Refusal)). checked Refused z (joined_of (segments c))) e, ap (λ (z : (Result Unit Refusal)). checked (λ r. out) z (written (joined (segments c)) out)) e)
+  by_check k e = (ap (λ (z : Result Unit Refusal). checked Refused z (joined_of (segments c))) e, ap (λ (z : Result Unit Refusal). checked (λ r. out) z (written (joined (segments c)) out)) e)
 
   abbrev Called : JoinAnswer → SegmentColumns → Type 0
-  Called r new = (r ≡ join_answer c out) × (new ≡ output_after c out) × (first_of (segment_list_conditions c) ≡ (Ok tt) → SegmentsHeld c)
+  Called r new = (r ≡ join_answer c out) × (new ≡ output_after c out) × (first_of (segment_list_conditions c) ≡ Ok tt → SegmentsHeld c)
 
-  pub refused : (k : (Result Unit Refusal)) (r : Refusal) → k ≡ first_of (segment_list_conditions c) → k ≡ checks.Refused r → Called (Refused r) out
+  pub refused : (k : Result Unit Refusal) (r : Refusal) → k ≡ first_of (segment_list_conditions c) → k ≡ checks.Refused r → Called (Refused r) out
   unfolding join_conditions
   refused k r e f = let b = by_check (checks.Refused r) (sym (first_stop (segment_list_conditions c) _ k r e f) ∙ f) in (sym b.0, sym b.1, not_passed (first_of (segment_list_conditions c)) k r e f)
 
-  rest-is : first_of (segment_list_conditions c) ≡ (Ok tt) → (rest_answer c out ≡ join_answer c out) × (rest_output c out ≡ output_after c out)
+  rest-is : first_of (segment_list_conditions c) ≡ Ok tt → (rest_answer c out ≡ join_answer c out) × (rest_output c out ≡ output_after c out)
   unfolding join_conditions rest_answer rest_output
   rest-is p = elim (decide (short_output (length (joined (segments c))) (output_lengths out))) [
     | inl t ↦ let b = by_check (checks.Refused ShortOutput) (first_go_on (segment_list_conditions c) _ (Ok tt) (sym p) refl ∙ first_yes _ _ _ t) in (cond_true _ (Refused ShortOutput) (joined_of (segments c)) t ∙ sym b.0, cond_true _ out (written (joined (segments c)) out) t ∙ sym b.1)
     | inr f ↦ let b = by_check (Ok tt) (first_go_on (segment_list_conditions c) _ (Ok tt) (sym p) refl ∙ first_no _ _ _ f ∙ first-none) in (cond_false _ (Refused ShortOutput) (joined_of (segments c)) f ∙ sym b.0, cond_false _ out (written (joined (segments c)) out) f ∙ sym b.1)
   ]
 
-  pub passed : (r : JoinAnswer) (new : SegmentColumns) → first_of (segment_list_conditions c) ≡ (Ok tt) → SegmentsHeld c → (r ≡ rest_answer c out) × (new ≡ rest_output c out) → Called r new
+  pub passed : (r : JoinAnswer) (new : SegmentColumns) → first_of (segment_list_conditions c) ≡ Ok tt → SegmentsHeld c → (r ≡ rest_answer c out) × (new ≡ rest_output c out) → Called r new
   passed r new p h e = let q = rest-is p in (e.0 ∙ q.0, e.1 ∙ q.1, λ z. h)
 
 -- ---- what the checks leave known
-pub held_of : (c : SegmentColumns) → first_of (segment_list_conditions c) ≡ (Ok tt) → ((i : ℕ) → Binary64 (get_or c.fixed i nan)) → ((i : ℕ) → Binary64 (get_or c.start i nan)) → ((i : ℕ) → Binary64 (get_or c.end i nan)) → SegmentsHeld c
+pub held_of : (c : SegmentColumns) → first_of (segment_list_conditions c) ≡ Ok tt → ((i : ℕ) → Binary64 (get_or c.fixed i nan)) → ((i : ℕ) → Binary64 (get_or c.start i nan)) → ((i : ℕ) → Binary64 (get_or c.end i nan)) → SegmentsHeld c
 held_of c e f s t = segments-held c (segment_list_passes c e).agree f s t
 
-pub lists_of : (c : SegmentColumns) (m : ℕ) → first_of (segment_list_conditions c) ≡ (Ok tt) → SegmentsHeld c → 5 * length c.net ≤ m → Lists c m
+pub lists_of : (c : SegmentColumns) (m : ℕ) → first_of (segment_list_conditions c) ≡ Ok tt → SegmentsHeld c → 5 * length c.net ≤ m → Lists c m
 lists_of c m e h r = let p = segment_list_passes c e in record { agree = p.agree; few = p.few-segments; fit = fit-segments (segments c) h p.fit; room = r }
 
-pub passes-few : (c : SegmentColumns) → first_of (segment_list_conditions c) ≡ (Ok tt) → length c.net ≤ 4096
+pub passes-few : (c : SegmentColumns) → first_of (segment_list_conditions c) ≡ Ok tt → length c.net ≤ 4096
 passes-few c e = (segment_list_passes c e).few-segments

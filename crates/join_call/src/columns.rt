@@ -1,7 +1,7 @@
 // The joiner by columns.
 ghost use Rattle.std.specs.Prelude.{[], ◌∷◌, ◌≡◌, length, Ok};
 ghost use Rattle.drawing.specs.Refusals.{first_of};
-ghost use Rattle.drawing.specs.Entries.{segment_columns};
+ghost use Rattle.drawing.specs.Entries.{lent_segments, segment_columns};
 ghost use Rattle.drawing.specs.Conditions.{short_output};
 ghost use Rattle.drawing.specs.Checks.{segment_list_conditions};
 ghost use Rattle.drawing.specs.Held.{SegmentsHeld};
@@ -12,7 +12,7 @@ ghost use Rattle.join_call.specs.Inner.Table.{entries_from, Lists, Tabled};
 
 use crate::table::{count_pieces, order_pieces};
 use crate::write::write_pieces;
-use drawing::Refusal;
+use drawing::{Refusal, Segments};
 use joining::{JoinAnswer, short_output};
 use list_checks::check_segment_list;
 
@@ -39,25 +39,21 @@ fn lacks_room(
 // Joins segments that passed the checks, by a table that has five words for each. Nothing is written before it is known that there is room.
 fn join_by_table(
     table: &mut [u64],
-    net: &[u32],
-    orientation: &[u8],
-    fixed: &[f64],
-    start: &[f64],
-    end: &[f64],
+    segments: &Segments<'_>,
     to_net: &mut [u32],
     to_orientation: &mut [u8],
     to_fixed: &mut [f64],
     to_start: &mut [f64],
     to_end: &mut [f64],
 ) -> JoinAnswer
-    requires { Lists (segment_columns net.now orientation.now fixed.now start.now end.now) (length table.old) }
-    ensures { let lent = segment_columns net.now orientation.now fixed.now start.now end.now in
+    requires { Lists (lent_segments segments.now) (length table.old) }
+    ensures { let lent = lent_segments segments.now in
         let out = segment_columns to_net.old to_orientation.old to_fixed.old to_start.old to_end.old in
         (result ≡ rest_answer lent out)
         × (segment_columns to_net.new to_orientation.new to_fixed.new to_start.new to_end.new ≡ rest_output lent out) }
 {
-    let n = net.len();
-    order_pieces(table, net, orientation, fixed, start, end);
+    let n = segments.net.len();
+    order_pieces(table, segments);
     if lacks_room(
         table,
         n,
@@ -75,37 +71,29 @@ fn join_by_table(
 
 // SCOPE 16: the fewest pieces that cover what the segments cover, in order, are written to the columns to_net to to_end. Nothing is written where the call is refused.
 pub fn join(
-    net: &[u32],
-    orientation: &[u8],
-    fixed: &[f64],
-    start: &[f64],
-    end: &[f64],
+    segments: &Segments<'_>,
     to_net: &mut [u32],
     to_orientation: &mut [u8],
     to_fixed: &mut [f64],
     to_start: &mut [f64],
     to_end: &mut [f64],
 ) -> JoinAnswer
-    ensures { let lent = segment_columns net.now orientation.now fixed.now start.now end.now in
+    ensures { let lent = lent_segments segments.now in
         let out = segment_columns to_net.old to_orientation.old to_fixed.old to_start.old to_end.old in
         (result ≡ join_answer lent out)
         × (segment_columns to_net.new to_orientation.new to_fixed.new to_start.new to_end.new ≡ output_after lent out)
-        × (first_of (segment_list_conditions lent) ≡ (Ok tt) → SegmentsHeld lent) }
+        × (first_of (segment_list_conditions lent) ≡ Ok tt → SegmentsHeld lent) }
 {
-    let check = check_segment_list(net, orientation, fixed, start, end);
+    let check = check_segment_list(segments);
     if let Err(why) = check {
         return JoinAnswer::Refused(why);
     }
     // A short list needs no long table, whose clearing would take longer than the rest.
-    if net.len() <= 128 {
+    if segments.net.len() <= 128 {
         let mut small = [0u64; 640];
         return join_by_table(
             &mut small,
-            net,
-            orientation,
-            fixed,
-            start,
-            end,
+            segments,
             to_net,
             to_orientation,
             to_fixed,
@@ -116,11 +104,7 @@ pub fn join(
     let mut table = [0u64; 20480];
     join_by_table(
         &mut table,
-        net,
-        orientation,
-        fixed,
-        start,
-        end,
+        segments,
         to_net,
         to_orientation,
         to_fixed,

@@ -1,10 +1,11 @@
 // The pieces of n segments in a table: n indices, in order of the pieces, and behind them the pieces, four words each.
 ghost use Rattle.std.specs.Prelude.{◌≡◌, ◌+◌, ◌≤◌, ◌<◌, length};
 ghost use Rattle.std.proofs.Math.Seq.{paste};
-ghost use Rattle.drawing.specs.Entries.{segment_columns};
+ghost use Rattle.drawing.specs.Entries.{lent_segments};
 ghost use Rattle.joining.specs.Inner.Pieces.{begun, joined_pieces};
 ghost use Rattle.join_call.specs.Inner.Table.{piece_words, placed, entries_from, Lists, Gathered, Tabled, TableInOrder};
 
+use drawing::Segments;
 use joining::{Piece, next, piece_of, touches};
 use sorting::{fill_places, sort_indices};
 
@@ -19,14 +20,14 @@ fn put_row(a: &mut [u64], at: usize, p: Piece)
 }
 
 // A row for each segment.
-fn gather(a: &mut [u64], net: &[u32], orientation: &[u8], fixed: &[f64], start: &[f64], end: &[f64])
-    requires { Lists (segment_columns net.now orientation.now fixed.now start.now end.now) (length a.old) }
-    ensures { Gathered (segment_columns net.now orientation.now fixed.now start.now end.now) (length net.now) a.old a.new }
+fn gather(a: &mut [u64], segments: &Segments<'_>)
+    requires { Lists (lent_segments segments.now) (length a.old) }
+    ensures { Gathered (lent_segments segments.now) (length segments.now.net.now) a.old a.new }
 {
     let mut i = 0;
-    while i < net.len() {
-        let p = piece_of(net[i], orientation[i], fixed[i], start[i], end[i]);
-        put_row(a, net.len() + 4 * i, p);
+    while i < segments.net.len() {
+        let p = piece_of(segments.net[i], segments.orientation[i], segments.fixed[i], segments.start[i], segments.end[i]);
+        put_row(a, segments.net.len() + 4 * i, p);
         i += 1;
     }
 }
@@ -34,17 +35,13 @@ fn gather(a: &mut [u64], net: &[u32], orientation: &[u8], fixed: &[f64], start: 
 // All pieces in order.
 pub(crate) fn order_pieces(
     a: &mut [u64],
-    net: &[u32],
-    orientation: &[u8],
-    fixed: &[f64],
-    start: &[f64],
-    end: &[f64],
+    segments: &Segments<'_>,
 )
-    requires { Lists (segment_columns net.now orientation.now fixed.now start.now end.now) (length a.old) }
-    ensures { TableInOrder (segment_columns net.now orientation.now fixed.now start.now end.now) a.new }
+    requires { Lists (lent_segments segments.now) (length a.old) }
+    ensures { TableInOrder (lent_segments segments.now) a.new }
 {
-    gather(a, net, orientation, fixed, start, end);
-    let n = net.len();
+    gather(a, segments);
+    let n = segments.net.len();
     fill_places(&mut a[0..n]);
     sort_indices(a, n, n, 4);
 }

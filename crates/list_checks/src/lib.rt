@@ -4,56 +4,51 @@
 ghost use Rattle.std.specs.Prelude.{◌≡◌};
 ghost use Rattle.laws.specs.Lists.{some_of};
 ghost use Rattle.drawing.specs.Refusals.{first_of};
-ghost use Rattle.drawing.specs.Entries.{segment_columns, node_columns, exemption_columns, segments, nodes};
+ghost use Rattle.drawing.specs.Entries as Entries;
+ghost use Rattle.drawing.specs.Entries.{lent_segments, lent_nodes, lent_exemptions, exemption_columns, segments, nodes};
 ghost use Rattle.drawing.specs.Conditions as Conditions;
 ghost use Rattle.drawing.specs.Checks as Checks;
 ghost use Rattle.drawing.specs.Inner.Lengths.{SegmentsAgree, NodesAgree, compared_entry_conditions};
 
-use drawing::{Refusal, node_unfit, segment_unfit};
+use drawing::{Exemptions, Nodes, Refusal, Segments, node_unfit, segment_unfit};
 
 // SCOPE 7.2: the columns of one list differ in length.
-pub fn segments_differ(
-    net: &[u32],
-    orientation: &[u8],
-    fixed: &[f64],
-    start: &[f64],
-    end: &[f64],
-) -> bool
-    ensures { result ≡ Checks.segments_differ (segment_columns net.now orientation.now fixed.now start.now end.now) }
+pub fn segments_differ(segments: &Segments<'_>) -> bool
+    ensures { result ≡ Checks.segments_differ (lent_segments segments.now) }
 {
-    let n = net.len();
-    if n != orientation.len() {
+    let n = segments.net.len();
+    if n != segments.orientation.len() {
         return true;
     }
-    if n != fixed.len() {
+    if n != segments.fixed.len() {
         return true;
     }
-    if n != start.len() {
+    if n != segments.start.len() {
         return true;
     }
-    n != end.len()
+    n != segments.end.len()
 }
 
-fn nodes_differ(id: &[u32], x: &[f64], y: &[f64], width: &[f64], height: &[f64]) -> bool
-    ensures { result ≡ Checks.nodes_differ (node_columns id.now x.now y.now width.now height.now) }
+fn nodes_differ(nodes: &Nodes<'_>) -> bool
+    ensures { result ≡ Checks.nodes_differ (lent_nodes nodes.now) }
 {
-    let n = id.len();
-    if n != x.len() {
+    let n = nodes.id.len();
+    if n != nodes.x.len() {
         return true;
     }
-    if n != y.len() {
+    if n != nodes.y.len() {
         return true;
     }
-    if n != width.len() {
+    if n != nodes.width.len() {
         return true;
     }
-    n != height.len()
+    n != nodes.height.len()
 }
 
-fn exemptions_differ(net: &[u32], node: &[u32]) -> bool
-    ensures { result ≡ Checks.exemptions_differ (exemption_columns net.now node.now) }
+fn exemptions_differ(exemptions: &Exemptions<'_>) -> bool
+    ensures { result ≡ Checks.exemptions_differ (lent_exemptions exemptions.now) }
 {
-    net.len() != node.len()
+    exemptions.net.len() != exemptions.node.len()
 }
 
 // SCOPE 7.3: a list holds more than 4,096 entries.
@@ -78,83 +73,65 @@ pub fn short_scratch(words: usize, segments: usize, nodes: usize) -> bool
 }
 
 // SCOPE 7.5: unfit entries.
-fn segments_unfit(
-    net: &[u32],
-    orientation: &[u8],
-    fixed: &[f64],
-    start: &[f64],
-    end: &[f64],
-) -> bool
-    requires { SegmentsAgree (segment_columns net.now orientation.now fixed.now start.now end.now) }
-    ensures { result ≡ some_of Conditions.unfit_segment (segments (segment_columns net.now orientation.now fixed.now start.now end.now)) }
+fn segments_unfit(segments: &Segments<'_>) -> bool
+    requires { SegmentsAgree (lent_segments segments.now) }
+    ensures { result ≡ some_of Conditions.unfit_segment (Entries.segments (lent_segments segments.now)) }
 {
-    let mut i = 0;
-    while i < net.len() {
-        if segment_unfit(orientation[i], fixed[i], start[i], end[i]) {
+    for i in 0..segments.net.len() {
+        if segment_unfit(
+            segments.orientation[i],
+            segments.fixed[i],
+            segments.start[i],
+            segments.end[i],
+        ) {
             return true;
         }
-        i += 1;
     }
     false
 }
 
-fn nodes_unfit(id: &[u32], x: &[f64], y: &[f64], width: &[f64], height: &[f64]) -> bool
-    requires { NodesAgree (node_columns id.now x.now y.now width.now height.now) }
-    ensures { result ≡ some_of Conditions.unfit_node (nodes (node_columns id.now x.now y.now width.now height.now)) }
+fn nodes_unfit(nodes: &Nodes<'_>) -> bool
+    requires { NodesAgree (lent_nodes nodes.now) }
+    ensures { result ≡ some_of Conditions.unfit_node (Entries.nodes (lent_nodes nodes.now)) }
 {
-    let mut at = 0;
-    while at < id.len() {
-        if node_unfit(x[at], y[at], width[at], height[at]) {
+    for i in 0..nodes.id.len() {
+        if node_unfit(nodes.x[i], nodes.y[i], nodes.width[i], nodes.height[i]) {
             return true;
         }
-        at += 1;
     }
     false
 }
 
 // The checks 2, 3, 4 and 5 of segments and the number of words of the scratch.
-pub fn check_segments(
-    net: &[u32],
-    orientation: &[u8],
-    fixed: &[f64],
-    start: &[f64],
-    end: &[f64],
-    words: usize,
-) -> Result<(), Refusal>
-    ensures { result ≡ first_of (Checks.segment_conditions (segment_columns net.now orientation.now fixed.now start.now end.now) words) }
+pub fn check_segments(segments: &Segments<'_>, words: usize) -> Result<(), Refusal>
+    ensures { result ≡ first_of (Checks.segment_conditions (lent_segments segments.now) words) }
 {
-    if segments_differ(net, orientation, fixed, start, end) {
+    if segments_differ(segments) {
         return Err(Refusal::ColumnsDiffer);
     }
-    if too_many(net.len()) {
+    if too_many(segments.net.len()) {
         return Err(Refusal::TooManyEntries);
     }
-    if short_scratch(words, net.len(), 0) {
+    if short_scratch(words, segments.net.len(), 0) {
         return Err(Refusal::ShortScratch);
     }
-    if segments_unfit(net, orientation, fixed, start, end) {
+    if segments_unfit(segments) {
         return Err(Refusal::InvalidInput);
     }
     Ok(())
 }
 
 // The checks 2, 3 and 5 of segments, for a call without scratch.
-pub fn check_segment_list(
-    net: &[u32],
-    orientation: &[u8],
-    fixed: &[f64],
-    start: &[f64],
-    end: &[f64],
-) -> Result<(), Refusal>
-    ensures { result ≡ first_of (Checks.segment_list_conditions (segment_columns net.now orientation.now fixed.now start.now end.now)) }
+pub fn check_segment_list(segments: &Segments<'_>) -> Result<(), Refusal>
+    ensures { result ≡ first_of (Checks.segment_list_conditions (lent_segments segments.now)) }
 {
-    if segments_differ(net, orientation, fixed, start, end) {
+    if segments_differ(segments) {
         return Err(Refusal::ColumnsDiffer);
     }
-    if too_many(net.len()) {
+    if too_many(segments.net.len()) {
         return Err(Refusal::TooManyEntries);
     }
-    if segments_unfit(net, orientation, fixed, start, end) {
+    if segments_unfit(segments) {
         return Err(Refusal::InvalidInput);
     }
     Ok(())
@@ -162,67 +139,47 @@ pub fn check_segment_list(
 
 // The checks 2 and 3 of segments, nodes and exemptions.
 pub fn check_lists(
-    net: &[u32],
-    orientation: &[u8],
-    fixed: &[f64],
-    start: &[f64],
-    end: &[f64],
-    id: &[u32],
-    x: &[f64],
-    y: &[f64],
-    width: &[f64],
-    height: &[f64],
-    exempt_net: &[u32],
-    exempt_node: &[u32],
+    segments: &Segments<'_>,
+    nodes: &Nodes<'_>,
+    exemptions: &Exemptions<'_>,
 ) -> Result<(), Refusal>
-    ensures { result ≡ first_of (Checks.list_conditions (segment_columns net.now orientation.now fixed.now start.now end.now) (node_columns id.now x.now y.now width.now height.now) (exemption_columns exempt_net.now exempt_node.now)) }
+    ensures { result ≡ first_of (Checks.list_conditions (lent_segments segments.now) (lent_nodes nodes.now) (lent_exemptions exemptions.now)) }
 {
-    if segments_differ(net, orientation, fixed, start, end) {
+    if segments_differ(segments) {
         return Err(Refusal::ColumnsDiffer);
     }
-    if nodes_differ(id, x, y, width, height) {
+    if nodes_differ(nodes) {
         return Err(Refusal::ColumnsDiffer);
     }
-    if exemptions_differ(exempt_net, exempt_node) {
+    if exemptions_differ(exemptions) {
         return Err(Refusal::ColumnsDiffer);
     }
-    if too_many(net.len()) {
+    if too_many(segments.net.len()) {
         return Err(Refusal::TooManyEntries);
     }
-    if too_many(id.len()) {
+    if too_many(nodes.id.len()) {
         return Err(Refusal::TooManyEntries);
     }
-    if too_many(exempt_net.len()) {
+    if too_many(exemptions.net.len()) {
         return Err(Refusal::TooManyEntries);
     }
     Ok(())
 }
 
 // The check 5 of segments and nodes. Columns of one list that differ in length are refused first, with 2, so that it may be called with any columns.
-pub fn check_entries(
-    net: &[u32],
-    orientation: &[u8],
-    fixed: &[f64],
-    start: &[f64],
-    end: &[f64],
-    id: &[u32],
-    x: &[f64],
-    y: &[f64],
-    width: &[f64],
-    height: &[f64],
-) -> Result<(), Refusal>
-    ensures { result ≡ first_of (compared_entry_conditions (segment_columns net.now orientation.now fixed.now start.now end.now) (node_columns id.now x.now y.now width.now height.now)) }
+pub fn check_entries(segments: &Segments<'_>, nodes: &Nodes<'_>) -> Result<(), Refusal>
+    ensures { result ≡ first_of (compared_entry_conditions (lent_segments segments.now) (lent_nodes nodes.now)) }
 {
-    if segments_differ(net, orientation, fixed, start, end) {
+    if segments_differ(segments) {
         return Err(Refusal::ColumnsDiffer);
     }
-    if nodes_differ(id, x, y, width, height) {
+    if nodes_differ(nodes) {
         return Err(Refusal::ColumnsDiffer);
     }
-    if segments_unfit(net, orientation, fixed, start, end) {
+    if segments_unfit(segments) {
         return Err(Refusal::InvalidInput);
     }
-    if nodes_unfit(id, x, y, width, height) {
+    if nodes_unfit(nodes) {
         return Err(Refusal::InvalidInput);
     }
     Ok(())

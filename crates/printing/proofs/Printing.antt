@@ -22,15 +22,15 @@ use Rattle.text.specs.Inner.TextPut.{Put}
 use Rattle.text.proofs.TextPuts.{put_same}
 
 -- the two answers of the reader differ
-abbrev IsRead : (Result Header Refusal) → Type 0
+abbrev IsRead : Result Header Refusal → Type 0
 IsRead (answers.Read h) = Unit {0}
 IsRead (answers.Refused r) = ⊥
 
-abbrev header_from : Header → (Result Header Refusal) → Header
+abbrev header_from : Header → Result Header Refusal → Header
 header_from other (answers.Read h) = h
 header_from other (answers.Refused r) = other
 
-abbrev refusal_from : Refusal → (Result Header Refusal) → Refusal
+abbrev refusal_from : Refusal → Result Header Refusal → Refusal
 refusal_from other (answers.Read h) = other
 refusal_from other (answers.Refused r) = r
 
@@ -141,7 +141,7 @@ pub three : {a b c d e f : List ℕ} → a ≡ d → b ≡ e → c ≡ f → a +
 three {a} {b} {c} {d} {e} {f} p q r = ap (λ l. l ++ (b ++ c)) p ∙ ap (λ l. d ++ (l ++ c)) q ∙ ap (λ l. d ++ (e ++ l)) r
 
 -- the lines of three answers, each of a call with the program's scratch, are the lines of the columns
-pub lines-put : (s : SegmentColumns) (n : NodeColumns) (e : ExemptionColumns) (h : Header) (x : (Result EdgeNodeClearance Refusal)) (y : (Result ParallelSeparation Refusal)) (z : (Result CongestionReport Refusal)) (i j k : ℕ) {before after : List ℕ} {next : ℕ}
+pub lines-put : (s : SegmentColumns) (n : NodeColumns) (e : ExemptionColumns) (h : Header) (x : Result EdgeNodeClearance Refusal) (y : Result ParallelSeparation Refusal) (z : Result CongestionReport Refusal) (i j k : ℕ) {before after : List ℕ} {next : ℕ}
     → 7744 ≡ i → x ≡ clearance_answer s n e h.threshold h.clearance i
     → 7744 ≡ j → y ≡ separation_answer s h.separation j
     → 7744 ≡ k → z ≡ density_answer s h.cutoff h.congestion k

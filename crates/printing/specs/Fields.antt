@@ -6,7 +6,7 @@ use Rattle.text.specs.Text.{float_text}
 unfoldable pub none_text : List ℕ
 none_text = 110 ∷ 111 ∷ 110 ∷ 101 ∷ []
 
-unfoldable pub gap_text : (Option Float) → List ℕ
+unfoldable pub gap_text : Option Float → List ℕ
 gap_text None = none_text
 gap_text (Some x) = float_text x
 

@@ -34,17 +34,17 @@ unfoldable pub refusal : List ℕ → Refusal → List ℕ
 refusal name r = name ++ fields (refused_label ∷ decimal (number_of r) ∷ [])
 
 -- SCOPE 11.2: "least, violations, visits"
-unfoldable pub clearance_line : (Result EdgeNodeClearance Refusal) → List ℕ
+unfoldable pub clearance_line : Result EdgeNodeClearance Refusal → List ℕ
 clearance_line (ofClearance.Report r) = clearance_label ++ fields (gap_text r.minimum_clearance ∷ decimal r.violations ∷ decimal r.visits ∷ [])
 clearance_line (ofClearance.Refused r) = refusal clearance_label r
 
 -- SCOPE 11.2: "least, least nonzero, visits"
-unfoldable pub separation_line : (Result ParallelSeparation Refusal) → List ℕ
+unfoldable pub separation_line : Result ParallelSeparation Refusal → List ℕ
 separation_line (ofSeparation.Report r) = separation_label ++ fields (gap_text r.minimum ∷ gap_text r.minimum_positive ∷ decimal r.visits ∷ [])
 separation_line (ofSeparation.Refused r) = refusal separation_label r
 
 -- SCOPE 11.2: "total, congested, pair overlap, peak, least nonzero close gap, visits"
-unfoldable pub congestion_line : (Result CongestionReport Refusal) → List ℕ
+unfoldable pub congestion_line : Result CongestionReport Refusal → List ℕ
 congestion_line (of_congestion.Report r) =
     let c = r.congestion in
     congestion_label ++ fields (float_text c.total_length ∷ float_text c.congested_length ∷ float_text c.pair_overlap_length ∷ decimal c.peak_close_neighbors ∷ gap_text r.minimum_positive ∷ decimal r.visits ∷ [])

@@ -1,10 +1,11 @@
 // The sheet of a drawing file: from the file's bytes to the bytes of the text. SCOPE 11.1.
 ghost use Rattle.std.specs.Prelude.{◌≡◌, ◌++◌, length, drop};
-ghost use Rattle.drawing.specs.Entries.{segment_columns, node_columns, exemption_columns};
+ghost use Rattle.drawing.specs.Entries.{lent_segments, lent_nodes, lent_exemptions};
 ghost use Rattle.file.specs.Inner.Columns.{settings_of};
 ghost use Rattle.text.specs.Inner.TextPut.{Put};
 ghost use Rattle.printing.specs.Sheet.{lines_of_columns, sheet};
 
+use drawing::{Segments, Nodes, Exemptions};
 use crate::lines::{file_refused, three_lines};
 use clearance_call::measure_edge_node_clearance_bounded;
 use density_call::measure_parallel_density_profile_bounded;
@@ -13,56 +14,30 @@ use separation_call::measure_parallel_separation_bounded;
 
 // The three lines of a drawing that was read.
 fn put_lines(
-    net: &[u32],
-    orientation: &[u8],
-    fixed: &[f64],
-    start: &[f64],
-    end: &[f64],
-    id: &[u32],
-    x: &[f64],
-    y: &[f64],
-    width: &[f64],
-    height: &[f64],
-    exempt_net: &[u32],
-    exempt_node: &[u32],
+    segments: &Segments<'_>,
+    nodes: &Nodes<'_>,
+    exemptions: &Exemptions<'_>,
     header: Header,
     text: &mut [u8],
 ) -> usize
-    ensures { Put 256 text.old 0 (lines_of_columns (segment_columns net.now orientation.now fixed.now start.now end.now) (node_columns id.now x.now y.now width.now height.now) (exemption_columns exempt_net.now exempt_node.now) (settings_of header)) text.new result }
+    ensures { Put 256 text.old 0 (lines_of_columns (lent_segments segments.now) (lent_nodes nodes.now) (lent_exemptions exemptions.now) (settings_of header)) text.new result }
 {
     let mut scratch = [0u64; 7744];
     let clearance = measure_edge_node_clearance_bounded(
-        net,
-        orientation,
-        fixed,
-        start,
-        end,
-        id,
-        x,
-        y,
-        width,
-        height,
-        exempt_net,
-        exempt_node,
+        segments,
+        nodes,
+        exemptions,
         header.threshold,
         header.clearance,
         &mut scratch,
     );
     let separation = measure_parallel_separation_bounded(
-        net,
-        orientation,
-        fixed,
-        start,
-        end,
+        segments,
         header.separation,
         &mut scratch,
     );
     let congestion = measure_parallel_density_profile_bounded(
-        net,
-        orientation,
-        fixed,
-        start,
-        end,
+        segments,
         header.cutoff,
         header.congestion,
         &mut scratch,

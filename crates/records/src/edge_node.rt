@@ -84,7 +84,7 @@ pub fn measure_edge_node_clearance_bounded_by_records(
         let refusal = first_of (clearance_conditions lent_segments lent_nodes lent_exemptions threshold words) in
         (result ≡ clearance_answer lent_segments lent_nodes lent_exemptions threshold allowance words)
         × (scratch.new ≡ scratch_after refusal scratch.old)
-        × (refusal ≡ (Ok tt) → SegmentsHeld lent_segments × NodesHeld lent_nodes × Binary64 threshold) }
+        × (refusal ≡ Ok tt → SegmentsHeld lent_segments × NodesHeld lent_nodes × Binary64 threshold) }
 {
     let n = records.len();
     let lines = edge_node_lines(records);

@@ -76,7 +76,7 @@ pub fn measure_parallel_separation_bounded_by_records(
         let refusal = first_of (separation_conditions lent words) in
         (result ≡ separation_answer lent allowance words)
         × (scratch.new ≡ scratch_after refusal scratch.old)
-        × (refusal ≡ (Ok tt) → SegmentsHeld lent) }
+        × (refusal ≡ Ok tt → SegmentsHeld lent) }
 {
     let n = records.len();
     let lines = parallel_lines(records);
@@ -94,7 +94,7 @@ pub fn measure_parallel_density_profile_bounded_by_records(
         let refusal = first_of (congestion_conditions lent cutoff words) in
         (result ≡ density_answer lent cutoff allowance words)
         × (scratch.new ≡ scratch_after refusal scratch.old)
-        × (refusal ≡ (Ok tt) → SegmentsHeld lent × Binary64 cutoff) }
+        × (refusal ≡ Ok tt → SegmentsHeld lent × Binary64 cutoff) }
 {
     let n = records.len();
     let lines = parallel_lines(records);
@@ -112,7 +112,7 @@ pub fn measure_parallel_congestion_profile_bounded_by_records(
         let refusal = first_of (congestion_conditions lent cutoff words) in
         (result ≡ profile_answer lent cutoff allowance words)
         × (scratch.new ≡ scratch_after refusal scratch.old)
-        × (refusal ≡ (Ok tt) → SegmentsHeld lent × Binary64 cutoff) }
+        × (refusal ≡ Ok tt → SegmentsHeld lent × Binary64 cutoff) }
 {
     let n = records.len();
     let lines = parallel_lines(records);
@@ -129,7 +129,7 @@ pub fn measure_parallel_congestion_by_records(
         let refusal = first_of (congestion_conditions lent cutoff words) in
         (result ≡ congestion_answer lent cutoff words)
         × (scratch.new ≡ scratch_after refusal scratch.old)
-        × (refusal ≡ (Ok tt) → SegmentsHeld lent × Binary64 cutoff) }
+        × (refusal ≡ Ok tt → SegmentsHeld lent × Binary64 cutoff) }
 {
     let n = records.len();
     let lines = parallel_lines(records);

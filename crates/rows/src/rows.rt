@@ -3,12 +3,12 @@ ghost use Rattle.std.specs.Prelude.{◌≡◌, ◌+◌, ◌*◌, ◌≤◌, ◌<
 ghost use Rattle.std.proofs.Math.Seq.{paste};
 ghost use Rattle.floats.specs.TotalOrder.{key_of};
 ghost use Rattle.floats.specs.Values.{canonical_zero};
-ghost use Rattle.drawing.specs.Entries.{segment_columns, ends_in_order, as_taken};
+ghost use Rattle.drawing.specs.Entries.{lent_segments, ends_in_order, as_taken};
 ghost use Rattle.rows.specs.Rows.{words};
 ghost use Rattle.rows.specs.Inner.Placed.{row_count, rows_placed, row_column, rows_spread};
 ghost use Rattle.rows.specs.Inner.Tables.{Orderable, Spreadable, RowAdded, Gathered};
 
-use drawing::ends_in_order;
+use drawing::{Segments, ends_in_order};
 use floats::{canonical_zero, key_of};
 use list_checks::segments_differ;
 use sorting::{fill_places, rows_fit, sort_indices};
@@ -55,57 +55,49 @@ fn add_row(
 fn gather_rows(
     p: &mut [u64],
     wanted: u8,
-    net: &[u32],
-    orientation: &[u8],
-    fixed: &[f64],
-    start: &[f64],
-    end: &[f64],
+    segments: &Segments<'_>,
 ) -> usize
-    requires { Orderable (segment_columns net.now orientation.now fixed.now start.now end.now) (length p.old) }
-    ensures { Gathered (length net.now) wanted (segment_columns net.now orientation.now fixed.now start.now end.now) p.old p.new result }
+    requires { Orderable (lent_segments segments.now) (length p.old) }
+    ensures { Gathered (length segments.now.net.now) wanted (lent_segments segments.now) p.old p.new result }
 {
-    let t = net.len();
+    let t = segments.net.len();
     let mut n = 0;
     let mut i = 0;
-    while i < net.len() {
+    while i < segments.net.len() {
         n = add_row(
             p,
             t,
             n,
             wanted,
-            net[i],
-            orientation[i],
-            fixed[i],
-            start[i],
-            end[i],
+            segments.net[i],
+            segments.orientation[i],
+            segments.fixed[i],
+            segments.start[i],
+            segments.end[i],
         );
         i += 1;
     }
     n
 }
 
-// The indices of these rows in sorted order, in the first words of p, and from word net.len() on the rows themselves. Returns how many there are. Where the columns differ in length or p is too short, it returns 0 and p is left as it is.
+// The indices of these rows in sorted order, in the first words of p, and from word segments.net.len() on the rows themselves. Returns how many there are. Where the columns differ in length or p is too short, it returns 0 and p is left as it is.
 pub fn order_rows(
     p: &mut [u64],
     wanted: u8,
-    net: &[u32],
-    orientation: &[u8],
-    fixed: &[f64],
-    start: &[f64],
-    end: &[f64],
+    segments: &Segments<'_>,
 ) -> usize
-    ensures value { result ≡ row_count wanted (segment_columns net.now orientation.now fixed.now start.now end.now) (length p.old) }
-    ensures p_after { p.new ≡ rows_placed wanted (segment_columns net.now orientation.now fixed.now start.now end.now) p.old }
+    ensures value { result ≡ row_count wanted (lent_segments segments.now) (length p.old) }
+    ensures p_after { p.new ≡ rows_placed wanted (lent_segments segments.now) p.old }
 {
-    if segments_differ(net, orientation, fixed, start, end) {
+    if segments_differ(segments) {
         return 0;
     }
-    if p.len() / 5 < net.len() {
+    if p.len() / 5 < segments.net.len() {
         return 0;
     }
-    let n = gather_rows(p, wanted, net, orientation, fixed, start, end);
+    let n = gather_rows(p, wanted, segments);
     fill_places(&mut p[0..n]);
-    sort_indices(p, n, net.len(), 4);
+    sort_indices(p, n, segments.net.len(), 4);
     n
 }
 

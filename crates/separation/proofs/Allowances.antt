@@ -1,8 +1,8 @@
 -- Searches, `set` and the steps of the sweep within an allowance, node by node: the outcomes of code that pays for each visit. Assumes nothing.
+use Rattle.std.specs.Prelude.{Option, None, Some}
 use mathlib.Core.Path.{◌≡◌, refl, ◌∙◌}
 use mathlib.Core.Bool.{Bool, true, false}
 use mathlib.Core.List.{List, [], ◌∷◌}
-use mathlib.Core.Option.{Option, none, some}
 use Prim.Native.Nat.{ℕ, zero, suc, ◌≤◌, ◌<◌}
 use native.Mathlib.Omega.{arith}
 use lib.ListN.{length}
@@ -22,29 +22,29 @@ pub answer-spent : search_of spent ≡ Spent
 unfolding search_of
 answer-spent = refl
 
-pub answer-found : (i m : ℕ) → search_of (left (some i) m) ≡ Found i m
+pub answer-found : (i m : ℕ) → search_of (left (Some i) m) ≡ Found i m
 unfolding search_of
 answer-found i m = refl
 
-pub answer-empty : (m : ℕ) → search_of (left none m) ≡ Empty m
+pub answer-empty : (m : ℕ) → search_of (left None m) ≡ Empty m
 unfolding search_of
 answer-empty m = refl
 
 -- ---- a leaf and a node, with no visit left and with at least one
 pub leaf-spent : (t : Bool) (s : ℕ) → within 0 (search_leaf t s) ≡ spent
-leaf-spent true s = visit-spent (free (some s))
-leaf-spent false s = visit-spent (free none)
+leaf-spent true s = visit-spent (free (Some s))
+leaf-spent false s = visit-spent (free None)
 
-pub leaf-found : (m s : ℕ) → within (suc m) (search_leaf true s) ≡ left (some s) m
-leaf-found m s = visit-paid m (free (some s)) ∙ within-free m (some s)
+pub leaf-found : (m s : ℕ) → within (suc m) (search_leaf true s) ≡ left (Some s) m
+leaf-found m s = visit-paid m (free (Some s)) ∙ within-free m (Some s)
 
-pub empty-paid : (m : ℕ) → within {A = Option ℕ} (suc m) (visit (free none)) ≡ left none m
-empty-paid m = visit-paid m (free none) ∙ within-free m none
+pub empty-paid : (m : ℕ) → within {A = Option ℕ} (suc m) (visit (free None)) ≡ left None m
+empty-paid m = visit-paid m (free None) ∙ within-free m None
 
 module _ (one two : Charged (Option ℕ)) where
   pub node-spent : (t : Bool) → within 0 (search_node t one two) ≡ spent
   node-spent true = visit-spent (after one (λ r. or_else r two))
-  node-spent false = visit-spent (free none)
+  node-spent false = visit-spent (free None)
 
   -- the first child's search, and what its answer leads to
   node-on : (m : ℕ) → within (suc m) (search_node true one two) ≡ onward (within m one) (λ v r. within r (or_else v two))
@@ -53,11 +53,11 @@ module _ (one two : Charged (Option ℕ)) where
   pub first-spent : (m : ℕ) → within m one ≡ spent → within (suc m) (search_node true one two) ≡ spent
   first-spent m e = node-on m ∙ rw e (onward-spent (λ v r. within r (or_else v two)))
 
-  pub first_found : (m i r : ℕ) → within m one ≡ left (some i) r → within (suc m) (search_node true one two) ≡ left (some i) r
-  first_found m i r e = node-on m ∙ rw e (onward-left (some i) r (λ v r. within r (or_else v two)) ∙ within-free r (some i))
+  pub first_found : (m i r : ℕ) → within m one ≡ left (Some i) r → within (suc m) (search_node true one two) ≡ left (Some i) r
+  first_found m i r e = node-on m ∙ rw e (onward-left (Some i) r (λ v r. within r (or_else v two)) ∙ within-free r (Some i))
 
-  pub first-empty : (m r : ℕ) → within m one ≡ left none r → within (suc m) (search_node true one two) ≡ within r two
-  first-empty m r e = node-on m ∙ rw e (onward-left none r (λ v r. within r (or_else v two)))
+  pub first-empty : (m r : ℕ) → within m one ≡ left None r → within (suc m) (search_node true one two) ≡ within r two
+  first-empty m r e = node-on m ∙ rw e (onward-left None r (λ v r. within r (or_else v two)))
 
 -- ---- `set`: the nodes from a leaf up, h of them above it
 pub set-spent : (h : ℕ) → within 0 (set_run h) ≡ spent

@@ -18,7 +18,7 @@ use Rattle.separation.proofs.Fit.{Fit, fit_all}
 use Rattle.separation.proofs.AnyOrder.{walk-all-pairs}
 
 -- ---- a call that meets no earlier refusal
-module _ (s : SegmentColumns) (words : ℕ) (passed : first_of (separation_conditions s words) ≡ (Ok tt)) where
+module _ (s : SegmentColumns) (words : ℕ) (passed : first_of (separation_conditions s words) ≡ Ok tt) where
   answer-is : (m : ℕ) → separation_answer s m words ≡ settle accepted (Err WorkLimitExceeded) m (all_pairs (segments s))
   unfolding separation_answer
   answer-is m = rw passed

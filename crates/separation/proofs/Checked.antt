@@ -8,7 +8,7 @@ use Rattle.drawing.proofs.FirstRefusal.{SegmentsPass, segments_pass}
 use Rattle.drawing.proofs.AnyOrder.{SameSegments, segments-order}
 use Rattle.separation.specs.Conditions.{separation_conditions}
 
-pub separation-passes : (s : SegmentColumns) (words : ℕ) → first_of (separation_conditions s words) ≡ (Ok tt) → SegmentsPass s words
+pub separation-passes : (s : SegmentColumns) (words : ℕ) → first_of (separation_conditions s words) ≡ Ok tt → SegmentsPass s words
 unfolding separation_conditions
 separation-passes s words e = segments_pass s words e
 

@@ -17,7 +17,7 @@ use Rattle.floats.specs.TotalOrder.{key, key_of, pattern_at, float_at}
 use Rattle.drawing.specs.declared.refusal.Refusal.TheVariants.{WorkLimitExceeded}
 use Rattle.drawing.specs.Entries.{SegmentColumns, segment_columns, segments_of, segments}
 use Rattle.drawing.specs.Orders.{segment_row, segments_in_order}
-use Rattle.drawing.specs.Gaps.{gap_from, least_gap, lesser_gap}
+use Rattle.drawing.specs.Gaps.{least_gap, lesser_gap}
 use Rattle.drawing.specs.Refusals.{number_of, first_of}
 use Rattle.drawing.specs.Conditions.{differ, too_many, short_scratch, unfit_fields, unfit_segment}
 use Rattle.drawing.specs.Checks.{segments_differ, segment_conditions}
@@ -67,7 +67,7 @@ far = two 1 2 (0x7fef_ffff_ffff_ffff, 0, 0x4024_0000_0000_0000) (0xffef_ffff_fff
 abbrev drawn : ℕ → (ℕ × ℕ) → (ℕ × ℕ) → SegmentColumns
 drawn o a b = segment_columns (1 ∷ 2 ∷ []) (o ∷ o ∷ []) (float 0 ∷ float 0x4010_0000_0000_0000 ∷ []) (float a.0 ∷ float b.0 ∷ []) (float a.1 ∷ float b.1 ∷ [])
 
-abbrev four : (Option Float)
+abbrev four : Option Float
 four = Some (float 0x4010_0000_0000_0000)
 
 -- D's figures with 16 visits, and 7 with 15
@@ -103,5 +103,5 @@ pub record Marked : Type 0 where
   pub short : result_of (separation_answer D 16 127) ≡ (4, record { minimum = None; minimum_positive = None; visits = 0 })
 
 pub marked : Marked
-unfolding of_bits of_fields to_bits round units odd size span climb neg sum add sub lt eq count_trailing_zeros some_of chosen pairs row_le insert_by sort_by lesser least runs settle canonical_zero lesser_of greater_of abs_of gap_of key key_of pattern_at float_at segments segments_of segment_row segments_in_order gap_from least_gap lesser_gap number_of first_of differ too_many short_scratch unfit_fields unfit_segment segments_differ segment_conditions separation_conditions fixed_of start_of end_of overlapping is_counted gap_between gaps nonzero least_of figures row_of words oriented distinct lines index levels moment events_from events other_in rightmost leftmost set_run lesser_figures same remove with_nearest starts_at ends_at step sweep along walk_all visit_count all_pairs separation_answer result_of
+unfolding of_bits of_fields to_bits round units odd size span climb neg sum add sub lt eq count_trailing_zeros some_of chosen pairs row_le insert_by sort_by lesser least runs settle canonical_zero lesser_of greater_of abs_of gap_of key key_of pattern_at float_at segments segments_of segment_row segments_in_order least_gap lesser_gap number_of first_of differ too_many short_scratch unfit_fields unfit_segment segments_differ segment_conditions separation_conditions fixed_of start_of end_of overlapping is_counted gap_between gaps nonzero least_of figures row_of words oriented distinct lines index levels moment events_from events other_in rightmost leftmost set_run lesser_figures same remove with_nearest starts_at ends_at step sweep along walk_all visit_count all_pairs separation_answer result_of
 marked = record { a = refl; b-accepted = refl; b-refused = refl; d-sheet = refl; d = refl; e = refl; e-zeros = refl; f = refl; overflow = refl; net_2_reversed = (refl, refl); reversed = (refl, refl); upright_reversed = (refl, refl); both_ways = refl; reversed_off_the_grid = refl; short = refl }

@@ -1,9 +1,9 @@
 -- What a start meets among the active segments: its own line and the nearest line on either side, where another net is active. Assumes nothing.
+use Rattle.std.specs.Prelude.{Option, None, Some}
 use mathlib.Core.Path.{◌≡◌, refl, sym, ap, subst}
 use mathlib.Core.Logic.{inl, inr}
 use mathlib.Core.List.{List, [], ◌∷◌, ◌++◌}
 use mathlib.Core.Bool.{Bool, true, false}
-use mathlib.Core.Option.{Option, none, some}
 use Prim.Native.Nat.{ℕ, suc, ◌+◌, ◌^◌, ◌≤◌, ◌<◌, min, max, zero-le}
 use native.Mathlib.Nat.{le_refl, eq-or-lt_of_le, le_antisymm}
 use native.Mathlib.Omega.{arith}
@@ -23,8 +23,8 @@ own true p = (p, p) ∷ []
 own false p = []
 
 abbrev pub sight : List ℕ → Option ℕ → ℕ → List (ℕ × ℕ)
-sight ls none p = []
-sight ls (some i) p = (get_or ls i 0, p) ∷ []
+sight ls None p = []
+sight ls (Some i) p = (get_or ls i 0, p) ∷ []
 
 -- what `has_other_at` and the two searches find when x starts
 abbrev pub own_other : List ℕ → List Row → Row → Bool
@@ -58,8 +58,8 @@ pub record Met (active : List Row) (x : Row) (c : ℕ × ℕ) : Type 0 where
 
 -- a search's answer: the line of such a segment, and not x's own
 abbrev pub Sees : List ℕ → List Row → Row → Option ℕ → Type 0
-Sees ls active x none = Unit {0}
-Sees ls active x (some i) = Met active x (get_or ls i 0, x.line) × (get_or ls i 0 ≡ x.line → ⊥)
+Sees ls active x None = Unit {0}
+Sees ls active x (Some i) = Met active x (get_or ls i 0, x.line) × (get_or ls i 0 ≡ x.line → ⊥)
 
 module _ (ls : List ℕ) (h : ℕ) (rising : Rising ls) (room : length ls ≤ 2 ^ h) (active : List Row) (x : Row) (lined : (a : Row) → Mem a active → Mem a.line ls) (mine : Mem x.line ls) where
   -- an active segment of another net on the line with index i
@@ -111,14 +111,14 @@ module _ (ls : List ℕ) (h : ℕ) (rising : Rising ls) (room : length ls ≤ 2 
     ])
   ]
 
-  below-line : (i : ℕ) → Right (some i) → get_or ls i 0 < x.line
+  below-line : (i : ℕ) → Right (Some i) → get_or ls i 0 < x.line
   below-line i r =
       let o = on i r.1.1 in
       let v = on_value i o in
       let g = lower o.row.line x.line mine (omega (arith, o.place, r.1.0)) in
       omega arith
 
-  above-line : (i : ℕ) → Left (some i) → x.line < get_or ls i 0
+  above-line : (i : ℕ) → Left (Some i) → x.line < get_or ls i 0
   above-line i r =
       let o = on i r.1.1 in
       let v = on_value i o in
@@ -127,12 +127,12 @@ module _ (ls : List ℕ) (h : ℕ) (rising : Rising ls) (room : length ls ≤ 2 
 
   -- ---- every line met is that of an active segment of another net
   right_sees : (v : Option ℕ) → Right v → Sees ls active x v
-  right_sees none r = tt
-  right_sees (some i) r = (on-met i (on i r.1.1), λ e. omega (arith, below-line i r))
+  right_sees None r = tt
+  right_sees (Some i) r = (on-met i (on i r.1.1), λ e. omega (arith, below-line i r))
 
   left_sees : (v : Option ℕ) → Left v → Sees ls active x v
-  left_sees none r = tt
-  left_sees (some i) r = (on-met i (on i r.1.1), λ e. omega (arith, above-line i r))
+  left_sees None r = tt
+  left_sees (Some i) r = (on-met i (on i r.1.1), λ e. omega (arith, above-line i r))
 
   pub below_sees : Sees ls active x (below ls h active x)
   below_sees = right_sees (below ls h active x) right_is
@@ -141,9 +141,9 @@ module _ (ls : List ℕ) (h : ℕ) (rising : Rising ls) (room : length ls ≤ 2 
   above_sees = left_sees (above ls h active x) left_is
 
   sight_met : (v : Option ℕ) → Sees ls active x v → (c : ℕ × ℕ) → Mem c (sight ls v x.line) → Met active x c
-  sight_met none r c m = absurd m
-  sight_met (some i) r c (inl e) = subst (Met active x) (sym e) r.0
-  sight_met (some i) r c (inr m) = absurd m
+  sight_met None r c m = absurd m
+  sight_met (Some i) r c (inl e) = subst (Met active x) (sym e) r.0
+  sight_met (Some i) r c (inr m) = absurd m
 
   own-met : (b : Bool) → own_other ls active x ≡ b → (c : ℕ × ℕ) → Mem c (own b x.line) → Met active x c
   own-met false e c m = absurd m
@@ -174,8 +174,8 @@ module _ (ls : List ℕ) (h : ℕ) (rising : Rising ls) (room : length ls ≤ 2 
   seen_after a l r s = (s.0, append_right s.0 l r s.1, s.2)
 
   right_seen : (v : Option ℕ) → Right v → (a : Row) → Mem a active → (a.net ≡ x.net → ⊥) → a.line < x.line → Seen a (sight ls v x.line)
-  right_seen none r a m n l = absurd (r (index ls a.line) (inside a m) (index_strict ls a.line x.line rising (lined a m) l, off a m n))
-  right_seen (some i) r a m n l =
+  right_seen None r a m n l = absurd (r (index ls a.line) (inside a m) (index_strict ls a.line x.line rising (lined a m) l, off a m n))
+  right_seen (Some i) r a m n l =
       let o = on i r.1.1 in
       let v = on_value i o in
       let p = below-line i r in
@@ -184,8 +184,8 @@ module _ (ls : List ℕ) (h : ℕ) (rising : Rising ls) (room : length ls ≤ 2 
       ((get_or ls i 0, x.line), inl refl, record { low = omega arith; high = omega arith; level = λ z. absurd (omega arith) })
 
   left_seen : (v : Option ℕ) → Left v → (a : Row) → Mem a active → (a.net ≡ x.net → ⊥) → x.line < a.line → Seen a (sight ls v x.line)
-  left_seen none r a m n l = absurd (r (index ls a.line) (inside a m) (index_strict ls x.line a.line rising mine l, off a m n))
-  left_seen (some i) r a m n l =
+  left_seen None r a m n l = absurd (r (index ls a.line) (inside a m) (index_strict ls x.line a.line rising mine l, off a m n))
+  left_seen (Some i) r a m n l =
       let o = on i r.1.1 in
       let v = on_value i o in
       let p = above-line i r in

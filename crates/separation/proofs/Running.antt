@@ -1,10 +1,9 @@
 -- The figures that the sweep keeps from event to event are those of the gaps of all that it compares. Assumes nothing.
-use Rattle.std.specs.Prelude.{Option, Some}
+use Rattle.std.specs.Prelude.{Option, Some, None}
 use mathlib.Core.Path.{◌≡◌, refl, sym, ap, ◌∙◌, subst}
 use mathlib.Core.Logic.{inl}
 use mathlib.Core.List.{List, [], ◌∷◌, ◌++◌, map, map-append, append-nil, append_assoc}
 use mathlib.Core.Bool.{Bool, true, false}
-use mathlib.Core.Option.{Option, none, some}
 use Prim.Native.Nat.{ℕ, ◌^◌, ◌≤◌, ◌<◌}
 use native.Mathlib.Omega.{arith}
 use lib.ListN.{length, get_or}
@@ -18,7 +17,7 @@ use Rattle.laws.proofs.Leasts.{least_unique}
 use Rattle.floats.specs.Values.{plus_zero}
 use Rattle.floats.proofs.Rank.{→eq}
 use Rattle.floats.proofs.Gaps.{Good, zero_good, zero_mag}
-use Rattle.drawing.specs.Gaps.{gap_from, least_gap}
+use Rattle.drawing.specs.Gaps.{least_gap}
 use Rattle.drawing.proofs.GapLaws.{gaps_ranked, least-none, least-one, least_join}
 use Rattle.rows.specs.Rows.{Row, rows_in_order, Event, ends, starts, events}
 use Rattle.separation.specs.Figures.{Figures, nonzero, least_of}
@@ -46,8 +45,8 @@ least-of_join l r p q = λ i. record {
 
 -- ---- a start's own line: +0 is the least of all, and no nonzero one
 zero-least : (l : List Float) → All Good l → Mem plus_zero l → Some plus_zero ≡ least_gap l
-unfolding least_gap gap_from
-zero-least l h m = ap gap_from (least_unique gaps_ranked l h (some plus_zero) (m, λ x k. omega (arith, zero_mag)))
+unfolding least_gap
+zero-least l h m = (least_unique gaps_ranked l h (Some plus_zero) (m, λ x k. omega (arith, zero_mag)))
 
 pub no_zero : nonzero plus_zero ≡ false
 unfolding nonzero
@@ -76,24 +75,24 @@ one-least x e = rw e (λ i. record { least = least-one x i; least_nonzero = leas
 
 -- the line that a search found is the key of a finite float, and not p
 abbrev Off : List ℕ → Option ℕ → ℕ → Type 0
-Off ls none p = Unit {0}
-Off ls (some i) p = Placed (get_or ls i 0) × (get_or ls i 0 ≡ p → ⊥)
+Off ls None p = Unit {0}
+Off ls (Some i) p = Placed (get_or ls i 0) × (get_or ls i 0 ≡ p → ⊥)
 
 sight_good : (ls : List ℕ) (p : ℕ) → Placed p → (v : Option ℕ) → Off ls v p → All Good (map gap_at (sight ls v p))
-sight_good ls p a none o = tt
-sight_good ls p a (some i) o = (at_good (get_or ls i 0, p) o.0 a, tt)
+sight_good ls p a None o = tt
+sight_good ls p a (Some i) o = (at_good (get_or ls i 0, p) o.0 a, tt)
 
 sight_least : (ls : List ℕ) (p : ℕ) → Placed p → (v : Option ℕ) → Off ls v p → (l : List Float) → All Good l → other_line ls p v (least_of l) ≡ least_of (l ++ map gap_at (sight ls v p))
-sight_least ls p a none o l h = rw append-nil
-sight_least ls p a (some i) o l h =
+sight_least ls p a None o l h = rw append-nil
+sight_least ls p a (Some i) o l h =
     let c : ℕ × ℕ = (get_or ls i 0, p) in
     ap (lesser_figures (least_of l)) (sym (one-least (gap_at c) (at-two c o.0 a o.1))) ∙ least-of_join l (gap_at c ∷ []) h (at_good c o.0 a, tt)
 
 -- ---- a whole start
 module _ (ls : List ℕ) (h : ℕ) (rising : Rising ls) (room : length ls ≤ 2 ^ h) (active : List Row) (x : Row) (lined : (a : Row) → Mem a active → Mem a.line ls) (mine : Mem x.line ls) (places : (a : Row) → Mem a active → Placed a.line) (place : Placed x.line) where
   off : (v : Option ℕ) → Sees ls active x v → Off ls v x.line
-  off none s = tt
-  off (some i) s = (subst Placed (sym s.0.first) (places s.0.other s.0.there), s.1)
+  off None s = tt
+  off (Some i) s = (subst Placed (sym s.0.first) (places s.0.other s.0.there), s.1)
 
   meets-parts : map gap_at (meets ls h active x) ≡ map gap_at (own (own_other ls active x) x.line) ++ (map gap_at (sight ls (below ls h active x) x.line) ++ map gap_at (sight ls (above ls h active x) x.line))
   unfolding meets

@@ -1,8 +1,8 @@
 -- A search over a tree of h levels: what it finds, and that it touches at most 4 h + 1 nodes; a `set` touches h + 1. For a general level. Assumes nothing.
+use Rattle.std.specs.Prelude.{Option, None, Some}
 use mathlib.Core.Path.{◌≡◌, refl, ap, subst}
 use mathlib.Core.Logic.{◌⊎◌, inl, inr}
 use mathlib.Core.Bool.{Bool, true, false, ◌&&◌}
-use mathlib.Core.Option.{Option, none, some}
 use Prim.Native.Nat.{ℕ, zero, suc, ◌+◌, ◌*◌, ◌^◌, ◌≤◌, ◌<◌}
 use native.Mathlib.Nat.{le_refl, pow-succ'}
 use native.Mathlib.Omega.{arith}
@@ -44,8 +44,8 @@ found v c = record { value = v; cost = c }
 
 -- ---- the cost at any node, whichever child is searched first
 abbrev IsEmpty : Option ℕ → Type 0
-IsEmpty none = Unit {0}
-IsEmpty (some i) = ⊥
+IsEmpty None = Unit {0}
+IsEmpty (Some i) = ⊥
 
 -- Past: the node's range is outside of the query; Full: it is inside; Has: another net is active in it
 record Costs (Past Full Has : Type 0) (h : ℕ) (r : Charged (Option ℕ)) : Type 0 where
@@ -64,7 +64,7 @@ leaf_costs s false p n = record { past = λ x. (le_refl 1, tt); sure = λ f x e.
 module _ {P F H P1 F1 H1 P2 F2 H2 : Type 0} (h : ℕ) (f1 : F → F1) (f2 : F → F2) (d : P1 ⊎ F2) (hs : H → H1 ⊎ H2) where
   node_costs : (t : Bool) (v w : Option ℕ) (c k : ℕ) → (t ≡ true → P → ⊥) → (t ≡ true → H) → (t ≡ false → F → H → ⊥) → Costs P1 F1 H1 h (found v c) → Costs P2 F2 H2 h (found w k) → Costs P F H (suc h) (search_node t (found v c) (found w k))
   node_costs false v w c k p y n a b = record { past = λ x. (le_refl 1, tt); sure = λ f x e. n refl f x; full_empty = λ f e. le_refl 1; empty-cost = λ e. omega arith; full_cost = λ f. omega arith; all-cost = omega arith }
-  node_costs true (some i) w c k p y n a b = record {
+  node_costs true (Some i) w c k p y n a b = record {
     past = λ x. absurd (p refl x);
     sure = λ f x e. e;
     full_empty = λ f e. absurd e;
@@ -72,7 +72,7 @@ module _ {P F H P1 F1 H1 P2 F2 H2 : Type 0} (h : ℕ) (f1 : F → F1) (f2 : F �
     full_cost = λ f. omega (arith, a.full_cost (f1 f));
     all-cost = omega (arith, a.all-cost);
   }
-  node_costs true none (some i) c k p y n a b = record {
+  node_costs true None (Some i) c k p y n a b = record {
     past = λ x. absurd (p refl x);
     sure = λ f x e. e;
     full_empty = λ f e. absurd e;
@@ -84,7 +84,7 @@ module _ {P F H P1 F1 H1 P2 F2 H2 : Type 0} (h : ℕ) (f1 : F → F1) (f2 : F �
       by : P1 ⊎ F2 → suc (c + k) ≤ 4 * suc h + 1
       by (inl x) = omega (arith, (a.past x).0, b.all-cost)
       by (inr f) = omega (arith, a.empty-cost tt, b.full_cost f)
-  node_costs true none none c k p y n a b = record {
+  node_costs true None None c k p y n a b = record {
     past = λ x. absurd (p refl x);
     sure = λ f x e. empty_both f (hs x);
     full_empty = λ f e. absurd (empty_both f (hs (y refl)));
@@ -106,8 +106,8 @@ module _ {P F H P1 F1 H1 P2 F2 H2 : Type 0} (h : ℕ) (f1 : F → F1) (f2 : F �
 
 -- ---- what is found: the best of what is wanted in the range
 abbrev pub Best : (ℕ → Type 0) → (ℕ → Type 0) → (ℕ → ℕ → Type 0) → Option ℕ → Type 0
-Best In Want Better none = (j : ℕ) → In j → Want j → ⊥
-Best In Want Better (some i) = In i × Want i × ((j : ℕ) → In j → Better i j → Want j → ⊥)
+Best In Want Better None = (j : ℕ) → In j → Want j → ⊥
+Best In Want Better (Some i) = In i × Want i × ((j : ℕ) → In j → Better i j → Want j → ⊥)
 
 leaf_best : (In Want : ℕ → Type 0) (Better : ℕ → ℕ → Type 0) (s : ℕ) (t : Bool) → In s → (t ≡ true → Want s) → ((j : ℕ) → In j → Better s j → ⊥) → (t ≡ false → (j : ℕ) → In j → Want j → ⊥) → Best In Want Better (search_leaf t s).value
 leaf_best In Want Better s true i w b n = (i, w refl, λ j x y z. b j x y)
@@ -116,17 +116,17 @@ leaf_best In Want Better s false i w b n = n refl
 module _ (In In1 In2 Want : ℕ → Type 0) (Better : ℕ → ℕ → Type 0) (i1 : (j : ℕ) → In1 j → In j) (i2 : (j : ℕ) → In2 j → In j) (cover : (j : ℕ) → In j → In1 j ⊎ In2 j) (far : (i j : ℕ) → In1 i → In2 j → Better i j → ⊥) where
   node_best : (t : Bool) (v w : Option ℕ) (c k : ℕ) → (t ≡ false → (j : ℕ) → In j → Want j → ⊥) → Best In1 Want Better v → Best In2 Want Better w → Best In Want Better (search_node t (found v c) (found w k)).value
   node_best false v w c k n a b = n refl
-  node_best true (some i) w c k n a b = (i1 i a.0, a.1, λ j x y z. by j (cover j x) y z)
+  node_best true (Some i) w c k n a b = (i1 i a.0, a.1, λ j x y z. by j (cover j x) y z)
     where
       by : (j : ℕ) → In1 j ⊎ In2 j → Better i j → Want j → ⊥
       by j (inl x) y z = a.2 j x y z
       by j (inr x) y z = far i j a.0 x y
-  node_best true none (some i) c k n a b = (i2 i b.0, b.1, λ j x y z. by j (cover j x) y z)
+  node_best true None (Some i) c k n a b = (i2 i b.0, b.1, λ j x y z. by j (cover j x) y z)
     where
       by : (j : ℕ) → In1 j ⊎ In2 j → Better i j → Want j → ⊥
       by j (inl x) y z = a j x z
       by j (inr x) y z = b.2 j x y z
-  node_best true none none c k n a b = λ j x z. by j (cover j x) z
+  node_best true None None c k n a b = λ j x z. by j (cover j x) z
     where
       by : (j : ℕ) → In1 j ⊎ In2 j → Want j → ⊥
       by j (inl x) z = a j x z

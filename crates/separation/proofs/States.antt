@@ -23,11 +23,11 @@ use Rattle.separation.specs.Inner.States.{met_by, at_start, outcome_of, found_by
 use Rattle.separation.proofs.Summaries.{both}
 
 -- ---- what the code's answer says of a run while the sweep runs
-pub went_on : (r : (Result Sweeping Refusal)) (t : Sweeping) (o : Outcome Figures) → r ≡ Ok t → outcome_of r ≡ o → o ≡ left (met_by t) t.remaining
+pub went_on : (r : Result Sweeping Refusal) (t : Sweeping) (o : Outcome Figures) → r ≡ Ok t → outcome_of r ≡ o → o ≡ left (met_by t) t.remaining
 unfolding outcome_of
 went_on r t o e h = sym h ∙ ap outcome_of e
 
-pub stopped : (r : (Result Sweeping Refusal)) (o : Outcome Figures) → r ≡ (Err WorkLimitExceeded) → outcome_of r ≡ o → o ≡ spent
+pub stopped : (r : Result Sweeping Refusal) (o : Outcome Figures) → r ≡ Err WorkLimitExceeded → outcome_of r ≡ o → o ≡ spent
 unfolding outcome_of
 stopped r o e h = sym h ∙ ap outcome_of e
 
@@ -75,16 +75,16 @@ unfolding lesser_figures
 gap_joins st m gap number = λ i. record { least = least-joined st.minimum gap number i; least_nonzero = least-joined st.minimum_positive gap number i }
 
 -- ---- the lesser of each figure
-pub lesser-of : (a b : Found) (x y : (Option Float)) → x ≡ lesser_gap a.minimum b.minimum → y ≡ lesser_gap a.minimum_positive b.minimum_positive → record { least = x; least_nonzero = y } ≡ lesser_figures (found_by a) (found_by b)
+pub lesser-of : (a b : Found) (x y : Option Float) → x ≡ lesser_gap a.minimum b.minimum → y ≡ lesser_gap a.minimum_positive b.minimum_positive → record { least = x; least_nonzero = y } ≡ lesser_figures (found_by a) (found_by b)
 unfolding lesser_figures
 lesser-of a b x y e f = λ i. record { least = e i; least_nonzero = f i }
 
 -- ---- the answer
-pub answers-spent : (r : (Result Found Refusal)) (allowance : ℕ) → r ≡ (Err WorkLimitExceeded) → Answers r allowance (Err WorkLimitExceeded)
+pub answers-spent : (r : Result Found Refusal) (allowance : ℕ) → r ≡ Err WorkLimitExceeded → Answers r allowance (Err WorkLimitExceeded)
 unfolding reply
 answers-spent r allowance h o e = sym (rw (spent-is o (sym h ∙ e)))
 
-pub answers-went : (r : (Result Found Refusal)) (allowance : ℕ) (t : Found) (v : ℕ) → r ≡ Ok t → v ≡ allowance - t.remaining → Answers r allowance (Ok (record { minimum = t.minimum; minimum_positive = t.minimum_positive; visits = v }))
+pub answers-went : (r : Result Found Refusal) (allowance : ℕ) (t : Found) (v : ℕ) → r ≡ Ok t → v ≡ allowance - t.remaining → Answers r allowance (Ok (record { minimum = t.minimum; minimum_positive = t.minimum_positive; visits = v }))
 unfolding reply
 answers-went r allowance t v h k o e =
     let z : Ok (record { minimum = t.minimum; minimum_positive = t.minimum_positive; visits = allowance - t.remaining }) ≡ reply accepted (Err WorkLimitExceeded) allowance o = sym (rw (went-is o t (sym h ∙ e))) in

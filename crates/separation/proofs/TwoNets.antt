@@ -1,9 +1,9 @@
 -- The Rust's summaries of two nets decide, at every node and for every net, whether another one is active on the lines below. Assumes nothing.
+use Rattle.std.specs.Prelude.{Option, None, Some}
 use mathlib.Core.Path.{◌≡◌, refl, sym, ap, ◌∙◌}
 use mathlib.Core.Logic.{inl, inr}
 use mathlib.Core.Bool.{Bool, true, false, ◌||◌, or_assoc}
 use mathlib.Core.List.{List, [], ◌∷◌}
-use mathlib.Core.Option.{Option, none, some}
 use Prim.Native.Nat.{ℕ, zero, suc, ◌+◌, ◌^◌}
 use native.Mathlib.Nat.{pow-succ'}
 use native.Mathlib.Omega.{arith}
@@ -24,10 +24,10 @@ use Rattle.separation.proofs.Lines.{other_join, leaf-nets}
 
 -- a second net is there only where a first one is, and the two differ
 abbrev Apart : Option ℕ → Option ℕ → Type 0
-Apart none none = Unit {0}
-Apart none (some b) = ⊥
-Apart (some a) none = Unit {0}
-Apart (some a) (some b) = b ≡ a → ⊥
+Apart None None = Unit {0}
+Apart None (Some b) = ⊥
+Apart (Some a) None = Unit {0}
+Apart (Some a) (Some b) = b ≡ a → ⊥
 
 abbrev pair : Option ℕ → Option ℕ → TwoNets
 pair a b = record { first = a; second = b }
@@ -39,9 +39,9 @@ record Inserts (s t : TwoNets) (m : ℕ) : Type 0 where
 
 inserted : (a b : Option ℕ) (m : ℕ) → Apart a b → Inserts (pair a b) (insert (pair a b) m) m
 unfolding insert has_other
-inserted none (some b) m h = elim h [ ]
-inserted none none m h = record { apart = tt; decides = λ n. sym (or_false (other_than n m)) }
-inserted (some a) none m h = elim (decide (eqb a m)) [
+inserted None (Some b) m h = elim h [ ]
+inserted None None m h = record { apart = tt; decides = λ n. sym (or_false (other_than n m)) }
+inserted (Some a) None m h = elim (decide (eqb a m)) [
   | inl t ↦ let e = eqb-true a m t in rw t (record { apart = tt; decides = λ n. rw (← e) (twice (other_than n a)) })
   | inr f ↦ rw f (record { apart = λ e. eqb-false a m f (sym e); decides = λ n. ap (λ (z : Bool). z || other_than n m) (or_false (other_than n a)) })
 ]
@@ -49,12 +49,12 @@ inserted (some a) none m h = elim (decide (eqb a m)) [
     twice : (z : Bool) → (z || false) ≡ ((z || false) || z)
     twice true = refl
     twice false = refl
-inserted (some a) (some b) m h = elim (decide (eqb a m || eqb b m)) [
+inserted (Some a) (Some b) m h = elim (decide (eqb a m || eqb b m)) [
   | inl t ↦ rw t full
   | inr f ↦ rw f full
 ]
   where
-    full : Inserts (pair (some a) (some b)) (pair (some a) (some b)) m
+    full : Inserts (pair (Some a) (Some b)) (pair (Some a) (Some b)) m
     full = record { apart = h; decides = λ n. rw (two_decide a b n h) }
 
 -- so the two nets of a list decide what the whole list does
@@ -67,13 +67,13 @@ all_inserted s (m ∷ l) n h =
 
 nets_decide : (l : List ℕ) (n : ℕ) → has_other (from_nets l) n ≡ some_of (other_than n) l
 unfolding from_nets has_other
-nets_decide l n = all_inserted (pair none none) l n tt
+nets_decide l n = all_inserted (pair None None) l n tt
 
 -- ---- two nodes' nets together
 some-listed : (o : Option ℕ) (l : List ℕ) (n : ℕ) → some_of (other_than n) (listed o l) ≡ (is_other o n || some_of (other_than n) l)
 unfolding some_of
-some-listed none l n = refl
-some-listed (some m) l n = refl
+some-listed None l n = refl
+some-listed (Some m) l n = refl
 
 merged_decides : (s t : TwoNets) (n : ℕ) → has_other (merged s t) n ≡ (has_other s n || has_other t n)
 unfolding merged has_other some_of

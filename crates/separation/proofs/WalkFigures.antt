@@ -17,7 +17,7 @@ use Rattle.floats.specs.TotalOrder.{float_at}
 use Rattle.floats.proofs.Rank.{mag}
 use Rattle.floats.proofs.Gaps.{Good, gap_good, gap-swap}
 use Rattle.drawing.specs.Entries.{Segment}
-use Rattle.drawing.specs.Gaps.{gap_from, least_gap}
+use Rattle.drawing.specs.Gaps.{least_gap}
 use Rattle.drawing.proofs.GapLaws.{gaps_ranked}
 use Rattle.rows.specs.Rows.{Row, fixed_of, row_of, rows_in_order, oriented}
 use Rattle.rows.proofs.Oriented.{oriented-sorted, mem_oriented, oriented_mem}
@@ -39,8 +39,8 @@ pub record Reached (l : List Float) (x : Float) : Type 0 where
 pub least-of-same : (l r : List Float) → All Good l → All Good r → ((x : Float) → Mem x l → Reached r x) → ((x : Float) → Mem x r → Reached l x) → least_of l ≡ least_of r
 unfolding least_of least_gap
 least-of-same l r p q f g = λ i. record {
-  least = ap gap_from (least-same gaps_ranked l r p q (λ x m. reach r x (f x m)) (λ x m. reach l x (g x m))) i;
-  least_nonzero = ap gap_from (least-same gaps_ranked (keep nonzero l) (keep nonzero r) (kept_good l p) (kept_good r q) (λ x m. kept l r f x m) (λ x m. kept r l g x m)) i;
+  least = (least-same gaps_ranked l r p q (λ x m. reach r x (f x m)) (λ x m. reach l x (g x m))) i;
+  least_nonzero = (least-same gaps_ranked (keep nonzero l) (keep nonzero r) (kept_good l p) (kept_good r q) (λ x m. kept l r f x m) (λ x m. kept r l g x m)) i;
 }
   where
     reach : (r : List Float) (x : Float) → Reached r x → Reaches (mag binary64) r x

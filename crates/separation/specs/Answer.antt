@@ -14,7 +14,7 @@ use Rattle.separation.specs.Walk.{visit_count}
 abbrev pub report_of : Figures → ℕ → ParallelSeparation
 report_of f n = record { minimum = f.least; minimum_positive = f.least_nonzero; visits = n }
 
-abbrev pub accepted : Figures → ℕ → (Result ParallelSeparation Refusal)
+abbrev pub accepted : Figures → ℕ → Result ParallelSeparation Refusal
 accepted f n = Ok (report_of f n)
 
 -- SCOPE 3.9, 4.2: the figures over all pairs, at the cost of the visit count
@@ -22,7 +22,7 @@ unfoldable pub all_pairs : List Segment → Charged Figures
 all_pairs l = record { value = figures l; cost = visit_count l }
 
 -- SCOPE 7.0, 8.3: the answer of a call, by its columns, its allowance and the length of its scratch
-unfoldable pub separation_answer : SegmentColumns → ℕ → ℕ → (Result ParallelSeparation Refusal)
+unfoldable pub separation_answer : SegmentColumns → ℕ → ℕ → Result ParallelSeparation Refusal
 separation_answer s allowance words =
     let settled = settle accepted (Err WorkLimitExceeded) allowance (all_pairs (segments s)) in
     checked Err (first_of (separation_conditions s words)) settled
@@ -32,6 +32,6 @@ abbrev pub zeros : ParallelSeparation
 zeros = record { minimum = None; minimum_positive = None; visits = 0 }
 
 -- SCOPE 6.3, 8.5: "A refusal returns its number and a report of zeros and absent gaps": each case by its number, 0 for a report, and its values
-unfoldable pub result_of : (Result ParallelSeparation Refusal) → ℕ × ParallelSeparation
+unfoldable pub result_of : Result ParallelSeparation Refusal → ℕ × ParallelSeparation
 result_of (Ok p) = (0, p)
 result_of (Err r) = (number_of r, zeros)

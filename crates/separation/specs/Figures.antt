@@ -27,8 +27,8 @@ unfoldable pub nonzero : Float → Bool
 nonzero x = not (eq x plus_zero)
 
 pub record Figures : Type 0 where
-  pub least : (Option Float)
-  pub least_nonzero : (Option Float)
+  pub least : Option Float
+  pub least_nonzero : Option Float
 
 -- the least of a list of gaps, and the least nonzero one
 unfoldable pub least_of : List Float → Figures

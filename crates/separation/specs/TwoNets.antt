@@ -1,6 +1,5 @@
 -- SCOPE 5.11: the Rust's own summary of the nets that are active on some lines, function by function: the first two different ones that it meets. The port stores less (Inner/Summaries.antt). By `two-nets_decide` in proofs/TwoNets.antt the Rust's tree answers what the walk asks of it.
-use Rattle.std.specs.Prelude.{Bool, false, not, ◌||◌, cond, List, [], ◌∷◌, ℕ, zero, suc, ◌+◌, ◌^◌, leb, eqb}
-use Rattle.std.proofs.Math.Option.{Option, none, some}
+use Rattle.std.specs.Prelude.{Bool, false, not, ◌||◌, cond, List, [], ◌∷◌, ℕ, zero, suc, ◌+◌, ◌^◌, leb, eqb, Option, None, Some}
 use Rattle.laws.specs.Lists.{chosen}
 use Rattle.laws.specs.Sort.{sort_by}
 use Rattle.rows.specs.Rows.{Row}
@@ -13,14 +12,14 @@ pub record TwoNets : Type 0 where
 
 -- `== Some(net)`
 abbrev pub is_net : Option ℕ → ℕ → Bool
-is_net none n = false
-is_net (some m) n = eqb m n
+is_net None n = false
+is_net (Some m) n = eqb m n
 
 -- a net that is neither of the two becomes the first where there is none, else the second where there is none
 abbrev pub placed : Option ℕ → Option ℕ → ℕ → TwoNets
-placed none b n = record { first = some n; second = b }
-placed (some a) none n = record { first = some a; second = some n }
-placed (some a) (some b) n = record { first = some a; second = some b }
+placed None b n = record { first = Some n; second = b }
+placed (Some a) None n = record { first = Some a; second = Some n }
+placed (Some a) (Some b) n = record { first = Some a; second = Some b }
 
 -- `insert`
 unfoldable pub insert : TwoNets → ℕ → TwoNets
@@ -33,12 +32,12 @@ insert_all s (n ∷ l) = insert_all (insert s n) l
 
 -- `from_nets`, from `default`
 unfoldable pub from_nets : List ℕ → TwoNets
-from_nets l = insert_all (record { first = none; second = none }) l
+from_nets l = insert_all (record { first = None; second = None }) l
 
 -- `flatten`: a net that is present comes before those of l
 abbrev pub listed : Option ℕ → List ℕ → List ℕ
-listed none l = l
-listed (some n) l = n ∷ l
+listed None l = l
+listed (Some n) l = n ∷ l
 
 -- `merged`
 unfoldable pub merged : TwoNets → TwoNets → TwoNets
@@ -46,8 +45,8 @@ merged l r = from_nets (listed l.first (listed l.second (listed r.first (listed 
 
 -- `is_some_and(|net| net != excluded)`
 abbrev pub is_other : Option ℕ → ℕ → Bool
-is_other none n = false
-is_other (some m) n = not (eqb m n)
+is_other None n = false
+is_other (Some m) n = not (eqb m n)
 
 -- `has_other`
 unfoldable pub has_other : TwoNets → ℕ → Bool

@@ -1,6 +1,5 @@
 -- The Rust's walk with no limit (SCOPE 5.8, 5.9, 5.10, 5.11): the figures that it finds, at the cost of its visits. It depends on no allowance and no scratch (SCOPE 4.1).
 use Rattle.std.specs.Prelude.{Bool, true, false, ◌&&◌, cond, List, [], ◌∷◌, ℕ, suc, length, get_or, eqb, Option, Some, None}
-use Rattle.std.proofs.Math.Option.{Option, none, some}
 use Rattle.laws.specs.Charged.{Charged, free, visit, after, runs}
 use Rattle.floats.specs.Values.{plus_zero, gap_of}
 use Rattle.floats.specs.TotalOrder.{float_at}
@@ -39,8 +38,8 @@ own_line false f = f
 
 -- SCOPE 5.10: another net is on the line that a search found
 abbrev pub other_line : List ℕ → ℕ → Option ℕ → Figures → Figures
-other_line ls line none f = f
-other_line ls line (some i) f = let g = Some (gap_of (float_at (get_or ls i 0)) (float_at line)) in lesser_figures f (record { least = g; least_nonzero = g })
+other_line ls line None f = f
+other_line ls line (Some i) f = let g = Some (gap_of (float_at (get_or ls i 0)) (float_at line)) in lesser_figures f (record { least = g; least_nonzero = g })
 
 -- SCOPE 5.10, 5.11: what a start searches: is another net on the segment's own line (`has_other_at`), which is the nearest line below with another net, which the nearest above. "Every node touched by a search or a `set` costs one visit, and so does each `has_other_at`."
 unfoldable pub with_nearest : List ℕ → ℕ → List Row → Figures → Row → Charged Figures

@@ -1,21 +1,18 @@
 // The checks of the call, in the order of SCOPE 7.
 ghost use Rattle.std.specs.Prelude.{◌≡◌};
 ghost use Rattle.drawing.specs.Refusals.{first_of};
-ghost use Rattle.drawing.specs.Entries.{segment_columns};
+ghost use Rattle.drawing.specs.Entries.{lent_segments};
 ghost use Rattle.separation.specs.Conditions.{separation_conditions};
 
+use drawing::Segments;
 use list_checks::check_segments;
 
 // Separation takes segments, and a scratch whose length is `words`.
 pub fn check_separation(
-    net: &[u32],
-    orientation: &[u8],
-    fixed: &[f64],
-    start: &[f64],
-    end: &[f64],
+    segments: &Segments<'_>,
     words: usize,
 ) -> Result<(), Refusal>
-    ensures { result ≡ first_of (separation_conditions (segment_columns net.now orientation.now fixed.now start.now end.now) words) }
+    ensures { result ≡ first_of (separation_conditions (lent_segments segments.now) words) }
 {
-    check_segments(net, orientation, fixed, start, end, words)
+    check_segments(segments, words)
 }

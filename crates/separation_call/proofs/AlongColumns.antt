@@ -84,7 +84,7 @@ module _ (s e : List ℕ) (o n : ℕ) (c : SegmentColumns) (a : AtColumns (lengt
           let k = count in
           record { l = l; size = sym count; some = omega arith; few = omega arith; count = tables.1; prepared = tables.0; sorted = oriented-sorted o (segments c); proper = a.proper; gaps = a.gaps; room = omega (arith, long) }
 
-      pub more_swept : (allowance : ℕ) (r : (Result Found Refusal)) → 2 ≤ n
+      pub more_swept : (allowance : ℕ) (r : Result Found Refusal) → 2 ≤ n
           → ((l : List Row) → length l ≡ n → many ≡ length (lines l) → Prepared l u → Sorted rows_in_order l → ((x : Row) → Mem x l → (x.net < 2 ^ 32) × (x.start < x.end)) → Gapped (lines l) → r ≡ swept_of (within allowance (sweep l)))
           → r ≡ swept_of (within allowance (along l))
       more_swept allowance r h f = f l (sym count) tables.1 tables.0 (oriented-sorted o (segments c)) a.proper a.gaps ∙ ap (λ z. swept_of (within allowance z)) (sym (along_more l (omega (arith, count))))

@@ -1,9 +1,9 @@
 -- The code's searches over the stored tree, step by step: what each of its returns answers. Assumes nothing.
+use Rattle.std.specs.Prelude.{Option, None, Some}
 use mathlib.Core.Path.{◌≡◌, refl, sym, ap, ◌∙◌}
 use mathlib.Core.Logic.{◌⊎◌, inl, inr}
 use mathlib.Core.Bool.{Bool, true, false, ◌&&◌, and-false}
 use mathlib.Core.List.{List}
-use mathlib.Core.Option.{Option, none, some}
 use Prim.Native.Nat.{ℕ, zero, suc, ◌+◌, ◌-◌, ◌*◌, ◌/◌, ◌^◌}
 use native.Mathlib.Nat.{pow-succ'}
 use native.Mathlib.Omega.{arith}
@@ -25,20 +25,20 @@ use Rattle.separation_call.specs.Inner.ActiveTree.{summary_at, other_net_of}
 pub was_spent : (o : Outcome (Option ℕ)) → Spent ≡ search_of o → o ≡ spent
 unfolding search_of
 was_spent spent e = refl
-was_spent (left (some i) m) e = cc
-was_spent (left none m) e = cc
+was_spent (left (Some i) m) e = cc
+was_spent (left None m) e = cc
 
-pub was_found : (o : Outcome (Option ℕ)) (i m : ℕ) → Found i m ≡ search_of o → o ≡ left (some i) m
+pub was_found : (o : Outcome (Option ℕ)) (i m : ℕ) → Found i m ≡ search_of o → o ≡ left (Some i) m
 unfolding search_of
 was_found spent i m e = cc
-was_found (left (some j) r) i m e = cc
-was_found (left none r) i m e = cc
+was_found (left (Some j) r) i m e = cc
+was_found (left None r) i m e = cc
 
-pub was_empty : (o : Outcome (Option ℕ)) (m : ℕ) → Empty m ≡ search_of o → o ≡ left none m
+pub was_empty : (o : Outcome (Option ℕ)) (m : ℕ) → Empty m ≡ search_of o → o ≡ left None m
 unfolding search_of
 was_empty spent m e = cc
-was_empty (left (some j) r) m e = cc
-was_empty (left none r) m e = cc
+was_empty (left (Some j) r) m e = cc
+was_empty (left None r) m e = cc
 
 -- ---- a visit is paid: the run within m continues within m - 1
 pub paid-before : (m : ℕ) → (m ≡ 0 → ⊥) → m ≡ suc (m - 1)
@@ -124,7 +124,7 @@ not_both a b (inr e) = rw (e, and-false a)
 
 -- a node whose children are searched
 pub record Opened (w : Way) (t : List ℕ) (n q k s e m : ℕ) : Type 0 where
-  pub some : m ≡ 0 → ⊥
+  pub Some : m ≡ 0 → ⊥
   pub reached : reaches w q s e ≡ true
   pub active : summary_has_other (summary_at t k) n ≡ true
   pub wide : e - s ≡ 1 → ⊥

@@ -23,7 +23,7 @@ use Rattle.separation_call.proofs.StoredSearches.{paid-before}
 use Rattle.separation_call.proofs.Trees.{Merging, merging_begins, merging_goes_on, merging_ends}
 
 -- ---- the cases of a charge
-charge_spent : charge_of spent ≡ (Err WorkLimitExceeded)
+charge_spent : charge_of spent ≡ Err WorkLimitExceeded
 unfolding charge_of
 charge_spent = refl
 

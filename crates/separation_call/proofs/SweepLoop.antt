@@ -54,7 +54,7 @@ module _ (s : List ℕ) (n leaves e : ℕ) where
   pub event_starts : AtEvent s n leaves e → n ≤ e → AtStart s n leaves (e - n)
   event_starts a h = record { l = a.l; F = a.F; H = a.H; b = a.b; active = a.active; size = a.size; count = a.count; ready = a.ready; inside = let g = a.inside in omega arith; early = a.early }
 
-  module _ (t : List ℕ) (st : Sweeping) (r : (Result Sweeping Refusal)) where
+  module _ (t : List ℕ) (st : Sweeping) (r : Result Sweeping Refusal) where
     -- a step that is known by its event
     abbrev Step : List Row → List ℕ → ℕ → ℕ → Charged Sweep → Type 0
     Step l F H b c = (outcome_of r ≡ figures_of (within st.remaining c)) × ((to : Sweeping) → r ≡ Ok to → Ready l F H (b + 1) c.value.active t)
@@ -153,8 +153,8 @@ module _ (l : List Row) (F : List ℕ) (H allowance : ℕ) where
             subst (λ (z : List Row). State l z (drop (q + 1) (events l))) (sym a) (after-start l g.proper g.active j (row_from l j) (drop (q + 1) (events l)) (subst (λ (z : Event). State l g.active (z ∷ drop (q + 1) (events l))) e now_state))
       ]
 
-      module _ (r : (Result Sweeping Refusal)) (t : List ℕ) (e : outcome_of r ≡ figures_of (within st.remaining c)) (k : (to : Sweeping) → r ≡ Ok to → Ready l F H (q + 1) c.value.active t) where
-        pub going_stops : r ≡ (Err WorkLimitExceeded) → (Err WorkLimitExceeded) ≡ swept_of all
+      module _ (r : Result Sweeping Refusal) (t : List ℕ) (e : outcome_of r ≡ figures_of (within st.remaining c)) (k : (to : Sweeping) → r ≡ Ok to → Ready l F H (q + 1) c.value.active t) where
+        pub going_stops : r ≡ Err WorkLimitExceeded → (Err WorkLimitExceeded) ≡ swept_of all
         unfolding swept_of
         going_stops x =
             let z = read-spent (λ (a : Sweep). a.met) st.remaining c (stopped r (figures_of (within st.remaining c)) x e) in
@@ -215,7 +215,7 @@ module _ (n leaves allowance : ℕ) (s₀ : List ℕ) where
         there = λ k. ends-active l x.1 x.2 allowance st s q o h (omega arith);
       })
 
-  module _ (st : Sweeping) (s : List ℕ) (q : ℕ) (g : Runs st s q) (less : q < 2 * n) (number : ℕ) (read : number ≡ get_or s q 0) (r : (Result Sweeping Refusal)) (t : List ℕ) (f : Handles s t n leaves number st r) where
+  module _ (st : Sweeping) (s : List ℕ) (q : ℕ) (g : Runs st s q) (less : q < 2 * n) (number : ℕ) (read : number ≡ get_or s q 0) (r : Result Sweeping Refusal) (t : List ℕ) (f : Handles s t n leaves number st r) where
     module _ (l : List Row) (F : List ℕ) (H : ℕ) (size : length l ≡ n) (count : leaves ≡ 2 ^ H) (o : Going l F H allowance st s q) where
       less_rows : q < 2 * length l
       less_rows = omega arith
@@ -229,7 +229,7 @@ module _ (n leaves allowance : ℕ) (s₀ : List ℕ) where
         let k = handled l F H size count o in
         going_next l F H allowance st s q o (less_rows l F H size count o) r t k.0 k.1 to e
 
-    pub run_stops : r ≡ (Err WorkLimitExceeded) → (l : List Row) (F : List ℕ) (H : ℕ) → length l ≡ n → leaves ≡ 2 ^ H → Ready l F H 0 [] s₀ → ((a : Row) → Mem a l → a.start < a.end) → H ≡ levels (length (lines l)) → (Err WorkLimitExceeded) ≡ swept_of (within allowance (sweep l))
+    pub run_stops : r ≡ Err WorkLimitExceeded → (l : List Row) (F : List ℕ) (H : ℕ) → length l ≡ n → leaves ≡ 2 ^ H → Ready l F H 0 [] s₀ → ((a : Row) → Mem a l → a.start < a.end) → H ≡ levels (length (lines l)) → (Err WorkLimitExceeded) ≡ swept_of (within allowance (sweep l))
     run_stops e l F H size count ready proper h =
         let o = g l F H size count ready proper in
         let k = handled l F H size count o in

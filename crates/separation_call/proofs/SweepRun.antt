@@ -149,7 +149,7 @@ module _ (l : List Row) (F : List ℕ) (H b : ℕ) (active : List Row) (s : List
       gaps = ready.gaps;
     }
 
-    module _ (leaves j : ℕ) (count : leaves ≡ 2 ^ H) (inside : j < n) (r : (Result Sweeping Refusal)) (to : Sweeping) (went : r ≡ Ok to) where
+    module _ (leaves j : ℕ) (count : leaves ≡ 2 ^ H) (inside : j < n) (r : Result Sweeping Refusal) (to : Sweeping) (went : r ≡ Ok to) where
       lent_work : Working n b ls H line_of net_of slot_of active (take (length s - 9 * n) (drop (9 * n) s))
       lent_work = subst (Working n b ls H line_of net_of slot_of active) (sym (tail_lent (9 * n) s)) ready.working
 
@@ -187,18 +187,18 @@ module _ (ls : List ℕ) (H : ℕ) (active : List Row) (st : Sweeping) (x : Row)
   unfolding ends_at
   end-active = refl
 
-  module _ (looked-at : (Result Sweeping Refusal)) (looked : outcome_of looked-at ≡ within st.remaining (with_nearest ls H active (met_by st) x)) where
-    start_stops : looked-at ≡ (Err WorkLimitExceeded) → outcome_of (Err WorkLimitExceeded) ≡ figures_of (within st.remaining (starts_at ls H here x))
+  module _ (looked-at : Result Sweeping Refusal) (looked : outcome_of looked-at ≡ within st.remaining (with_nearest ls H active (met_by st) x)) where
+    start_stops : looked-at ≡ Err WorkLimitExceeded → outcome_of (Err WorkLimitExceeded) ≡ figures_of (within st.remaining (starts_at ls H here x))
     start_stops e =
         let z : onward (within st.remaining (with_nearest ls H active (met_by st) x)) (λ f r. onward (within r (set_run H)) (λ done r. left f r)) ≡ spent = rw (stopped looked-at (within st.remaining (with_nearest ls H active (met_by st) x)) e looked) (onward-spent (λ f r. onward (within r (set_run H)) (λ done r. left f r))) in
         stops _ (start-figures ∙ z)
 
-    start_goes : (seen : Sweeping) (r : (Result Sweeping Refusal)) → looked-at ≡ Ok seen → outcome_of r ≡ onward (within seen.remaining (set_run H)) (λ done m. left (met_by seen) m) → outcome_of r ≡ figures_of (within st.remaining (starts_at ls H here x))
+    start_goes : (seen : Sweeping) (r : Result Sweeping Refusal) → looked-at ≡ Ok seen → outcome_of r ≡ onward (within seen.remaining (set_run H)) (λ done m. left (met_by seen) m) → outcome_of r ≡ figures_of (within st.remaining (starts_at ls H here x))
     start_goes seen r e g =
         let z : onward (within st.remaining (with_nearest ls H active (met_by st) x)) (λ f r. onward (within r (set_run H)) (λ done r. left f r)) ≡ onward (within seen.remaining (set_run H)) (λ done m. left (met_by seen) m) = rw (went_on looked-at seen (within st.remaining (with_nearest ls H active (met_by st) x)) e looked) (onward-left (met_by seen) seen.remaining (λ f r. onward (within r (set_run H)) (λ done r. left f r))) in
         g ∙ sym (start-figures ∙ z)
 
-  end_goes : (r : (Result Sweeping Refusal)) → outcome_of r ≡ onward (within st.remaining (set_run H)) (λ done m. left (met_by st) m) → outcome_of r ≡ figures_of (within st.remaining (ends_at H here x))
+  end_goes : (r : Result Sweeping Refusal) → outcome_of r ≡ onward (within st.remaining (set_run H)) (λ done m. left (met_by st) m) → outcome_of r ≡ figures_of (within st.remaining (ends_at H here x))
   end_goes r g = g ∙ sym (ap figures_of (end-within H st.remaining here x) ∙ flatten active st x (within st.remaining (set_run H)))
 
 never : (to : Sweeping) → (Err WorkLimitExceeded) ≡ Ok to → ⊥
@@ -214,12 +214,12 @@ back_length a s e h k =
     let g = ap length (tail_back a s e h) ∙ length-append (take a s) e in
     omega (arith, length-take-le a s h, ap length (tail_lent a s), length-drop a s)
 
-abbrev LookedAt : ℕ → List ℕ → ℕ → ℕ → Sweeping → (Result Sweeping Refusal) → Type 0
+abbrev LookedAt : ℕ → List ℕ → ℕ → ℕ → Sweeping → Result Sweeping Refusal → Type 0
 LookedAt n s leaves j st looked-at = WithNearest (tail (12 * n) s) (tail (6 * n) s) leaves (get_or s (4 * n + j) 0) (get_or s (5 * n + j) 0) st looked-at
 
 module _ (s : List ℕ) (leaves j : ℕ) (st : Sweeping) where
   module _ (l : List Row) (F : List ℕ) (H b : ℕ) (active : List Row) (count : leaves ≡ 2 ^ H) (ready : Ready l F H b active s) where
-    look_is : (looked-at : (Result Sweeping Refusal)) → j < length l → LookedAt (length l) s leaves j st looked-at → outcome_of looked-at ≡ within st.remaining (with_nearest (lines l) H active (met_by st) (row_from l j))
+    look_is : (looked-at : Result Sweeping Refusal) → j < length l → LookedAt (length l) s leaves j st looked-at → outcome_of looked-at ≡ within st.remaining (with_nearest (lines l) H active (met_by st) (row_from l j))
     look_is looked-at h f =
         let n = length l in
         f (lines l) H active (row_from l j) count
@@ -231,12 +231,12 @@ module _ (s : List ℕ) (leaves j : ℕ) (st : Sweeping) where
     first_of a h (inr m) = ready.from a m
 
   -- the searches were not paid for
-  pub begins_not : (n : ℕ) (looked-at : (Result Sweeping Refusal)) (t : List ℕ) → j < n → LookedAt n s leaves j st looked-at → looked-at ≡ (Err WorkLimitExceeded) → Begins s t n leaves j st (Err WorkLimitExceeded)
+  pub begins_not : (n : ℕ) (looked-at : Result Sweeping Refusal) (t : List ℕ) → j < n → LookedAt n s leaves j st looked-at → looked-at ≡ Err WorkLimitExceeded → Begins s t n leaves j st (Err WorkLimitExceeded)
   begins_not n looked-at t h f e l F H b active size count ready =
       let looked = subst (λ (m : ℕ). j < m → LookedAt m s leaves j st looked-at → outcome_of looked-at ≡ within st.remaining (with_nearest (lines l) H active (met_by st) (row_from l j))) size (look_is l F H b active count ready looked-at) h f in
       (start_stops (lines l) H active st (row_from l j) looked-at looked e, λ to g. absurd (never to g))
 
-  pub begins : (n : ℕ) (looked-at r : (Result Sweeping Refusal)) (seen : Sweeping) (e : List ℕ) → j < n → LookedAt n s leaves j st looked-at → looked-at ≡ Ok seen → Pays leaves seen r
+  pub begins : (n : ℕ) (looked-at r : Result Sweeping Refusal) (seen : Sweeping) (e : List ℕ) → j < n → LookedAt n s leaves j st looked-at → looked-at ≡ Ok seen → Pays leaves seen r
       → Entered n leaves (get_or s (7 * n + j) 0) (get_or s (4 * n + j) 0) (get_or s (5 * n + j) 0) (tail (9 * n) s) e r → length e ≡ length (tail (9 * n) s)
       → Begins s (put_mid (9 * n) (length s - 9 * n) s e) n leaves j st r
   begins n looked-at r seen e h f went pays entered long l F H b active size count ready =
@@ -249,7 +249,7 @@ module _ (s : List ℕ) (leaves j : ℕ) (st : Sweeping) where
       Then n = j < n → LookedAt n s leaves j st looked-at → Entered n leaves (get_or s (7 * n + j) 0) (get_or s (4 * n + j) 0) (get_or s (5 * n + j) 0) (tail (9 * n) s) e r → length e ≡ length (tail (9 * n) s)
           → (outcome_of r ≡ figures_of (within st.remaining (starts_at (lines l) H (record { active = active; met = met_by st }) (row_from l j)))) × ((to : Sweeping) → r ≡ Ok to → Ready l F H (b + 1) (row_from l j ∷ active) (put_mid (9 * n) (length s - 9 * n) s e))
 
-  pub finishes : (n : ℕ) (r : (Result Sweeping Refusal)) (e : List ℕ) → j < n → Pays leaves st r
+  pub finishes : (n : ℕ) (r : Result Sweeping Refusal) (e : List ℕ) → j < n → Pays leaves st r
       → TakenOut n leaves (get_or s (7 * n + j) 0) (get_or s (4 * n + j) 0) (get_or s (5 * n + j) 0) (tail (9 * n) s) e r → length e ≡ length (tail (9 * n) s)
       → Finishes s (put_mid (9 * n) (length s - 9 * n) s e) n leaves j st r
   finishes n r e h pays taken long l F H b active size count ready there =

@@ -1,11 +1,10 @@
 -- The steps of the sweep as the code takes them: a search's answer joined to the figures, what a start searches, and a paid `set`. Assumes nothing.
 use Rattle.drawing.specs.declared.refusal.Refusal.TheVariants.{WorkLimitExceeded}
 use Rattle.drawing.specs.declared.refusal.Refusal.{Refusal}
-use Rattle.std.specs.Prelude.{Option, Result, Ok, Err}
+use Rattle.std.specs.Prelude.{Option, Result, Ok, Err, None, Some}
 use mathlib.Core.Path.{◌≡◌, refl, sym, ap, ◌∙◌}
 use mathlib.Core.Bool.{Bool, true, false, ◌&&◌}
 use mathlib.Core.List.{List}
-use mathlib.Core.Option.{Option, none, some}
 use Prim.Native.Nat.{ℕ, zero, suc, ◌+◌, ◌*◌, ◌^◌, ◌≤◌, ◌<◌}
 use native.Mathlib.Nat.{pow-succ'}
 use native.Mathlib.Omega.{arith}
@@ -47,7 +46,7 @@ module _ (ls : List ℕ) (line : ℕ) (st : Sweeping) (o : Outcome (Option ℕ))
   joined-spent h = stops _ (rw (was_spent o (sym h ∙ e)) (onward-spent _))
 
   pub joined-empty : (m : ℕ) → search ≡ Empty m → outcome_of (Ok (record { minimum = st.minimum; minimum_positive = st.minimum_positive; remaining = m })) ≡ joined ls (get_or ls line 0) (met_by st) o
-  joined-empty m h = goes _ _ (rw (was_empty o m (sym h ∙ e)) (onward-left none m _))
+  joined-empty m h = goes _ _ (rw (was_empty o m (sym h ∙ e)) (onward-left None m _))
 
   pub joined-found : (fixed : List ℕ) (i m : ℕ) (there here : Float) (t : Sweeping) → search ≡ Found i m → take (length ls) fixed ≡ ls → WithinLines search line (length ls) → Gapped ls
       → there ≡ float_at (get_or fixed i 0) → here ≡ float_at (get_or fixed line 0) → t ≡ gap_met (gap_of there here) m st
@@ -58,23 +57,23 @@ module _ (ls : List ℕ) (line : ℕ) (st : Sweeping) (o : Outcome (Option ℕ))
       let near : here ≡ float_at (get_or ls line 0) = q ∙ ap float_at (at line w.own) in
       let number : Number (gap_of there here) = rw (far, near) (gaps (get_or ls i 0) (get_or ls line 0) (at_mem ls i 0 (w.found i m h)) (at_mem ls line 0 w.own)) in
       let met : met_by t ≡ with_gap (gap_of (float_at (get_or ls i 0)) (float_at (get_or ls line 0))) (met_by st) = ap met_by g ∙ gap_joins st m (gap_of there here) number ∙ (λ j. with_gap (gap_of (far j) (near j)) (met_by st)) in
-      goes t _ (rw (was_found o i m (sym h ∙ e)) (onward-left (some i) m _) ∙ (λ j. left (sym met j) (sym (ap (λ (z : Sweeping). z.remaining) g) j)))
+      goes t _ (rw (was_found o i m (sym h ∙ e)) (onward-left (Some i) m _) ∙ (λ j. left (sym met j) (sym (ap (λ (z : Sweeping). z.remaining) g) j)))
 
 -- ---- where a search finds something
-found-leaf : (t : Bool) (s i : ℕ) → (search_leaf t s).value ≡ some i → i ≡ s
+found-leaf : (t : Bool) (s i : ℕ) → (search_leaf t s).value ≡ Some i → i ≡ s
 found-leaf true s i e = cc
 found-leaf false s i e = cc
 
-found-node : (t : Bool) (one two : Charged (Option ℕ)) (P : ℕ → Type 0) (i : ℕ) → (one.value ≡ some i → P i) → (two.value ≡ some i → P i) → (search_node t one two).value ≡ some i → P i
+found-node : (t : Bool) (one two : Charged (Option ℕ)) (P : ℕ → Type 0) (i : ℕ) → (one.value ≡ Some i → P i) → (two.value ≡ Some i → P i) → (search_node t one two).value ≡ Some i → P i
 found-node false one two P i f g e = absurd (let z : ◌≡◌ {A = ℕ} 0 1 = cc in omega arith)
 found-node true one two P i f g e = go one.value refl e
   where
-    go : (v : Option ℕ) → one.value ≡ v → (search_node true (record { value = v; cost = one.cost }) two).value ≡ some i → P i
-    go none h e = g e
-    go (some j) h e = f (h ∙ e)
+    go : (v : Option ℕ) → one.value ≡ v → (search_node true (record { value = v; cost = one.cost }) two).value ≡ Some i → P i
+    go None h e = g e
+    go (Some j) h e = f (h ∙ e)
 
 module _ (has : ℕ → ℕ → ℕ → Bool) (q : ℕ) where
-  right-inside : (h k s i : ℕ) → (rightmost has q h k s).value ≡ some i → i < s + 2 ^ h
+  right-inside : (h k s i : ℕ) → (rightmost has q h k s).value ≡ Some i → i < s + 2 ^ h
   unfolding rightmost
   right-inside zero k s i e = omega (arith, found-leaf (ltb s q && has k s (s + 1)) s i e)
   right-inside (suc h) k s i e =
@@ -82,7 +81,7 @@ module _ (has : ℕ → ℕ → ℕ → Bool) (q : ℕ) where
       found-node (ltb s q && has k s (s + 2 ^ suc h)) (rightmost has q h (2 * k + 1) (s + 2 ^ h)) (rightmost has q h (2 * k) s) (λ j. j < s + 2 ^ suc h) i
       (λ g. omega (arith, right-inside h (2 * k + 1) (s + 2 ^ h) i g)) (λ g. omega (arith, right-inside h (2 * k) s i g)) e
 
-  left-inside : (h k s i : ℕ) → (leftmost has q h k s).value ≡ some i → i < s + 2 ^ h
+  left-inside : (h k s i : ℕ) → (leftmost has q h k s).value ≡ Some i → i < s + 2 ^ h
   unfolding leftmost
   left-inside zero k s i e = omega (arith, found-leaf (ltb q (s + 1) && has k s (s + 1)) s i e)
   left-inside (suc h) k s i e =
@@ -90,8 +89,8 @@ module _ (has : ℕ → ℕ → ℕ → Bool) (q : ℕ) where
       found-node (ltb q (s + 2 ^ suc h) && has k s (s + 2 ^ suc h)) (leftmost has q h (2 * k) s) (leftmost has q h (2 * k + 1) (s + 2 ^ h)) (λ j. j < s + 2 ^ suc h) i
       (λ g. omega (arith, left-inside h (2 * k) s i g)) (λ g. omega (arith, left-inside h (2 * k + 1) (s + 2 ^ h) i g)) e
 
-found-value : (m i r : ℕ) (c : Charged (Option ℕ)) (search : Search) → search ≡ search_of (within m c) → search ≡ Found i r → c.value ≡ some i
-found-value m i r c search e h = (within-left m c (some i) r (was_found (within m c) i r (sym h ∙ e))).1
+found-value : (m i r : ℕ) (c : Charged (Option ℕ)) (search : Search) → search ≡ search_of (within m c) → search ≡ Found i r → c.value ≡ Some i
+found-value m i r c search e h = (within-left m c (Some i) r (was_found (within m c) i r (sym h ∙ e))).1
 
 -- the line and what a search found are within the leaves
 module _ (leaves line n left : ℕ) (search : Search) (has : ℕ → ℕ → ℕ → Bool) (q H : ℕ) (count : leaves ≡ 2 ^ H) (own : line < leaves) (room : leaves ≤ n) where
@@ -181,13 +180,13 @@ module _ (tree fixed : List ℕ) (leaves line net : ℕ) (st : Sweeping) (ls : L
   a-line : (i : ℕ) → other_in ls active x.net i (i + 1) ≡ true → i < length ls
   a-line i t = let g = other→ ls active x.net i (i + 1) t in omega (arith, g.2.1, g.2.2, lined.actives g.0 g.1)
 
-  right-line : (v : Option ℕ) (i : ℕ) → Best (In 0 (2 ^ H)) (Below (other_in ls active x.net) (index ls x.line)) (λ i j. i < j) v → v ≡ some i → i < length ls
-  right-line none i b e = absurd (let z : ◌≡◌ {A = ℕ} 0 1 = cc in omega arith)
-  right-line (some j) i b e = let k : j ≡ i = cc in omega (arith, a-line j b.1.1)
+  right-line : (v : Option ℕ) (i : ℕ) → Best (In 0 (2 ^ H)) (Below (other_in ls active x.net) (index ls x.line)) (λ i j. i < j) v → v ≡ Some i → i < length ls
+  right-line None i b e = absurd (let z : ◌≡◌ {A = ℕ} 0 1 = cc in omega arith)
+  right-line (Some j) i b e = let k : j ≡ i = cc in omega (arith, a-line j b.1.1)
 
-  left-line : (v : Option ℕ) (i : ℕ) → Best (In 0 (2 ^ H)) (From (other_in ls active x.net) (suc (index ls x.line))) (λ i j. j < i) v → v ≡ some i → i < length ls
-  left-line none i b e = absurd (let z : ◌≡◌ {A = ℕ} 0 1 = cc in omega arith)
-  left-line (some j) i b e = let k : j ≡ i = cc in omega (arith, a-line j b.1.1)
+  left-line : (v : Option ℕ) (i : ℕ) → Best (In 0 (2 ^ H)) (From (other_in ls active x.net) (suc (index ls x.line))) (λ i j. j < i) v → v ≡ Some i → i < length ls
+  left-line None i b e = absurd (let z : ◌≡◌ {A = ℕ} 0 1 = cc in omega arith)
+  left-line (Some j) i b e = let k : j ≡ i = cc in omega (arith, a-line j b.1.1)
 
   right-lines : (m : ℕ) (search : Search) → search ≡ search_of (within m (rightmost stored line H 1 0)) → WithinLines search line (length ls)
   right-lines m search e = record {
@@ -204,7 +203,7 @@ module _ (tree fixed : List ℕ) (leaves line net : ℕ) (st : Sweeping) (ls : L
   }
 
   -- the answer of `with_search`, for a search's answer
-  abbrev Joins : Sweeping → Search → (Result Sweeping Refusal) → Type 0
+  abbrev Joins : Sweeping → Search → Result Sweeping Refusal → Type 0
   Joins t search r = (ls : List ℕ) (o : Outcome (Option ℕ)) → search ≡ search_of o → take (length ls) fixed ≡ ls → WithinLines search line (length ls) → Gapped ls → outcome_of r ≡ joined ls (get_or ls line 0) (met_by t) o
 
   -- `has_other_at` was answered
@@ -215,7 +214,7 @@ module _ (tree fixed : List ℕ) (leaves line net : ℕ) (st : Sweeping) (ls : L
     pub look_none : at ≡ Unpaid → outcome_of (Err WorkLimitExceeded) ≡ within st.remaining (with_nearest ls H active (met_by st) x)
     look_none e = stops _ (nearest_spent ls H active (met_by st) x st.remaining (sym own_run ∙ was_unpaid _ (sym e ∙ told)))
 
-    module _ (own : Bool) (begun : Sweeping) (rest : ℕ) (known : at ≡ Known own rest) (search : Search) (handled : (Result Sweeping Refusal)) (b : met_by begun ≡ own_line own (met_by st)) (d : begun.remaining ≡ rest)
+    module _ (own : Bool) (begun : Sweeping) (rest : ℕ) (known : at ≡ Known own rest) (search : Search) (handled : Result Sweeping Refusal) (b : met_by begun ≡ own_line own (met_by st)) (d : begun.remaining ≡ rest)
         (s : (K : ℕ) → leaves ≡ 2 ^ K → search ≡ search_of (within begun.remaining (rightmost stored line K 1 0))) (j : Joins begun search handled) where
       abbrev first : Outcome Figures
       first = joined ls x.line (own_line own (met_by st)) (within begun.remaining (rightmost others (index ls x.line) H 1 0))
@@ -231,10 +230,10 @@ module _ (tree fixed : List ℕ) (leaves line net : ℕ) (st : Sweeping) (ls : L
       whole : within st.remaining (with_nearest ls H active (met_by st) x) ≡ onward first second
       whole = nearest_paid ls H active (met_by st) x st.remaining begun.remaining own (sym own_run ∙ was_known _ own rest (sym known ∙ told) ∙ ap (left own) (sym d))
 
-      pub look_stops : handled ≡ (Err WorkLimitExceeded) → outcome_of (Err WorkLimitExceeded) ≡ within st.remaining (with_nearest ls H active (met_by st) x)
+      pub look_stops : handled ≡ Err WorkLimitExceeded → outcome_of (Err WorkLimitExceeded) ≡ within st.remaining (with_nearest ls H active (met_by st) x)
       look_stops e = stops _ (whole ∙ rw (stopped handled first e first-is) (onward-spent second))
 
-      pub look_on : (half : Sweeping) (above : Search) (r : (Result Sweeping Refusal)) → handled ≡ Ok half → ((K : ℕ) → leaves ≡ 2 ^ K → above ≡ search_of (within half.remaining (leftmost stored (line + 1) K 1 0))) → Joins half above r
+      pub look_on : (half : Sweeping) (above : Search) (r : Result Sweeping Refusal) → handled ≡ Ok half → ((K : ℕ) → leaves ≡ 2 ^ K → above ≡ search_of (within half.remaining (leftmost stored (line + 1) K 1 0))) → Joins half above r
           → outcome_of r ≡ within st.remaining (with_nearest ls H active (met_by st) x)
       look_on half above r e t k =
           k ls (within half.remaining (leftmost stored (line + 1) H 1 0)) (t H count) values (left-lines half.remaining above (t H count)) lined.gaps

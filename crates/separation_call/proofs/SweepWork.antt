@@ -47,7 +47,7 @@ module _ (n leaves line : ℕ) (w u e v : List ℕ) (summary : NetSummary) (rest
   }
 
   -- the `set` was charged, and its answer is returned
-  module _ (st : Sweeping) (charge : (Result ℕ Refusal)) (r : (Result Sweeping Refusal)) (told : r ≡ charged_to st charge) (renews : (H m : ℕ) → leaves ≡ 2 ^ H → charge ≡ Ok m → Renewed (take (length u - 3 * n) (drop (3 * n) u)) e H line summary) where
+  module _ (st : Sweeping) (charge : (Result ℕ Refusal)) (r : Result Sweeping Refusal) (told : r ≡ charged_to st charge) (renews : (H m : ℕ) → leaves ≡ 2 ^ H → charge ≡ Ok m → Renewed (take (length u - 3 * n) (drop (3 * n) u)) e H line summary) where
     pub pays : ((H : ℕ) → leaves ≡ 2 ^ H → charge ≡ charge_of (within st.remaining (set_run H))) → Pays leaves st r
     pays f H k = ap outcome_of told ∙ charge_pays st H charge (f H k)
 

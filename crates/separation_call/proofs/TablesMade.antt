@@ -194,7 +194,7 @@ module _ (s : List ℕ) (n many : ℕ) where
         proper = λ r m. (a.proper r m).1;
       }
 
-      pub tables_swept : AtTables s n many → (allowance : ℕ) (r : (Result Found Refusal))
+      pub tables_swept : AtTables s n many → (allowance : ℕ) (r : Result Found Refusal)
           → ((l : List Row) (F : List ℕ) (H : ℕ) → length l ≡ n → leaves ≡ 2 ^ H → Ready l F H 0 [] (put_mid (9 * n) (12 * n + 2 * leaves - 9 * n) s e) → ((a : Row) → Mem a l → a.start < a.end) → H ≡ levels (length (lines l)) → r ≡ swept_of (within allowance (sweep l)))
           → (l : List Row) → length l ≡ n → many ≡ length (lines l) → Prepared l s → Sorted rows_in_order l → ((a : Row) → Mem a l → (a.net < 2 ^ 32) × (a.start < a.end)) → Gapped (lines l) → r ≡ swept_of (within allowance (sweep l))
       tables_swept a allowance r f l size k prepared sorted proper gaps = f l s (levels many) size count (cleared l size k prepared sorted (λ r m. (proper r m).0) gaps a.some a.few a.room) (λ r m. (proper r m).1) (ap levels k)

@@ -41,7 +41,7 @@ row-net : (s : Segment) → s.net < 2 ^ 32 → (row_of s).net < 2 ^ 32
 unfolding row_of
 row-net s h = h
 
-module _ (c : SegmentColumns) (words : ℕ) (passed : first_of (separation_conditions c words) ≡ (Ok tt)) where
+module _ (c : SegmentColumns) (words : ℕ) (passed : first_of (separation_conditions c words) ≡ Ok tt) where
   module _ (held : All SegmentHeld (segments c)) (nets : All (λ (s : Segment). s.net < 2 ^ 32) (segments c)) where
     proper : (o : ℕ) (r : Row) → Mem r (oriented o (segments c)) → (r.net < 2 ^ 32) × (r.start < r.end)
     proper o r m =
@@ -69,21 +69,21 @@ unfolding swept_of
 too_few_visits c agree m n t e k h = sym (ap swept_of (within-short m (walk_all (segments c)) (omega (arith, too_few_means m n t k h, rows-to-sweep c agree, walk-least (segments c)))))
 
 -- ---- both orientations
-module _ (l : List Segment) (m : ℕ) (first : (Result Found Refusal)) (one : first ≡ swept_of (within m (along (oriented 1 l)))) where
+module _ (l : List Segment) (m : ℕ) (first : Result Found Refusal) (one : first ≡ swept_of (within m (along (oriented 1 l)))) where
   abbrev second : Figures → ℕ → Outcome Figures
   second f r = onward (within r (along (oriented 0 l))) (λ g r. left (lesser_figures f g) r)
 
-  pub walk_stops : first ≡ (Err WorkLimitExceeded) → (Err WorkLimitExceeded) ≡ swept_of (within m (walk_all l))
+  pub walk_stops : first ≡ Err WorkLimitExceeded → (Err WorkLimitExceeded) ≡ swept_of (within m (walk_all l))
   unfolding swept_of
   walk_stops e =
       let z : onward (within m (along (oriented 1 l))) second ≡ spent = rw (spent-is (within m (along (oriented 1 l))) (sym e ∙ one)) (onward-spent second) in
       sym (ap swept_of (walk-within m l ∙ z))
 
-  module _ (across : Found) (went : first ≡ Ok across) (next : (Result Found Refusal)) (other : next ≡ swept_of (within across.remaining (along (oriented 0 l)))) where
+  module _ (across : Found) (went : first ≡ Ok across) (next : Result Found Refusal) (other : next ≡ swept_of (within across.remaining (along (oriented 0 l)))) where
     on : within m (walk_all l) ≡ second (found_by across) across.remaining
     on = walk-within m l ∙ rw (went-is (within m (along (oriented 1 l))) across (sym went ∙ one)) (onward-left (found_by across) across.remaining second)
 
-    pub walk_stops_later : next ≡ (Err WorkLimitExceeded) → (Err WorkLimitExceeded) ≡ swept_of (within m (walk_all l))
+    pub walk_stops_later : next ≡ Err WorkLimitExceeded → (Err WorkLimitExceeded) ≡ swept_of (within m (walk_all l))
     unfolding swept_of
     walk_stops_later e =
         let z : second (found_by across) across.remaining ≡ spent = rw (spent-is (within across.remaining (along (oriented 0 l))) (sym e ∙ other)) (onward-spent (λ g r. left (lesser_figures (found_by across) g) r)) in
@@ -96,9 +96,9 @@ module _ (l : List Segment) (m : ℕ) (first : (Result Found Refusal)) (one : fi
         (λ i. swept_of (left (f i) (k i))) ∙ sym (ap swept_of (on ∙ z))
 
 -- ---- the answer
-pub refused-answer : (c : SegmentColumns) (allowance words : ℕ) (k : (Result Unit Refusal)) (r : Refusal) → k ≡ first_of (separation_conditions c words) → k ≡ Err r → Err r ≡ separation_answer c allowance words
+pub refused-answer : (c : SegmentColumns) (allowance words : ℕ) (k : Result Unit Refusal) (r : Refusal) → k ≡ first_of (separation_conditions c words) → k ≡ Err r → Err r ≡ separation_answer c allowance words
 unfolding separation_answer
 refused-answer c allowance words k r h g = sym (rw (sym h ∙ g))
 
-pub passed_answer : (c : SegmentColumns) (allowance words : ℕ) → first_of (separation_conditions c words) ≡ (Ok tt) → All SegmentHeld (segments c) → (r : (Result Found Refusal)) → r ≡ swept_of (within allowance (walk_all (segments c))) → (a : (Result ParallelSeparation Refusal)) → Answers r allowance a → a ≡ separation_answer c allowance words
+pub passed_answer : (c : SegmentColumns) (allowance words : ℕ) → first_of (separation_conditions c words) ≡ Ok tt → All SegmentHeld (segments c) → (r : Result Found Refusal) → r ≡ swept_of (within allowance (walk_all (segments c))) → (a : Result ParallelSeparation Refusal) → Answers r allowance a → a ≡ separation_answer c allowance words
 passed_answer c allowance words passed held r e a f = f (within allowance (walk_all (segments c))) e ∙ settle-within accepted (Err WorkLimitExceeded) allowance (walk_all (segments c)) ∙ sym (walk_settles c words passed held allowance)

@@ -3,7 +3,8 @@ ghost use Rattle.std.specs.Prelude.{◌≡◌, List, ◌<◌, ◌^◌, length, d
 ghost use Rattle.laws.specs.Lists.{Mem};
 ghost use Rattle.laws.specs.Inner.Sort.{Sorted};
 ghost use Rattle.laws.specs.Inner.Allowance.{within};
-ghost use Rattle.drawing.specs.Entries.{segment_columns, segments};
+ghost use Rattle.drawing.specs.Entries as Entries;
+ghost use Rattle.drawing.specs.Entries.{lent_segments, segments};
 ghost use Rattle.rows.specs.Rows.{Row, rows_in_order, oriented};
 ghost use Rattle.rows.specs.Inner.Tables.{RowsOrdered};
 ghost use Rattle.separation.specs.Lines.{lines};
@@ -16,7 +17,7 @@ use crate::line_numbers::number_lines;
 use crate::run::run_events;
 use crate::slots::assign_slots;
 use crate::tree::leaf_count;
-use drawing::clear;
+use drawing::{Segments, clear};
 use rows::{order_events, order_rows, spread_rows};
 use separation::Found;
 
@@ -47,19 +48,15 @@ fn sweep_tables(s: &mut [u64], n: usize, many: usize, allowance: usize) -> Resul
 pub(crate) fn sweep_along(
     s: &mut [u64],
     wanted: u8,
-    net: &[u32],
-    orientation: &[u8],
-    fixed: &[f64],
-    start: &[f64],
-    end: &[f64],
+    segments: &Segments<'_>,
     allowance: usize,
 ) -> Result<Found, Refusal>
-    requires { AtColumns (length s.old) wanted (segment_columns net.now orientation.now fixed.now start.now end.now) }
-    ensures { result ≡ swept_of (within allowance (Walk.along (oriented wanted (segments (segment_columns net.now orientation.now fixed.now start.now end.now))))) }
+    requires { AtColumns (length s.old) wanted (lent_segments segments.now) }
+    ensures { result ≡ swept_of (within allowance (Walk.along (oriented wanted (Entries.segments (lent_segments segments.now))))) }
 {
-    let total = net.len();
+    let total = segments.net.len();
     let from = 16 * total;
-    let n = order_rows(&mut s[from..], wanted, net, orientation, fixed, start, end);
+    let n = order_rows(&mut s[from..], wanted, segments);
     if n < 2 {
         return Ok(Found {
             minimum: None,

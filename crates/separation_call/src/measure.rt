@@ -2,7 +2,8 @@
 ghost use Rattle.std.specs.Prelude.{◌≡◌, length, Ok};
 ghost use Rattle.laws.specs.Inner.Allowance.{within};
 ghost use Rattle.drawing.specs.Refusals.{first_of, scratch_after};
-ghost use Rattle.drawing.specs.Entries.{segment_columns, segments};
+ghost use Rattle.drawing.specs.Entries as Entries;
+ghost use Rattle.drawing.specs.Entries.{lent_segments, segments};
 ghost use Rattle.drawing.specs.Held.{SegmentsHeld};
 ghost use Rattle.separation.specs.Conditions.{separation_conditions};
 ghost use Rattle.separation.specs.Walk.{walk_all};
@@ -10,39 +11,31 @@ ghost use Rattle.separation.specs.Answer.{separation_answer};
 ghost use Rattle.separation.specs.Inner.States.{swept_of};
 
 use crate::along::sweep_along;
-use drawing::clear;
+use drawing::{Segments, clear};
 use rows::segments_to_sweep;
 use separation::{answer_of, check_separation, combined, too_few};
 
 // The walk over a fit drawing: horizontal segments first, then vertical ones with the remaining visits.
 // Where the allowance is below the least that the segments cost, it counts as spent before any table is made.
 fn walk_segments(
-    net: &[u32],
-    orientation: &[u8],
-    fixed: &[f64],
-    start: &[f64],
-    end: &[f64],
+    segments: &Segments<'_>,
     allowance: usize,
     scratch: &mut [u64],
 ) -> Result<Found, Refusal>
-    requires { first_of (separation_conditions (segment_columns net.now orientation.now fixed.now start.now end.now) (length scratch.old)) ≡ (Ok tt) }
-    ensures { result ≡ swept_of (within allowance (walk_all (segments (segment_columns net.now orientation.now fixed.now start.now end.now)))) }
+    requires { first_of (separation_conditions (lent_segments segments.now) (length scratch.old)) ≡ (Ok tt) }
+    ensures { result ≡ swept_of (within allowance (walk_all (Entries.segments (lent_segments segments.now)))) }
 {
-    if too_few(allowance, segments_to_sweep(orientation)) {
+    if too_few(allowance, segments_to_sweep(segments.orientation)) {
         return Err(Refusal::WorkLimitExceeded);
     }
-    let first = sweep_along(scratch, 1, net, orientation, fixed, start, end, allowance);
+    let first = sweep_along(scratch, 1, segments, allowance);
     let Ok(across) = first else {
         return Err(Refusal::WorkLimitExceeded);
     };
     let second = sweep_along(
         scratch,
         0,
-        net,
-        orientation,
-        fixed,
-        start,
-        end,
+        segments,
         across.remaining,
     );
     let Ok(down) = second else {
@@ -52,27 +45,23 @@ fn walk_segments(
 }
 
 pub fn measure_parallel_separation_bounded(
-    net: &[u32],
-    orientation: &[u8],
-    fixed: &[f64],
-    start: &[f64],
-    end: &[f64],
+    segments: &Segments<'_>,
     allowance: usize,
     scratch: &mut [u64],
 ) -> Result<ParallelSeparation, Refusal>
-    ensures { let lent = segment_columns net.now orientation.now fixed.now start.now end.now in
+    ensures { let lent = lent_segments segments.now in
         let words = length scratch.old in
         let refusal = first_of (separation_conditions lent words) in
         (result ≡ separation_answer lent allowance words)
         × (scratch.new ≡ scratch_after refusal scratch.old)
-        × (refusal ≡ (Ok tt) → SegmentsHeld lent) }
+        × (refusal ≡ Ok tt → SegmentsHeld lent) }
 {
     let words = scratch.len();
-    let check = check_separation(net, orientation, fixed, start, end, words);
+    let check = check_separation(segments, words);
     if let Err(why) = check {
         return Err(why);
     }
-    let swept = walk_segments(net, orientation, fixed, start, end, allowance, scratch);
+    let swept = walk_segments(segments, allowance, scratch);
     clear(scratch);
     answer_of(swept, allowance)
 }

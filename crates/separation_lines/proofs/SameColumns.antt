@@ -11,8 +11,8 @@ use Rattle.drawing.specs.Held.{SegmentsHeld}
 use Rattle.separation.specs.Conditions.{separation_conditions}
 use Rattle.separation.specs.Answer.{separation_answer}
 
-abbrev Promised : ℕ → List ℕ → (Result ParallelSeparation Refusal) → List ℕ → SegmentColumns → Type 0
-Promised allowance before told after s = (told ≡ separation_answer s allowance (length before)) × (after ≡ scratch_after (first_of (separation_conditions s (length before))) before) × (first_of (separation_conditions s (length before)) ≡ (Ok tt) → SegmentsHeld s)
+abbrev Promised : ℕ → List ℕ → Result ParallelSeparation Refusal → List ℕ → SegmentColumns → Type 0
+Promised allowance before told after s = (told ≡ separation_answer s allowance (length before)) × (after ≡ scratch_after (first_of (separation_conditions s (length before))) before) × (first_of (separation_conditions s (length before)) ≡ Ok tt → SegmentsHeld s)
 
 pub of-equal : (allowance : ℕ) (before : List ℕ) {told : (Result ParallelSeparation Refusal)} {after : List ℕ} {s t : SegmentColumns} → s ≡ t → Promised allowance before told after s → Promised allowance before told after t
 of-equal allowance before {told} {after} {s} {t} e p = subst (Promised allowance before told after) e p

@@ -23,7 +23,7 @@ pub fn separation_of_lines(
         let refusal = first_of (separation_conditions lent words) in
         (result ≡ separation_answer lent allowance words)
         × (scratch.new ≡ scratch_after refusal scratch.old)
-        × (refusal ≡ (Ok tt) → SegmentsHeld lent) }
+        × (refusal ≡ Ok tt → SegmentsHeld lent) }
 {
     let mut net = [0; 4097];
     let mut orientation = [0; 4097];

@@ -27,7 +27,7 @@ use Rattle.tight_pair.specs.Conditions.{tight_pair_conditions}
 use Rattle.exemptions.proofs.ExemptLaws.{exemptions-agree}
 
 -- where the conditions of two lists all pass, those of each list do
-passed_both : (l m : List (Bool × Refusal)) → first_of (l ++ m) ≡ (Ok tt) → (first_of l ≡ (Ok tt)) × (first_of m ≡ (Ok tt))
+passed_both : (l m : List (Bool × Refusal)) → first_of (l ++ m) ≡ Ok tt → (first_of l ≡ Ok tt) × (first_of m ≡ Ok tt)
 unfolding first_of
 passed_both [] m e = (λ i. (Ok tt), e)
 passed_both (c ∷ l) m e =
@@ -57,8 +57,8 @@ module _ (s : SegmentColumns) (n : NodeColumns) (l : FloatsLent s n) where
 fit-nodes : (l : List Node) → All NodeHeld l → some_of unfit_node l ≡ false → All FitNode l
 fit-nodes l h e = let a = none-all unfit_node l e in mem_all FitNode l (λ x m. record { held = all_mem NodeHeld l h x m; passes = all_mem _ l a x m })
 
-module _ (s : SegmentColumns) (n : NodeColumns) (e : ExemptionColumns) (p : first_of (tight_pair_conditions s n e) ≡ (Ok tt)) where
-  parts : (first_of (list_conditions s n e) ≡ (Ok tt)) × (first_of (entry_conditions s n) ≡ (Ok tt))
+module _ (s : SegmentColumns) (n : NodeColumns) (e : ExemptionColumns) (p : first_of (tight_pair_conditions s n e) ≡ Ok tt) where
+  parts : (first_of (list_conditions s n e) ≡ Ok tt) × (first_of (entry_conditions s n) ≡ Ok tt)
   unfolding tight_pair_conditions
   parts = passed_both (list_conditions s n e) (entry_conditions s n) p
 

@@ -3,7 +3,6 @@ use Rattle.std.specs.Prelude.{Option, Some, None, Ok, Err}
 use mathlib.Core.Path.{◌≡◌, refl, sym, ap, ◌∙◌, subst}
 use mathlib.Core.Bool.{Bool, true, false, not, cond}
 use mathlib.Core.List.{List, [], ◌∷◌, ◌++◌, append_assoc, append-nil, map}
-use mathlib.Core.Option.{some}
 use Prim.Native.Nat.{ℕ, zero, suc, ◌+◌, ◌*◌, ◌≤◌, ◌<◌, zero-le}
 use native.Mathlib.Nat.{zero-mul}
 use native.Mathlib.Numerals.{add-one}
@@ -116,7 +115,7 @@ none-nearer (fin s m k) (fin false n d) p e = rw p (le-ltb (m * up k * down d) (
     nothing : (a b c : ℕ) → a * 1 ≤ 0 * 1 * down d → a * b ≤ c
     nothing a b c h = let z : a ≡ 0 = omega (arith, zero-mul (down d)) in rw z (rw (zero-mul b) zero-le)
 
-still_best : (g : (Option Float)) → nearer plus_zero g ≡ false → (d : Float) → Good d → nearer d g ≡ false
+still_best : (g : Option Float) → nearer plus_zero g ≡ false → (d : Float) → Good d → nearer d g ≡ false
 unfolding nearer
 still_best None e d p = clash true refl e
 still_best (Some m) e d p = none-nearer d m p.plus e
@@ -171,13 +170,13 @@ module _ (words : List ℕ) (k : ℕ) (s : SegmentColumns) (ns : List Node) wher
 record Placed (ex : List Exemption) (ss : List Segment) (ns : List Node) (i j : ℕ) (d : Float) : Type 0 where
   segment : Segment
   node : Node
-  segment_found : get_elem? ss i ≡ some segment
-  node_found : get_elem? ns j ≡ some node
+  segment_found : get_elem? ss i ≡ Some segment
+  node_found : get_elem? ns j ≡ Some node
   free : exempt ex segment.net node.id ≡ false
   far : d ≡ distance (segment_box segment) (node_box node)
 
 -- the entries from a position on are an entry and those after it
-drop_head : {A : Type 0} (l : List A) (i : ℕ) (x : A) (r : List A) → drop i l ≡ x ∷ r → (get_elem? l i ≡ some x) × (drop (suc i) l ≡ r)
+drop_head : {A : Type 0} (l : List A) (i : ℕ) (x : A) (r : List A) → drop i l ≡ x ∷ r → (get_elem? l i ≡ Some x) × (drop (suc i) l ≡ r)
 drop_head [] zero x r e = let z : ◌≡◌ {A = ℕ} 0 1 = cc in absurd (omega arith)
 drop_head [] (suc i) x r e = let z : ◌≡◌ {A = ℕ} 0 1 = cc in absurd (omega arith)
 drop_head (y ∷ l) zero x r e = (cc, cc)
@@ -200,7 +199,7 @@ lesser-present : (m d : Float) → lesser_gap (Some m) (Some d) ≡ Some (cond (
 unfolding lesser_gap lesser_of
 lesser-present m d = refl
 
-lesser_absent : (g : (Option Float)) → lesser_gap None g ≡ g
+lesser_absent : (g : Option Float) → lesser_gap None g ≡ g
 unfolding lesser_gap
 lesser_absent g = refl
 
@@ -210,10 +209,10 @@ module _ (ex : List Exemption) (ss : List Segment) (ns : List Node) where
     here : (e : Float) → Some d ≡ Some e → Placed ex ss ns i j e
     here e h = let g : d ≡ e = cc in subst (Placed ex ss ns i j) g q
 
-    joined : (g : (Option Float)) → g ≡ least_gap seen → least_gap (seen ++ d ∷ []) ≡ lesser_gap g (Some d)
-    joined g e = least_join seen (d ∷ []) good (good_d, tt) ∙ ap (lesser_gap (least_gap seen)) (least-one d) ∙ ap (λ (h : (Option Float)). lesser_gap h (Some d)) (sym e)
+    joined : (g : Option Float) → g ≡ least_gap seen → least_gap (seen ++ d ∷ []) ≡ lesser_gap g (Some d)
+    joined g e = least_join seen (d ∷ []) good (good_d, tt) ∙ ap (lesser_gap (least_gap seen)) (least-one d) ∙ ap (λ (h : Option Float). lesser_gap h (Some d)) (sym e)
 
-    added : (g : (Option Float)) (u v : ℕ) → Looked ex ss ns seen (record { least = g; segment = u; node = v })
+    added : (g : Option Float) (u v : ℕ) → Looked ex ss ns seen (record { least = g; segment = u; node = v })
         → Looked ex ss ns (seen ++ d ∷ []) (cond (nearer d g) (record { least = Some d; segment = i; node = j }) (record { least = g; segment = u; node = v }))
     unfolding nearer
     added None u v p = record { least = sym (joined None p.least ∙ lesser_absent (Some d)); place = here }
@@ -231,7 +230,7 @@ module _ (ex : List Exemption) (ss : List Segment) (ns : List Node) where
   one_more false d i j good_d q seen good b p = added d i j good_d (q refl) seen good b.least b.segment b.node p
 
   -- one segment, from node j on
-  module _ (i : ℕ) (s : Segment) (si : get_elem? ss i ≡ some s) (fit : FitSegment s) where
+  module _ (i : ℕ) (s : Segment) (si : get_elem? ss i ≡ Some s) (fit : FitSegment s) where
     nodes_looked : (rest : List Node) (j : ℕ) → drop j ns ≡ rest → All FitNode rest → (seen : List Float) → All Good seen → (b : Best) → Looked ex ss ns seen b
         → Looked ex ss ns (seen ++ distances_of ex s (map indexed rest)) (in_turn (node_step ex s.net (segment_box s) i) j rest b)
     unfolding in_turn chosen indexed
@@ -269,7 +268,7 @@ module _ (ex : List Exemption) (ss : List Segment) (ns : List Node) where
 -- ---- the answer
 -- what is found at the least distance of all is tight
 module _ (ex : List Exemption) (ss : List Segment) (ns : List Node) (b : Best) (p : Looked ex ss ns (distances ex ss ns) b) where
-  is-tight : (g : (Option Float)) → b.least ≡ g → (i j : ℕ) → pair_if_any g (b.segment, b.node) ≡ Pair i j → Tight ex ss ns i j
+  is-tight : (g : Option Float) → b.least ≡ g → (i j : ℕ) → pair_if_any g (b.segment, b.node) ≡ Pair i j → Tight ex ss ns i j
   unfolding pair_if_any
   is-tight None h i j e = let z : ◌≡◌ {A = ℕ} 0 1 = cc in absurd (omega arith)
   is-tight (Some d) h i j e =
@@ -290,7 +289,7 @@ module _ (s : SegmentColumns) (n : NodeColumns) (e : ExemptionColumns) where
   unfolding tight_pair_answer
   answer-refused why h = record { choice = (0, 0); is = rw h; tight = λ i j g. let z : ◌≡◌ {A = ℕ} 0 1 = cc in absurd (omega arith) }
 
-  module _ (passed : first_of (tight_pair_conditions s n e) ≡ (Ok tt)) (held : FloatsLent s n) (before words : List ℕ) (gathered : Gathered e before words)
+  module _ (passed : first_of (tight_pair_conditions s n e) ≡ Ok tt) (held : FloatsLent s n) (before words : List ℕ) (gathered : Gathered e before words)
       (b : Best) (looked : (ex : List Exemption) → Holds words ex → length e.net ≡ length ex → b ≡ look_segments ex (segments s) (nodes n)) where
     abbrev LookedAtAll : Best → Type 0
     LookedAtAll c = Looked (exemptions e) (segments s) (nodes n) (distances (exemptions e) (segments s) (nodes n)) c
@@ -304,6 +303,6 @@ module _ (s : SegmentColumns) (n : NodeColumns) (e : ExemptionColumns) where
     unfolding tight_pair_answer
     answered r is = record {
       choice = (b.segment, b.node);
-      is = is ∙ rw passed (ap (λ (g : (Option Float)). pair_if_any g (b.segment, b.node)) best.least);
+      is = is ∙ rw passed (ap (λ (g : Option Float). pair_if_any g (b.segment, b.node)) best.least);
       tight = λ i j g. is-tight (exemptions e) (segments s) (nodes n) b best b.least refl i j (sym is ∙ g);
     }

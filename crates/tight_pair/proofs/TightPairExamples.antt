@@ -1,7 +1,7 @@
 -- Examples of the tight pair, by computing the definitions. Assumes nothing.
+use Rattle.std.specs.Prelude.{Option, None, Some}
 use mathlib.Core.Path.{◌≡◌, refl, sym, ap, ◌∙◌}
 use mathlib.Core.List.{[], ◌∷◌}
-use mathlib.Core.Option.{Option, none, some}
 use Prim.Native.Nat.{ℕ, zero, suc}
 use native.Mathlib.Omega.{arith}
 use lib.Ieee.{Float, binary64, of_bits, to_bits, add, sub, lt}
@@ -10,7 +10,7 @@ use Rattle.laws.specs.Least.{lesser, least}
 use Rattle.laws.proofs.Tests.{clash}
 use Rattle.floats.specs.Values.{lesser_of, greater_of}
 use Rattle.drawing.specs.Entries.{Segment, Node, SegmentColumns, NodeColumns, ExemptionColumns, segment_columns, node_columns, exemption_columns, segments_of, nodes_of, exemptions_of, segments, nodes, exemptions}
-use Rattle.drawing.specs.Gaps.{gap_from, least_gap}
+use Rattle.drawing.specs.Gaps.{least_gap}
 use Rattle.drawing.specs.Refusals.{number_of, first_of}
 use Rattle.drawing.specs.Conditions.{differ, too_many, unfit_fields, unfit_segment, unfit_extent, unfit_box, unfit_node}
 use Rattle.drawing.specs.Checks.{segments_differ, nodes_differ, exemptions_differ, list_conditions, entry_conditions}
@@ -43,7 +43,7 @@ abbrev no_nodes : NodeColumns
 no_nodes = node_columns [] [] [] [] []
 
 abbrev refusal : ℕ → ℕ × Option (ℕ × ℕ)
-refusal n = (n, none)
+refusal n = (n, None)
 
 pub record PairExamples : Type 0 where
   -- in D there is a pair, whichever is chosen
@@ -61,7 +61,7 @@ pub record PairExamples : Type 0 where
   pub no_length : (pair : ℕ × ℕ) → result_of (tight_pair_answer (segment_columns (1 ∷ []) (1 ∷ []) (float 0 ∷ []) (float 0 ∷ []) (float 0 ∷ [])) d-nodes d-exemptions pair) ≡ refusal 5
 
 pub pair_examples : PairExamples
-unfolding of_bits to_bits add sub lt some_of chosen cross lesser least greater_of lesser_of segments segments_of nodes_of exemptions_of gap_from least_gap number_of first_of differ too_many unfit_fields unfit_segment unfit_extent unfit_box unfit_node segments_differ nodes_differ exemptions_differ list_conditions entry_conditions tight_pair_conditions from_node from_segment node_box segment_box axis_gap distance exempt distances pair_if_any tight_pair_answer result_of
+unfolding of_bits to_bits add sub lt some_of chosen cross lesser least greater_of lesser_of segments segments_of nodes_of exemptions_of least_gap number_of first_of differ too_many unfit_fields unfit_segment unfit_extent unfit_box unfit_node segments_differ nodes_differ exemptions_differ list_conditions entry_conditions tight_pair_conditions from_node from_segment node_box segment_box axis_gap distance exempt distances pair_if_any tight_pair_answer result_of
 pair_examples = record {
   d = λ i j. refl;
   d-tight = record { segment = _; node = _; segment_at = refl; node_at = refl; free = refl; least = refl };
@@ -74,12 +74,12 @@ pair_examples = record {
 }
 
 abbrev net-of : Option Segment → ℕ
-net-of none = 0
-net-of (some s) = s.net
+net-of None = 0
+net-of (Some s) = s.net
 
 abbrev id-of : Option Node → ℕ
-id-of none = 0
-id-of (some n) = n.id
+id-of None = 0
+id-of (Some n) = n.id
 
 -- no other pair of D is tight: segment 1 and node 0 are exempt
 only-tight : (i j : ℕ) → Tight (exemptions d-exemptions) (segments d-segments) (nodes d-nodes) i j → Pair i j ≡ Pair 0 0

@@ -1,6 +1,5 @@
 -- What the tight pair's call answers (SCOPE 12), and the number and values of each case of the answer.
 use Rattle.std.specs.Prelude.{◌≡◌, false, List, ℕ, Option, Some, None}
-use Rattle.std.proofs.Math.Option.{Option, none, some}
 use Rattle.std.proofs.Math.ListN.{get_elem?}
 use Rattle.drawing.specs.Entries.{Segment, Node, Exemption, SegmentColumns, NodeColumns, ExemptionColumns, segments, nodes, exemptions}
 use Rattle.drawing.specs.Gaps.{least_gap}
@@ -15,13 +14,13 @@ use Rattle.clearance.specs.Figures.{exempt, distances}
 pub record Tight (ex : List Exemption) (ss : List Segment) (ns : List Node) (i j : ℕ) : Type 0 where
   pub segment : Segment
   pub node : Node
-  pub segment_at : get_elem? ss i ≡ some segment
-  pub node_at : get_elem? ns j ≡ some node
+  pub segment_at : get_elem? ss i ≡ Some segment
+  pub node_at : get_elem? ns j ≡ Some node
   pub free : exempt ex segment.net node.id ≡ false
   pub least : Some (distance (segment_box segment) (node_box node)) ≡ least_gap (distances ex ss ns)
 
 -- SCOPE 12.2: the pair where there is a least clearance, "or absent if there is none"
-unfoldable pub pair_if_any : (Option Float) → ℕ × ℕ → TightPair
+unfoldable pub pair_if_any : Option Float → ℕ × ℕ → TightPair
 pair_if_any None pair = Absent
 pair_if_any (Some d) pair = Pair pair.0 pair.1
 
@@ -37,6 +36,6 @@ pub record Answered (s : SegmentColumns) (n : NodeColumns) (e : ExemptionColumns
 
 -- SCOPE 6.3, 12.1, 12.2: "A refusal returns its number and ..; for the tight pair, an absent pair.": each case by its number, 0 where nothing was refused, and its pair
 unfoldable pub result_of : TightPair → ℕ × Option (ℕ × ℕ)
-result_of (Pair i j) = (0, some (i, j))
-result_of Absent = (0, none)
-result_of (Refused w) = (number_of w, none)
+result_of (Pair i j) = (0, Some (i, j))
+result_of Absent = (0, None)
+result_of (Refused w) = (number_of w, None)

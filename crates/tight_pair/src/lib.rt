@@ -2,7 +2,8 @@
 #![tactic(auto)]
 
 ghost use Rattle.std.specs.Prelude.{◌≡◌, List, ℕ, length};
-ghost use Rattle.drawing.specs.Entries.{Exemption, segment_columns, node_columns, exemption_columns, segments, nodes};
+ghost use Rattle.drawing.specs.Entries as Entries;
+ghost use Rattle.drawing.specs.Entries.{Exemption, lent_segments, lent_nodes, lent_exemptions, segments, nodes};
 ghost use Rattle.drawing.specs.Inner.Lengths.{SegmentsAgree, NodesAgree};
 ghost use Rattle.clearance.specs.Figures.{exempt};
 ghost use Rattle.exemptions.specs.Inner.Exempting.{Holds, Listed};
@@ -13,7 +14,7 @@ mod checks;
 
 use crate::checks::check_tight_pair;
 use boxes::Aabb;
-use drawing::Refusal;
+use drawing::{Exemptions, Nodes, Refusal, Segments};
 use exemptions::{Range, gather, is_exempt, net_range};
 
 // Positions of a segment and of a node in the given lists.
@@ -74,22 +75,18 @@ fn look_at_nodes(
     range: Range,
     bounds: Aabb,
     segment: usize,
-    id: &[u32],
-    x: &[f64],
-    y: &[f64],
-    width: &[f64],
-    height: &[f64],
+    nodes: &Nodes<'_>,
     so_far: Best,
 ) -> Best
-    requires { NodesAgree (node_columns id.now x.now y.now width.now height.now) }
-    ensures { (ex : List Exemption) (net : ℕ) → Listed words.now ex net range → result ≡ look_nodes ex net bounds segment (nodes (node_columns id.now x.now y.now width.now height.now)) so_far }
+    requires { NodesAgree (lent_nodes nodes.now) }
+    ensures { (ex : List Exemption) (net : ℕ) → Listed words.now ex net range → result ≡ look_nodes ex net bounds segment (Entries.nodes (lent_nodes nodes.now)) so_far }
 {
     let mut best = so_far;
     let mut node = 0;
-    while node < id.len() {
-        let other = Aabb::from_node(x[node], y[node], width[node], height[node]);
+    while node < nodes.id.len() {
+        let other = Aabb::from_node(nodes.x[node], nodes.y[node], nodes.width[node], nodes.height[node]);
         let distance = bounds.distance(other);
-        best = with_pair(words, range, id[node], distance, segment, node, best);
+        best = with_pair(words, range, nodes.id[node], distance, segment, node, best);
         node += 1;
     }
     best
@@ -99,19 +96,11 @@ fn look_at_nodes(
 fn look_at_segments(
     words: &[u64],
     k: usize,
-    net: &[u32],
-    orientation: &[u8],
-    fixed: &[f64],
-    start: &[f64],
-    end: &[f64],
-    id: &[u32],
-    x: &[f64],
-    y: &[f64],
-    width: &[f64],
-    height: &[f64],
+    segments: &Segments<'_>,
+    nodes: &Nodes<'_>,
 ) -> Best
-    requires { SegmentsAgree (segment_columns net.now orientation.now fixed.now start.now end.now) × NodesAgree (node_columns id.now x.now y.now width.now height.now) }
-    ensures { (ex : List Exemption) → Holds words.now ex → k ≡ length ex → result ≡ look_segments ex (segments (segment_columns net.now orientation.now fixed.now start.now end.now)) (nodes (node_columns id.now x.now y.now width.now height.now)) }
+    requires { SegmentsAgree (lent_segments segments.now) × NodesAgree (lent_nodes nodes.now) }
+    ensures { (ex : List Exemption) → Holds words.now ex → k ≡ length ex → result ≡ look_segments ex (Entries.segments (lent_segments segments.now)) (Entries.nodes (lent_nodes nodes.now)) }
 {
     let mut best = Best {
         least: None,
@@ -119,16 +108,16 @@ fn look_at_segments(
         node: 0,
     };
     let mut segment = 0;
-    while segment < net.len() {
+    while segment < segments.net.len() {
         // No distance is below 0, so no later pair is nearer.
         let least = best.least;
         if !is_nearer(0.0, least) {
             return best;
         }
-        let range = net_range(words, k, net[segment]);
-        let horizontal = orientation[segment] == 1;
-        let bounds = Aabb::from_segment(horizontal, fixed[segment], start[segment], end[segment]);
-        best = look_at_nodes(words, range, bounds, segment, id, x, y, width, height, best);
+        let range = net_range(words, k, segments.net[segment]);
+        let horizontal = segments.orientation[segment] == 1;
+        let bounds = Aabb::from_segment(horizontal, segments.fixed[segment], segments.start[segment], segments.end[segment]);
+        best = look_at_nodes(words, range, bounds, segment, nodes, best);
         segment += 1;
     }
     best
@@ -146,53 +135,27 @@ fn pair_of(best: Best) -> TightPair
 
 // The pair is the first one: the lowest segment position and then the lowest node position of those at the least distance. The contract leaves the choice open.
 pub fn tight_pair(
-    net: &[u32],
-    orientation: &[u8],
-    fixed: &[f64],
-    start: &[f64],
-    end: &[f64],
-    id: &[u32],
-    x: &[f64],
-    y: &[f64],
-    width: &[f64],
-    height: &[f64],
-    exempt_net: &[u32],
-    exempt_node: &[u32],
+    segments: &Segments<'_>,
+    nodes: &Nodes<'_>,
+    exemptions: &Exemptions<'_>,
 ) -> TightPair
-    ensures { Answered (segment_columns net.now orientation.now fixed.now start.now end.now) (node_columns id.now x.now y.now width.now height.now) (exemption_columns exempt_net.now exempt_node.now) result }
+    ensures { Answered (lent_segments segments.now) (lent_nodes nodes.now) (lent_exemptions exemptions.now) result }
 {
     let check = check_tight_pair(
-        net,
-        orientation,
-        fixed,
-        start,
-        end,
-        id,
-        x,
-        y,
-        width,
-        height,
-        exempt_net,
-        exempt_node,
+        segments,
+        nodes,
+        exemptions,
     );
     if let Err(why) = check {
         return TightPair::Refused(why);
     }
     let mut words = [0; 4096];
-    gather(&mut words, exempt_net, exempt_node);
+    gather(&mut words, exemptions);
     let best = look_at_segments(
         &words,
-        exempt_net.len(),
-        net,
-        orientation,
-        fixed,
-        start,
-        end,
-        id,
-        x,
-        y,
-        width,
-        height,
+        exemptions.net.len(),
+        segments,
+        nodes,
     );
     pair_of(best)
 }

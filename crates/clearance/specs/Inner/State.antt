@@ -22,7 +22,7 @@ abbrev pub at_start : ℕ → Walking
 at_start allowance = record { violations = 0; least = nan; remaining = allowance }
 
 -- the outcome of a run within the allowance, from what the code returns
-unfoldable pub outcome_of : (Result Walking Refusal) → Outcome Figures
+unfoldable pub outcome_of : Result Walking Refusal → Outcome Figures
 outcome_of (Err WorkLimitExceeded) = spent
 outcome_of (Ok w) = left (so_far w) w.remaining
 
@@ -39,5 +39,5 @@ unfoldable pub nearer_first : Subtree → Subtree → Halves
 nearer_first l r = cond (lt r.lower l.lower) (record { nearer = r; farther = l }) (record { nearer = l; farther = r })
 
 -- the answer of a call whose checks passed and whose walks returned r
-abbrev pub Answers : (Result Walking Refusal) → ℕ → (Result EdgeNodeClearance Refusal) → Type 0
+abbrev pub Answers : Result Walking Refusal → ℕ → Result EdgeNodeClearance Refusal → Type 0
 Answers r allowance a = a ≡ reply accepted (Err WorkLimitExceeded) allowance (outcome_of r)

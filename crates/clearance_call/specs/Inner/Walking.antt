@@ -69,12 +69,12 @@ pub record NetMarks (marks groups w : List ℕ) : Type 0 where
   pub room : length w ≤ 9 * length groups
 
 -- what the walk over them returns, for every segment with the box p
-abbrev pub Walks : List Exemption → Float → List ℕ → ℕ → ℕ → Aabb → ℕ → Walking → (Result Walking Refusal) → Type 0
+abbrev pub Walks : List Exemption → Float → List ℕ → ℕ → ℕ → Aabb → ℕ → Walking → Result Walking Refusal → Type 0
 Walks ex threshold w i n p net state r =
     (s : Segment) → segment_box s ≡ p → s.net ≡ net → (k : ℕ) → n ≤ k → outcome_of r ≡ within state.remaining (walk ex threshold s (stored_tree k w i n) (so_far state))
 
 -- the step at a part whose leaves were visited: the part is done, or the walk stopped there
-abbrev pub step_of : (Result Walking Refusal) → Step
+abbrev pub step_of : Result Walking Refusal → Step
 step_of (Err WorkLimitExceeded) = Stopped
 step_of (Ok v) = Done v
 

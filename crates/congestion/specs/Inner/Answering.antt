@@ -5,7 +5,7 @@ use Rattle.floats.specs.Values.{plus_zero}
 use Rattle.drawing.specs.declared.refusal.Refusal.TheVariants.{WorkLimitExceeded}
 
 -- the answer of a call whose checks passed, for this total length
-unfoldable pub answer_of : (Result Found Refusal) → Float → ℕ → (Result CongestionReport Refusal)
+unfoldable pub answer_of : Result Found Refusal → Float → ℕ → Result CongestionReport Refusal
 answer_of (Ok f) total allowance = Ok (record {
   congestion = record { total_length = total; congested_length = f.congested_length; pair_overlap_length = f.pair_overlap_length; peak_close_neighbors = f.peak_close_neighbors };
   minimum_positive = f.minimum_positive;
@@ -14,7 +14,7 @@ answer_of (Ok f) total allowance = Ok (record {
 answer_of (Err WorkLimitExceeded) total allowance = Err WorkLimitExceeded
 
 -- an answer with pair overlap and peak zero
-abbrev pub answer_without_density : (Result CongestionReport Refusal) → (Result CongestionReport Refusal)
+abbrev pub answer_without_density : Result CongestionReport Refusal → Result CongestionReport Refusal
 answer_without_density (Ok r) = Ok (record {
   congestion = record { total_length = r.congestion.total_length; congested_length = r.congestion.congested_length; pair_overlap_length = plus_zero; peak_close_neighbors = 0 };
   minimum_positive = r.minimum_positive;

@@ -1,6 +1,5 @@
 -- What laws and inner contracts cite: words that hold coordinates, and least gaps that floats can hold.
-use Rattle.std.specs.Prelude.{◌≡◌, ℕ, ◌^◌, ◌<◌, T}
-use Rattle.std.proofs.Math.Option.{Option, none, some}
+use Rattle.std.specs.Prelude.{◌≡◌, ℕ, ◌^◌, ◌<◌, T, Option, None, Some}
 use Rattle.floats.specs.Values.{canonical_zero}
 use Rattle.floats.specs.TotalOrder.{float_at}
 use Rattle.floats.specs.Grid.{on_grid, unit}
@@ -13,5 +12,5 @@ pub record Key (w u : ℕ) : Type 0 where
 
 -- a least gap of 64ths that a float can hold
 abbrev pub Representable : Option ℕ → Type 0
-Representable none = Unit {0}
-Representable (some n) = n < 2 ^ 53
+Representable None = Unit {0}
+Representable (Some n) = n < 2 ^ 53

@@ -1,8 +1,7 @@
 -- What only inner contracts cite: an event's wire meets the active wires within the cutoff, one visit each.
 use Rattle.drawing.specs.declared.refusal.Refusal.TheVariants.{WorkLimitExceeded}
 use Rattle.drawing.specs.declared.refusal.Refusal.{Refusal}
-use Rattle.std.specs.Prelude.{◌≡◌, Bool, true, false, ◌&&◌, cond, List, map, ℕ, ◌+◌, ◌-◌, ◌*◌, ◌≤◌, ◌<◌, max, eqb, ltb, Float, length, get_or, take, drop, set, Option, Result, Ok, Err}
-use Rattle.std.proofs.Math.Option.{Option, none, some}
+use Rattle.std.specs.Prelude.{◌≡◌, Bool, true, false, ◌&&◌, cond, List, map, ℕ, ◌+◌, ◌-◌, ◌*◌, ◌≤◌, ◌<◌, max, eqb, ltb, Float, length, get_or, take, drop, set, Option, Result, Ok, Err, None, Some}
 use Rattle.std.specs.Float.{nan}
 use Rattle.std.specs.Float.Ieee.{lt}
 use Rattle.laws.specs.Lists.{Mem, bit, fold, count}
@@ -33,7 +32,7 @@ pub record Meetable (starts : Bool) (s : List ℕ) (n j : ℕ) : Type 0 where
   pub stored : Stored L st (drop (8 * n) s)
   pub room : 10 * n + 1 ≤ length s
   pub counts : (i : ℕ) → i < n → get_or s (8 * n + i) 0 ≤ 4096
-  pub some : starts ≡ false → (r : WireState) → Mem r st.wires → neighbor c (item_at L j).wire r ≡ true → 1 ≤ r.neighbors
+  pub Some : starts ≡ false → (r : WireState) → Mem r st.wires → neighbor c (item_at L j).wire r ≡ true → 1 ≤ r.neighbors
 
 -- the scratch s became t: only counts changed
 pub record CountsOnly (n : ℕ) (s t : List ℕ) : Type 0 where
@@ -58,13 +57,13 @@ topmost false p l = 0
 
 -- a least gap of 64ths as a float, a NaN where there is none yet
 abbrev pub least_float : Option ℕ → Float
-least_float none = nan
-least_float (some n) = of_units n
+least_float None = nan
+least_float (Some n) = of_units n
 
-abbrev pub Meets : Bool → List ℕ → List ℕ → ℕ → ℕ → Float → ℕ → (Result Meeting Refusal) → Type 0
+abbrev pub Meets : Bool → List ℕ → List ℕ → ℕ → ℕ → Float → ℕ → Result Meeting Refusal → Type 0
 Meets starts s t n j least allowance r =
     (c : ℕ) (L : List Wire) (st : State) (m : Option ℕ) → length L ≡ n → Tabled c L s → Stored L st (drop (8 * n) s) → least ≡ least_float m → Representable m
-    → (allowance < visits_of c L j st → r ≡ (Err WorkLimitExceeded))
+    → (allowance < visits_of c L j st → r ≡ Err WorkLimitExceeded)
     × (visits_of c L j st ≤ allowance
     → (r ≡ Ok (record {
       neighbors = neighbors c (item_at L j) st;
@@ -100,7 +99,7 @@ paid t = record { neighbors = t.neighbors; changed = t.changed; highest = t.high
 pub record Countable (s : List ℕ) (at : ℕ) (starts : Bool) (t : Meeting) : Type 0 where
   pub inside : at < length s
   pub small : get_or s at 0 ≤ 4096
-  pub some : starts ≡ false → 1 ≤ get_or s at 0
+  pub Some : starts ≡ false → 1 ≤ get_or s at 0
   pub neighbors : t.neighbors ≤ 4096
   pub changed : t.changed ≤ 4096
   pub remaining : 1 ≤ t.remaining
@@ -111,7 +110,7 @@ pub record Visitable (s : List ℕ) (n i net : ℕ) (starts : Bool) (t : Meeting
   pub inside : i < n
   pub room : 9 * n ≤ length s
   pub small : get_or s (8 * n + i) 0 ≤ 4096
-  pub some : starts ≡ false → (get_or s (5 * n + i) 0 ≡ net → ⊥) → 1 ≤ get_or s (8 * n + i) 0
+  pub Some : starts ≡ false → (get_or s (5 * n + i) 0 ≡ net → ⊥) → 1 ≤ get_or s (8 * n + i) 0
   pub neighbors : t.neighbors ≤ 4096
   pub changed : t.changed ≤ 4096
   pub remaining : 1 ≤ t.remaining

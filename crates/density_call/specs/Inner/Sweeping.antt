@@ -109,7 +109,7 @@ pub record AtEvent (s : List ℕ) (n e : ℕ) (state : Sweeping) : Type 0 where
   pub due : Due c st (event_at L e)
 
 -- the sweep continued to the state st, with the scratch t and m remaining visits
-pub record Onward (c : ℕ) (L : List Wire) (n : ℕ) (st : State) (t : List ℕ) (m : ℕ) (r : (Result Sweeping Refusal)) : Type 0 where
+pub record Onward (c : ℕ) (L : List Wire) (n : ℕ) (st : State) (t : List ℕ) (m : ℕ) (r : Result Sweeping Refusal) : Type 0 where
   pub to : Sweeping
   pub went : r ≡ Ok to
   pub remaining : to.remaining ≡ m
@@ -118,12 +118,12 @@ pub record Onward (c : ℕ) (L : List Wire) (n : ℕ) (st : State) (t : List ℕ
   pub stored : Stored L st (drop (8 * n) t)
 
 -- the outcome of the event e in the state st, with m remaining visits: a step of the sweep, where its visits can be paid; the scratch becomes t
-abbrev pub Steps : ℕ → List Wire → ℕ → State → WireEvent → List ℕ → ℕ → (Result Sweeping Refusal) → Type 0
+abbrev pub Steps : ℕ → List Wire → ℕ → State → WireEvent → List ℕ → ℕ → Result Sweeping Refusal → Type 0
 Steps c L n st e t m r =
-    (m < (step c st e).cost → r ≡ (Err WorkLimitExceeded)) × ((step c st e).cost ≤ m → Onward c L n (step c st e).value t (m - (step c st e).cost) r)
+    (m < (step c st e).cost → r ≡ Err WorkLimitExceeded) × ((step c st e).cost ≤ m → Onward c L n (step c st e).value t (m - (step c st e).cost) r)
 
 -- event e of n wires: the scratch s becomes t
-abbrev pub Handles : List ℕ → List ℕ → ℕ → ℕ → Sweeping → (Result Sweeping Refusal) → Type 0
+abbrev pub Handles : List ℕ → List ℕ → ℕ → ℕ → Sweeping → Result Sweeping Refusal → Type 0
 Handles s t n e state r = (a : AtEvent s n e state) → Steps a.c a.L n a.st (event_at a.L e) t state.remaining r
 
 -- ---- the sweep may begin: the tables are made, and the words after them are cleared
@@ -140,8 +140,8 @@ pub record AtFirst (s : List ℕ) (n : ℕ) : Type 0 where
   pub alike : (v w : Wire) → Mem v L → Mem w L → beq v.horizontal w.horizontal ≡ true
 
 -- the code's answer for the outcome of a sweep within the allowance
-unfoldable pub swept_of : Outcome State → (Result Found Refusal)
-swept_of spent = (Err WorkLimitExceeded)
+unfoldable pub swept_of : Outcome State → Result Found Refusal
+swept_of spent = Err WorkLimitExceeded
 swept_of (left st m) = Ok (record {
   congested_length = of_units st.congested_length;
   pair_overlap_length = of_units st.pair_overlap_length;

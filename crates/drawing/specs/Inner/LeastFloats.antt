@@ -8,7 +8,7 @@ abbrev pub Number : Float → Type 0
 Number x = T (not (is_nan x))
 
 -- the gap that such a float encodes
-unfoldable pub gap_of_float : Float → (Option Float)
+unfoldable pub gap_of_float : Float → Option Float
 gap_of_float nan = None
 gap_of_float (inf s) = Some (inf s)
 gap_of_float (fin s m e) = Some (fin s m e)

@@ -1,7 +1,7 @@
 -- On the notion of specs/TotalOrder.antt: what only contracts of inner functions and proofs cite.
 use Rattle.std.specs.Prelude.{ℕ, cond}
-use Rattle.floats.specs.declared.total_order.Ordering.{Ordering}
-use Rattle.floats.specs.declared.total_order.Ordering.TheVariants.{Less, Equal, Greater}
+use Rattle.std.specs.declared.cmp.Ordering.{Ordering}
+use Rattle.std.specs.declared.cmp.Ordering.TheVariants.{Less, Equal, Greater}
 use Rattle.floats.specs.TotalOrder.{total_order}
 
 -- two patterns compared: less where totalOrder(b, a) does not hold, equal where totalOrder holds both ways

@@ -6,18 +6,18 @@ use Rattle.drawing.specs.Conditions.{differ}
 use Rattle.drawing.specs.Checks.{nodes_differ}
 use Rattle.list_checks.proofs.nodes_differ.Goals as goal
 
-pub returns-then-n-x : goal.returns-then-n-x
+pub returns-then-n-nodes : goal.returns-then-n-nodes
 unfolding nodes_differ differ some_of
-returns-then-n-x c = rw (ne_eqb _ _ c.if-n-x.true)
+returns-then-n-nodes c = rw (ne_eqb _ _ c.if-n-nodes.true)
 
-pub returns-then-n-y : goal.returns-then-n-y
+pub returns-then-n-nodes-2 : goal.returns-then-n-nodes-2
 unfolding nodes_differ differ some_of
-returns-then-n-y c = rw (eq-eqb _ _ c.if-n-x.false, ne_eqb _ _ c.if-n-y.true)
+returns-then-n-nodes-2 c = rw (eq-eqb _ _ c.if-n-nodes.false, ne_eqb _ _ c.if-n-nodes-2.true)
 
-pub returns-then-n-width : goal.returns-then-n-width
+pub returns-then-n-nodes-3 : goal.returns-then-n-nodes-3
 unfolding nodes_differ differ some_of
-returns-then-n-width c = rw (eq-eqb _ _ c.if-n-x.false, eq-eqb _ _ c.if-n-y.false, ne_eqb _ _ c.if-n-width.true)
+returns-then-n-nodes-3 c = rw (eq-eqb _ _ c.if-n-nodes.false, eq-eqb _ _ c.if-n-nodes-2.false, ne_eqb _ _ c.if-n-nodes-3.true)
 
 pub returns : goal.returns
 unfolding nodes_differ differ some_of
-returns c = rw (eq-eqb _ _ c.if-n-x.false, eq-eqb _ _ c.if-n-y.false, eq-eqb _ _ c.if-n-width.false) (or_false _)
+returns c = rw (eq-eqb _ _ c.if-n-nodes.false, eq-eqb _ _ c.if-n-nodes-2.false, eq-eqb _ _ c.if-n-nodes-3.false) (or_false _)

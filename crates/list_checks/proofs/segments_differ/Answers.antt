@@ -6,18 +6,18 @@ use Rattle.drawing.specs.Conditions.{differ}
 use Rattle.drawing.specs.Checks.{segments_differ}
 use Rattle.list_checks.proofs.segments_differ.Goals as goal
 
-pub returns-then-n-orientation : goal.returns-then-n-orientation
+pub returns-then-n-segments : goal.returns-then-n-segments
 unfolding segments_differ differ some_of
-returns-then-n-orientation c = rw (ne_eqb _ _ c.if-n-orientation.true)
+returns-then-n-segments c = rw (ne_eqb _ _ c.if-n-segments.true)
 
-pub returns-then-n-fixed : goal.returns-then-n-fixed
+pub returns-then-n-segments-2 : goal.returns-then-n-segments-2
 unfolding segments_differ differ some_of
-returns-then-n-fixed c = rw (eq-eqb _ _ c.if-n-orientation.false, ne_eqb _ _ c.if-n-fixed.true)
+returns-then-n-segments-2 c = rw (eq-eqb _ _ c.if-n-segments.false, ne_eqb _ _ c.if-n-segments-2.true)
 
-pub returns-then-n-start : goal.returns-then-n-start
+pub returns-then-n-segments-3 : goal.returns-then-n-segments-3
 unfolding segments_differ differ some_of
-returns-then-n-start c = rw (eq-eqb _ _ c.if-n-orientation.false, eq-eqb _ _ c.if-n-fixed.false, ne_eqb _ _ c.if-n-start.true)
+returns-then-n-segments-3 c = rw (eq-eqb _ _ c.if-n-segments.false, eq-eqb _ _ c.if-n-segments-2.false, ne_eqb _ _ c.if-n-segments-3.true)
 
 pub returns : goal.returns
 unfolding segments_differ differ some_of
-returns c = rw (eq-eqb _ _ c.if-n-orientation.false, eq-eqb _ _ c.if-n-fixed.false, eq-eqb _ _ c.if-n-start.false) (or_false _)
+returns c = rw (eq-eqb _ _ c.if-n-segments.false, eq-eqb _ _ c.if-n-segments-2.false, eq-eqb _ _ c.if-n-segments-3.false) (or_false _)

@@ -20,7 +20,7 @@ abbrev pub at_start : ℕ → Sweeping
 at_start allowance = record { minimum = nan; minimum_positive = nan; remaining = allowance }
 
 -- the outcome of a run within the allowance, from the code's answer while the sweep runs
-unfoldable pub outcome_of : (Result Sweeping Refusal) → Outcome Figures
+unfoldable pub outcome_of : Result Sweeping Refusal → Outcome Figures
 outcome_of (Err WorkLimitExceeded) = spent
 outcome_of (Ok s) = left (met_by s) s.remaining
 
@@ -33,8 +33,8 @@ abbrev pub found_by : Found → Figures
 found_by f = record { least = f.minimum; least_nonzero = f.minimum_positive }
 
 -- the code's answer for the outcome of one whole sweep, or of both, within the allowance
-unfoldable pub swept_of : Outcome Figures → (Result Found Refusal)
-swept_of spent = (Err WorkLimitExceeded)
+unfoldable pub swept_of : Outcome Figures → Result Found Refusal
+swept_of spent = Err WorkLimitExceeded
 swept_of (left f m) = Ok (record { minimum = f.least; minimum_positive = f.least_nonzero; remaining = m })
 
 -- a gap joins both figures, as in `other_line` of Walk.antt
@@ -46,12 +46,12 @@ abbrev pub gap_met : Float → ℕ → Sweeping → Sweeping
 gap_met gap m s = record { minimum = least_with s.minimum gap; minimum_positive = least_with s.minimum_positive gap; remaining = m }
 
 -- the figures of a state, with the remaining visits after a `set`
-abbrev pub charged_to : Sweeping → (Result ℕ Refusal) → (Result Sweeping Refusal)
-charged_to s (Err WorkLimitExceeded) = (Err WorkLimitExceeded)
+abbrev pub charged_to : Sweeping → (Result ℕ Refusal) → Result Sweeping Refusal
+charged_to s (Err WorkLimitExceeded) = Err WorkLimitExceeded
 charged_to s (Ok m) = Ok (record { minimum = s.minimum; minimum_positive = s.minimum_positive; remaining = m })
 
 -- the answer of a call whose checks passed and whose walk ended with r
-abbrev pub Answers : (Result Found Refusal) → ℕ → (Result ParallelSeparation Refusal) → Type 0
+abbrev pub Answers : Result Found Refusal → ℕ → Result ParallelSeparation Refusal → Type 0
 Answers r allowance a = (o : Outcome Figures) → r ≡ swept_of o → a ≡ reply accepted (Err WorkLimitExceeded) allowance o
 
 -- the allowance is below five visits for each segment that is swept, the least that they cost

@@ -22,7 +22,7 @@ other_net_of (left b m) = Known b m
 
 -- the answer of a `set`, by the outcome of its run within an allowance
 unfoldable pub charge_of : Outcome (Unit {0}) → (Result ℕ Refusal)
-charge_of spent = (Err WorkLimitExceeded)
+charge_of spent = Err WorkLimitExceeded
 charge_of (left u m) = Ok m
 
 -- ---- the nodes of a tree of H levels: node k over h levels, whose first leaf is s

@@ -2,7 +2,6 @@
 -- After the tables of one orientation's n segments (9 n words) come the words that the sweep changes: 3 n that count the active nets, and the tree.
 use Rattle.drawing.specs.declared.refusal.Refusal.{Refusal}
 use Rattle.std.specs.Prelude.{◌≡◌, List, [], ◌∷◌, ℕ, ◌+◌, ◌*◌, ◌^◌, ◌≤◌, ◌<◌, length, get_or, take, drop, Option, Result, Ok}
-use Rattle.std.proofs.Math.Option.{Option}
 use Rattle.laws.specs.Lists.{Mem}
 use Rattle.laws.specs.Inner.Sort.{Sorted}
 use Rattle.laws.specs.Inner.Allowance.{Outcome, left, within, onward}
@@ -56,7 +55,7 @@ pub record Lined (ls : List ℕ) (H : ℕ) (active : List Row) (x : Row) (line n
   pub of : x.net ≡ net
   pub gaps : Gapped ls
 
-abbrev pub WithNearest : List ℕ → List ℕ → ℕ → ℕ → ℕ → Sweeping → (Result Sweeping Refusal) → Type 0
+abbrev pub WithNearest : List ℕ → List ℕ → ℕ → ℕ → ℕ → Sweeping → Result Sweeping Refusal → Type 0
 WithNearest tree fixed leaves line net state r =
     (ls : List ℕ) (H : ℕ) (active : List Row) (x : Row) → leaves ≡ 2 ^ H → Covers ls active (summary_at tree) H → take (length ls) fixed ≡ ls → Lined ls H active x line net
     → outcome_of r ≡ within state.remaining (with_nearest ls H active (met_by state) x)
@@ -87,16 +86,16 @@ pub record Leavable (n leaves slot line net : ℕ) (w : List ℕ) : Type 0 where
   pub inside : line < leaves
 
 -- a `set` is paid from the remaining visits, and the figures stay
-abbrev pub Pays : ℕ → Sweeping → (Result Sweeping Refusal) → Type 0
+abbrev pub Pays : ℕ → Sweeping → Result Sweeping Refusal → Type 0
 Pays leaves state r = (H : ℕ) → leaves ≡ 2 ^ H → outcome_of r ≡ onward (within state.remaining (set_run H)) (λ done m. left (met_by state) m)
 
 -- a segment is entered, or taken out: where the `set` was paid the words w became v
-abbrev pub Entered : ℕ → ℕ → ℕ → ℕ → ℕ → List ℕ → List ℕ → (Result Sweeping Refusal) → Type 0
+abbrev pub Entered : ℕ → ℕ → ℕ → ℕ → ℕ → List ℕ → List ℕ → Result Sweeping Refusal → Type 0
 Entered n leaves slot line net w v r =
     (b : ℕ) (ls : List ℕ) (H : ℕ) (line_of net_of slot_of : ℕ → ℕ) (active : List Row) (x : Row) (j : ℕ) (to : Sweeping) → leaves ≡ 2 ^ H → At n ls line_of net_of slot_of x j slot line net
     → Working n b ls H line_of net_of slot_of active w → r ≡ Ok to → Working n (b + 1) ls H line_of net_of slot_of (x ∷ active) v
 
-abbrev pub TakenOut : ℕ → ℕ → ℕ → ℕ → ℕ → List ℕ → List ℕ → (Result Sweeping Refusal) → Type 0
+abbrev pub TakenOut : ℕ → ℕ → ℕ → ℕ → ℕ → List ℕ → List ℕ → Result Sweeping Refusal → Type 0
 TakenOut n leaves slot line net w v r =
     (b : ℕ) (ls : List ℕ) (H : ℕ) (line_of net_of slot_of : ℕ → ℕ) (active : List Row) (x : Row) (j : ℕ) (to : Sweeping) → leaves ≡ 2 ^ H → At n ls line_of net_of slot_of x j slot line net
     → Working n b ls H line_of net_of slot_of active w → Mem x active → r ≡ Ok to → Working n (b + 1) ls H line_of net_of slot_of (remove x active) v
@@ -137,13 +136,13 @@ abbrev pub figures_of : Outcome Sweep → Outcome Figures
 figures_of o = onward o (λ t m. left t.met m)
 
 -- what a start makes of the scratch s, which becomes t, and of the state
-abbrev pub Begins : List ℕ → List ℕ → ℕ → ℕ → ℕ → Sweeping → (Result Sweeping Refusal) → Type 0
+abbrev pub Begins : List ℕ → List ℕ → ℕ → ℕ → ℕ → Sweeping → Result Sweeping Refusal → Type 0
 Begins s t n leaves j state r =
     (l : List Row) (F : List ℕ) (H b : ℕ) (active : List Row) → length l ≡ n → leaves ≡ 2 ^ H → Ready l F H b active s
     → (outcome_of r ≡ figures_of (within state.remaining (starts_at (lines l) H (record { active = active; met = met_by state }) (row_from l j))))
     × ((to : Sweeping) → r ≡ Ok to → Ready l F H (b + 1) (row_from l j ∷ active) t)
 
-abbrev pub Finishes : List ℕ → List ℕ → ℕ → ℕ → ℕ → Sweeping → (Result Sweeping Refusal) → Type 0
+abbrev pub Finishes : List ℕ → List ℕ → ℕ → ℕ → ℕ → Sweeping → Result Sweeping Refusal → Type 0
 Finishes s t n leaves j state r =
     (l : List Row) (F : List ℕ) (H b : ℕ) (active : List Row) → length l ≡ n → leaves ≡ 2 ^ H → Ready l F H b active s → Mem (row_from l j) active
     → (outcome_of r ≡ figures_of (within state.remaining (ends_at H (record { active = active; met = met_by state }) (row_from l j))))
@@ -163,7 +162,7 @@ pub record AtEvent (s : List ℕ) (n leaves e : ℕ) : Type 0 where
   pub early : b < 8192
   pub there : e < n → Mem (row_from l e) active
 
-abbrev pub Handles : List ℕ → List ℕ → ℕ → ℕ → ℕ → Sweeping → (Result Sweeping Refusal) → Type 0
+abbrev pub Handles : List ℕ → List ℕ → ℕ → ℕ → ℕ → Sweeping → Result Sweeping Refusal → Type 0
 Handles s t n leaves e state r =
     (l : List Row) (F : List ℕ) (H b : ℕ) (active : List Row) → length l ≡ n → leaves ≡ 2 ^ H → Ready l F H b active s → (e < n → Mem (row_from l e) active)
     → let c = step (lines l) H (record { active = active; met = met_by state }) (event_from l e) in

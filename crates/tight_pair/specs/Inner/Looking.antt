@@ -8,7 +8,7 @@ use Rattle.boxes.specs.Boxes.{node_box, segment_box, distance}
 use Rattle.clearance.specs.Figures.{exempt}
 
 -- the distance is strictly below the least so far
-unfoldable pub nearer : Float → (Option Float) → Bool
+unfoldable pub nearer : Float → Option Float → Bool
 nearer d None = true
 nearer d (Some least) = lt d least
 

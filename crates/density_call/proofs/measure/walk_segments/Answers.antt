@@ -26,7 +26,7 @@ record Ready (s : SegmentColumns) (cutoff : Float) (words : ℕ) : Type 0 where
   sweeps : Cutoff cutoff
   rows_of : (o : ℕ) → AtColumns words o s
 
-ready : (s : SegmentColumns) (cutoff : Float) (words : ℕ) → first_of (congestion_conditions s cutoff words) ≡ (Ok tt) → le cutoff plus_zero ≡ false
+ready : (s : SegmentColumns) (cutoff : Float) (words : ℕ) → first_of (congestion_conditions s cutoff words) ≡ Ok tt → le cutoff plus_zero ≡ false
     → ((i : ℕ) → Binary64 (get_or s.fixed i nan)) → ((i : ℕ) → Binary64 (get_or s.start i nan)) → ((i : ℕ) → Binary64 (get_or s.end i nan)) → Ready s cutoff words
 ready s cutoff words passed above f b e =
     let held : All SegmentHeld (segments s) = segments-held s (agree s cutoff words passed) f b e in

@@ -4,14 +4,14 @@ use mathlib.Core.Path.{ap}
 use Rattle.drawing.specs.Gaps.{lesser_gap}
 use Rattle.drawing.proofs.gap.minimum_option.Goals as goal
 
-pub returns-in-Absent : goal.returns-in-Absent
+pub returns-in-Some-Some : goal.returns-in-Some-Some
 unfolding lesser_gap
-returns-in-Absent c = rw c.in-Absent.is
+returns-in-Some-Some c = rw (c.in-Some-Some.is-0, c.in-Some-Some.is-1) (ap Some c.lesser.ensures)
 
-pub returns-in-Absent-right : goal.returns-in-Absent-right
+pub returns-in-None-default : goal.returns-in-None-default
 unfolding lesser_gap
-returns-in-Absent-right c = rw (c.in-Present.is, c.in-Absent-right.is)
+returns-in-None-default c = rw c.in-None-default.is-0
 
-pub returns-in-Present-right : goal.returns-in-Present-right
+pub returns-in_default-None : goal.returns-in_default-None
 unfolding lesser_gap
-returns-in-Present-right c = rw (c.in-Present.is, c.in-Present-right.is) (ap Some c.lesser.ensures)
+returns-in_default-None c = rw (c.in_default-None.is-0, c.in_default-None.is-1)
