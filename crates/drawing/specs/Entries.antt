@@ -2,16 +2,10 @@
 use Rattle.std.specs.Prelude.{List, [], ◌∷◌, map, ℕ, Float}
 use Rattle.floats.specs.Values.{lesser_of, greater_of}
 use Rattle.drawing.specs.declared.ends.Ends.{Ends}
+pub use Rattle.drawing.specs.declared.lists.Segment.{Segment}
 use Rattle.drawing.specs.declared.lists.Segments.{Segments}
 use Rattle.drawing.specs.declared.lists.Nodes.{Nodes}
 use Rattle.drawing.specs.declared.lists.Exemptions.{Exemptions}
-
-pub record Segment : Type 0 where
-  pub net : ℕ
-  pub orientation : ℕ
-  pub fixed : Float
-  pub start : Float
-  pub end : Float
 
 pub record Node : Type 0 where
   pub id : ℕ

@@ -1,5 +1,19 @@
 // The lists of a drawing as columns, as they are lent: a slice for each field of the entries. SCOPE 2.1 to 2.3, 2.5.
 // The columns of one list may differ in length. A call then refuses them (SCOPE 7.2).
+ghost use Rattle.std.specs.Prelude.{◌≡◌, ◌<◌, length};
+ghost use Rattle.drawing.specs.Entries.{lent_segments};
+ghost use Rattle.drawing.specs.Inner.Entries.{lent_at};
+ghost use Rattle.drawing.specs.Inner.Lengths.{SegmentsAgree};
+
+// A segment as an entry of these columns: the orientation byte is 1 where it is horizontal and 0 where it is vertical.
+#[derive(Clone, Copy)]
+pub struct Segment {
+    pub net: u32,
+    pub orientation: u8,
+    pub fixed: f64,
+    pub start: f64,
+    pub end: f64,
+}
 
 #[derive(Clone, Copy)]
 pub struct Segments<'a> {
@@ -8,6 +22,23 @@ pub struct Segments<'a> {
     pub fixed: &'a [f64],
     pub start: &'a [f64],
     pub end: &'a [f64],
+}
+
+impl Segments<'_> {
+    // The entry at index i, its ends as they are lent.
+    pub fn at(&self, i: usize) -> Segment
+        requires agree { SegmentsAgree (lent_segments self.now) }
+        requires in_bounds { i < length self.now.net.now }
+        ensures { result ≡ lent_at (lent_segments self.now) i }
+    {
+        Segment {
+            net: self.net[i],
+            orientation: self.orientation[i],
+            fixed: self.fixed[i],
+            start: self.start[i],
+            end: self.end[i],
+        }
+    }
 }
 
 #[derive(Clone, Copy)]

@@ -6,15 +6,7 @@ ghost use Rattle.rows.specs.Inner.Rows.{of_orientation, segments_to_sweep};
 fn count_oriented(orientation: &[u8], wanted: u8) -> usize
     ensures { result ≡ of_orientation wanted orientation.now }
 {
-    let mut n = 0;
-    let mut i = 0;
-    while i < orientation.len() {
-        if orientation[i] == wanted {
-            n += 1;
-        }
-        i += 1;
-    }
-    n
+    orientation.iter().filter(|byte| **byte == wanted).count()
 }
 
 fn at_least_two(n: usize) -> usize

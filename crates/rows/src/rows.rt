@@ -52,11 +52,7 @@ fn add_row(
 }
 
 // The rows of the segments with the wanted orientation byte, in a table that begins at the word net.len(). Returns how many there are.
-fn gather_rows(
-    p: &mut [u64],
-    wanted: u8,
-    segments: &Segments<'_>,
-) -> usize
+fn gather_rows(p: &mut [u64], wanted: u8, segments: &Segments<'_>) -> usize
     requires { Orderable (lent_segments segments.now) (length p.old) }
     ensures { Gathered (length segments.now.net.now) wanted (lent_segments segments.now) p.old p.new result }
 {
@@ -81,11 +77,7 @@ fn gather_rows(
 }
 
 // The indices of these rows in sorted order, in the first words of p, and from word segments.net.len() on the rows themselves. Returns how many there are. Where the columns differ in length or p is too short, it returns 0 and p is left as it is.
-pub fn order_rows(
-    p: &mut [u64],
-    wanted: u8,
-    segments: &Segments<'_>,
-) -> usize
+pub fn order_rows(p: &mut [u64], wanted: u8, segments: &Segments<'_>) -> usize
     ensures value { result ≡ row_count wanted (lent_segments segments.now) (length p.old) }
     ensures p_after { p.new ≡ rows_placed wanted (lent_segments segments.now) p.old }
 {
