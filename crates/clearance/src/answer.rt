@@ -5,7 +5,10 @@ use crate::report::EdgeNodeClearance;
 use crate::visit::Walking;
 use drawing::{Refusal, gap_of_float, visits_used};
 
-pub fn answer_of(walked: Result<Walking, Refusal>, allowance: usize) -> Result<EdgeNodeClearance, Refusal>
+pub fn answer_of(
+    walked: Result<Walking, Refusal>,
+    allowance: usize,
+) -> Result<EdgeNodeClearance, Refusal>
     ensures { Answers walked allowance result }
 {
     let state = walked?;

@@ -24,5 +24,17 @@ fn axis_below(a: f64, b: f64, c: f64, d: f64, threshold: f64) -> bool
 pub fn edges_below(bounds: Aabb, around: Aabb, threshold: f64) -> bool
     ensures { result ≡ edges_below bounds around threshold }
 {
-    axis_below(bounds.left, bounds.right, around.left, around.right, threshold) && axis_below(bounds.top, bounds.bottom, around.top, around.bottom, threshold)
+    axis_below(
+        bounds.left,
+        bounds.right,
+        around.left,
+        around.right,
+        threshold,
+    ) && axis_below(
+        bounds.top,
+        bounds.bottom,
+        around.top,
+        around.bottom,
+        threshold,
+    )
 }

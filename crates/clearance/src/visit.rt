@@ -29,7 +29,12 @@ pub fn at_start(allowance: usize) -> Walking
 }
 
 // The visit of a pair at the given distance: charged first, then counted unless the pair is exempt (SCOPE 5.7). The walk passes distances of boxes, which are numbers, and states whose violations and remaining visits together fit a word, so no count wraps.
-pub fn visit_pair(exempt: bool, distance: f64, threshold: f64, state: Walking) -> Result<Walking, Refusal>
+pub fn visit_pair(
+    exempt: bool,
+    distance: f64,
+    threshold: f64,
+    state: Walking,
+) -> Result<Walking, Refusal>
     ensures outcome { Number distance → state.violations + state.remaining < 2 ^ 64 → outcome_of result ≡ within state.remaining (visit (free (with_pair exempt threshold distance (so_far state)))) }
     ensures refusal { IfErr result (λ r. r ≡ WorkLimitExceeded) }
 {
