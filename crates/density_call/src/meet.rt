@@ -45,7 +45,11 @@ fn lower(starts: bool, count: u64, after: u64) -> u64
 fn highest_after(starts: bool, highest: usize, after: u64) -> usize
     ensures { result ≡ cond starts (max highest after) highest }
 {
-    if starts { highest.max(after as usize) } else { highest }
+    if starts {
+        highest.max(after as usize)
+    } else {
+        highest
+    }
 }
 
 // A neighbor, whose count is in word `at`.

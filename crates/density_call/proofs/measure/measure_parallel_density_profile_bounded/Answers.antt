@@ -5,7 +5,6 @@ use Prim.Native.Nat.{ℕ}
 use lib.Dec.{T}
 use lib.ListN.{replicate}
 use Rattle.drawing.specs.Entries.{lent_segments}
-use Rattle.drawing.proofs.ListOrders.{segments-held}
 use Rattle.drawing.proofs.FirstRefusal.{not_passed, refused-scratch, passed_scratch}
 use Rattle.congestion.proofs.Fitness.{agree}
 use Rattle.density_call.proofs.WholeCall.{refused-answer, passed_answer}
@@ -27,21 +26,10 @@ returns c =
     let told = c.in_ok-check_congestion.was in
     let check = c.check_congestion.ensures in
     let passed = sym check ∙ told in
-    let a0 : ℕ = {! c.well_formed.1 !} in
-    let a1 : ℕ = {! c.well_formed.0 !} in
-    let a2 : ℕ = {! c.well_formed.1.0 !} in
-    let a3 : ℕ = {! c.well_formed.1.1 !} in
-    let a4 : ℕ = {! c.well_formed.1.1.0 !} in
-    let a5 : ℕ = {! c.well_formed.1.1.1 !} in
-    let a6 : ℕ = {! c.well_formed.1.1.1.0 !} in
-    let a7 : ℕ = {! c.well_formed.1.1.1.1 !} in
-    let a8 : ℕ = {! c.well_formed.1.1.1.1.0 !} in
-    let a9 : ℕ = {! c.well_formed.1.1.1.1.1 !} in
-    let a10 : ℕ = {! c.well_formed.1.1.1.1.1.0 !} in
-    let held = segments-held s (agree s _ _ passed) ? ? ? in
+    let held = c.held.ensures (agree s _ _ passed) in
     let kept = ap (λ (k : ℕ). replicate {A = ℕ} k 0) c.walk_segments-swept.auto.scratch in
     let cleared = c.clear.ensures ∙ kept in (
       passed_answer s _ _ _ passed _ c.walk_segments-swept.ensures _ (c.total_length-total.ensures (agree s _ _ passed)) _ c.answer_of.ensures,
       passed_scratch _ _ _ _ check told cleared,
-      λ p. (held, ?),
+      λ p. (held, subst T (sym c.well_formed.1.0.1) tt),
     )
