@@ -40,10 +40,6 @@ use Rattle.density_call.proofs.RowPlaces.{row-there, row-place, rows-length, own
 use Rattle.density_call.proofs.Marking.{activated-front, activated-rows, deactivated-front, deactivated-rows}
 
 -- ---- numbers
-pub bit-small : (b : Bool) → bit b ≤ 1
-bit-small true = omega arith
-bit-small false = omega arith
-
 pub exact-count : (n : ℕ) → n ≤ 2 ^ 53 → T (in_float binary64 (pos n))
 unfolding in_float
 exact-count n h = le→leb n (2 ^ 53) h

@@ -57,9 +57,6 @@ pub record Filling (n : ℕ) (cutoff : Float) (s₀ s : List ℕ) (j : ℕ) (las
   pub done : (i : ℕ) → i < j → Found n cutoff s₀ i (get_or s (6 * n + i) 0) (get_or s (7 * n + i) 0)
 
 module _ (n : ℕ) (cutoff : Float) (s₀ : List ℕ) where
-  pub filling_start : Rangeable s₀ n → Filling n cutoff s₀ s₀ 0 (record { start = 0; end = 0 })
-  filling_start g = record { given = g; small = omega arith; near = record { start = omega arith; end = omega arith }; len = refl; kept = record { front = refl; behind = refl }; done = λ i h. absurd (omega arith) }
-
   module _ (s : List ℕ) (j : ℕ) (last : Range ℕ) (f : Filling n cutoff s₀ s j last) where
     -- column 4 as it is lent
     abbrev column : List ℕ
