@@ -91,20 +91,20 @@ module _ (words part : List ℕ) (a b v : ℕ) (e : part ≡ take (b - a) (drop 
   pub part_lower_bound : (i : ℕ) → i ≤ length part → (IsPartitionedBy (λ y. ltb y v) part → IsPartitionPoint (λ y. ltb y v ≡ true) (λ y. ltb y v ≡ false) part i) → Ascending (word_at words) a b → LowerBound (word_at words) a b v (a + i)
   part_lower_bound i g point o =
       let q = point (λ m n d p l t.
-          let x = part_get m d (omega (arith, part-length)) in
-          let y = part_get n d (omega (arith, part-length)) in
-          lt-ltb (get_or part m d) v (omega (arith, x, y, ltb-true (get_or part n d) v t, o (a + m) (a + n) (omega arith) (omega arith) (omega (arith, part-length))))) in
+      let x = part_get m d (omega (arith, part-length)) in
+      let y = part_get n d (omega (arith, part-length)) in
+      lt-ltb (get_or part m d) v (omega (arith, x, y, ltb-true (get_or part n d) v t, o (a + m) (a + n) (omega arith) (omega arith) (omega (arith, part-length))))) in
       record {
         from = omega arith;
         to = omega (arith, part-length);
         below = λ j p l.
-          let m : a + (j - a) ≡ j = omega arith in
-          let x = part_get (j - a) 0 (omega (arith, part-length)) in
-          subst (λ (z : ℕ). word_at words z < v) m (omega (arith, x, ltb-true (get_or part (j - a) 0) v (q.0 (j - a) 0 (omega arith) (omega arith))));
+            let m : a + (j - a) ≡ j = omega arith in
+            let x = part_get (j - a) 0 (omega (arith, part-length)) in
+            subst (λ (z : ℕ). word_at words z < v) m (omega (arith, x, ltb-true (get_or part (j - a) 0) v (q.0 (j - a) 0 (omega arith) (omega arith))));
         above = λ j p l.
-          let m : a + (j - a) ≡ j = omega arith in
-          let x = part_get (j - a) 0 (omega arith) in
-          subst (λ (z : ℕ). v ≤ word_at words z) m (omega (arith, x, ltb-false (get_or part (j - a) 0) v (q.1 (j - a) 0 (omega arith) (omega (arith, part-length)))));
+            let m : a + (j - a) ≡ j = omega arith in
+            let x = part_get (j - a) 0 (omega arith) in
+            subst (λ (z : ℕ). v ≤ word_at words z) m (omega (arith, x, ltb-false (get_or part (j - a) 0) v (q.1 (j - a) 0 (omega arith) (omega (arith, part-length)))));
       }
 
 -- for nodes the step is a quotient

@@ -93,9 +93,5 @@ pub fn is_exempt(words: &[u64], range: &Range<usize>, id: u32) -> bool
         return false;
     }
     let at = first_node(words, from, to, id);
-    if at < to {
-        words[at] % HALF == id as u64
-    } else {
-        false
-    }
+    at < to && words[at] % HALF == id as u64
 }
