@@ -4,7 +4,7 @@ ghost use Rattle.drawing.specs.Refusals.{first_of};
 ghost use Rattle.drawing.specs.Entries.{lent_segments};
 ghost use Rattle.separation.specs.Conditions.{separation_conditions};
 
-use drawing::Segments;
+use drawing::{Refusal, Segments};
 use list_checks::check_segments;
 
 // Separation takes segments, and a scratch whose length is `words`.
