@@ -37,7 +37,8 @@ pub(crate) fn box_at(
     requires { (i < length nodes.now.id.now) × NodesAgree (lent_nodes nodes.now) }
     ensures { result ≡ (indexed_at (lent_nodes nodes.now) i).bounds }
 {
-    Aabb::from_node(nodes.x[i], nodes.y[i], nodes.width[i], nodes.height[i])
+    let node = nodes.at(i);
+    Aabb::from_node(node.x, node.y, node.width, node.height)
 }
 
 // The box around the nodes whose indices are in the first n words.
@@ -50,10 +51,8 @@ fn hull_of(
     ensures { result ≡ box_from (lent_nodes nodes.now) (get_or s.now 0 0) (drop 1 (take n s.now)) }
 {
     let mut bounds = box_at(s[0] as usize, nodes);
-    let mut k = 1;
-    while k < n {
+    for k in 1..n {
         bounds = bounds.union(box_at(s[k] as usize, nodes));
-        k += 1;
     }
     bounds
 }

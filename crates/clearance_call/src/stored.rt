@@ -73,11 +73,10 @@ pub(crate) fn put_leaves(
     requires { Places words.old (length nodes.now.id.now) (lent_nodes nodes.now) × (length nodes.now.id.now ≤ r) × (r + 9 * length nodes.now.id.now ≤ length words.old) }
     ensures { LeavesPut words.old words.new r (length nodes.now.id.now) (lent_nodes nodes.now) }
 {
-    let mut k = 0;
-    while k < nodes.id.len() {
+    // By an index: the slice is written while its first words are read.
+    for k in 0..nodes.id.len() {
         let i = words[k] as usize;
         put_leaf(words, r + 9 * k, nodes.id[i], box_at(i, nodes));
-        k += 1;
     }
 }
 

@@ -7,6 +7,7 @@ ghost use Rattle.drawing.specs.Inner.Lengths.{NodesAgree, SegmentsAgree};
 ghost use Rattle.clearance.specs.Tree.{indexed_row};
 ghost use Rattle.clearance_call.specs.Inner.Tables.{node_row_at, segment_row_at, Filled, NodesFilled, SegmentsOrdered};
 
+use crate::order::box_at;
 use boxes::Aabb;
 use drawing::{Nodes, Segments, ends_in_order};
 use floats::key_of;
@@ -58,11 +59,8 @@ fn fill_node_table(
     requires { NodesAgree (lent_nodes nodes.now) × (at + 5 * length nodes.now.id.now ≤ length s.old) }
     ensures { Filled (node_row_at horizontal (lent_nodes nodes.now)) at (length nodes.now.id.now) s.old s.new }
 {
-    let mut i = 0;
-    while i < nodes.id.len() {
-        let bounds = Aabb::from_node(nodes.x[i], nodes.y[i], nodes.width[i], nodes.height[i]);
-        put_node(s, at + 5 * i, horizontal, nodes.id[i], bounds);
-        i += 1;
+    for i in 0..nodes.id.len() {
+        put_node(s, at + 5 * i, horizontal, nodes.id[i], box_at(i, nodes));
     }
 }
 
@@ -88,14 +86,13 @@ fn fill_segment_table(
     requires { SegmentsAgree (lent_segments segments.now) × (at + 5 * length segments.now.net.now ≤ length s.old) }
     ensures { Filled (segment_row_at (lent_segments segments.now)) at (length segments.now.net.now) s.old s.new }
 {
-    let mut i = 0;
-    while i < segments.net.len() {
-        let ends = ends_in_order(segments.start[i], segments.end[i]);
-        let f = key_of(segments.fixed[i]);
-        let b = key_of(ends.start);
-        let e = key_of(ends.end);
-        put_row(s, at + 5 * i, segments.net[i] as u64, segments.orientation[i] as u64, f, b, e);
-        i += 1;
+    for i in 0..segments.net.len() {
+        let segment = segments.at(i);
+        let ends = ends_in_order(segment.start, segment.end);
+        let fixed = key_of(segment.fixed);
+        let start = key_of(ends.start);
+        let end = key_of(ends.end);
+        put_row(s, at + 5 * i, u64::from(segment.net), u64::from(segment.orientation), fixed, start, end);
     }
 }
 
@@ -111,4 +108,5 @@ pub(crate) fn order_segments(
     places_in_front(s, n);
     fill_segment_table(s, n, segments);
     sort_indices(s, n, n, 5);
+    segments.held();
 }
