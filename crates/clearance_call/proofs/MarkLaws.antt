@@ -112,7 +112,7 @@ none-marked packed k net r own empty groups w ex holds count = record { leaf = �
 
 -- ---- the net is the same as before
 pub same_net : (before : Option ℕ) (net : ℕ) → option_eq eqb before (Some net) ≡ true → before ≡ Some net
-same_net None net e = clash true refl e
+same_net None net e = clash false e refl
 same_net (Some b) net e = ap Some (eqb-true b net e)
 
 pub still_marked : (marks groups w : List ℕ) (ex : List Exemption) (before : Option ℕ) (net : ℕ) → MarksIfAny marks groups w ex before → before ≡ Some net → MarksOf marks groups w ex net

@@ -80,14 +80,7 @@ pub fn measure_edge_node_clearance_bounded(
 {
     let words = scratch.len();
     check_clearance(segments, nodes, exemptions, threshold, words)?;
-    let walked = walk_segments(
-        segments,
-        nodes,
-        exemptions,
-        threshold,
-        allowance,
-        scratch,
-    );
+    let walked = walk_segments(segments, nodes, exemptions, threshold, allowance, scratch);
     clear(scratch);
     segments.held();
     nodes.held();

@@ -50,12 +50,7 @@ fn put_node(s: &mut [u64], at: usize, horizontal: bool, id: u32, bounds: Aabb)
 }
 
 // The nodes' rows along one axis, from `at` on.
-fn fill_node_table(
-    s: &mut [u64],
-    at: usize,
-    horizontal: bool,
-    nodes: &Nodes<'_>,
-)
+fn fill_node_table(s: &mut [u64], at: usize, horizontal: bool, nodes: &Nodes<'_>)
     requires { NodesAgree (lent_nodes nodes.now) × (at + 5 * length nodes.now.id.now ≤ length s.old) }
     ensures { Filled (node_row_at horizontal (lent_nodes nodes.now)) at (length nodes.now.id.now) s.old s.new }
 {
@@ -65,11 +60,7 @@ fn fill_node_table(
 }
 
 // The nodes' rows along the horizontal axis from `at` on, then those along the vertical one.
-pub(crate) fn fill_node_tables(
-    s: &mut [u64],
-    at: usize,
-    nodes: &Nodes<'_>,
-)
+pub(crate) fn fill_node_tables(s: &mut [u64], at: usize, nodes: &Nodes<'_>)
     requires { NodesAgree (lent_nodes nodes.now) × (at + 10 * length nodes.now.id.now ≤ length s.old) }
     ensures { NodesFilled (lent_nodes nodes.now) at s.old s.new }
 {
@@ -78,11 +69,7 @@ pub(crate) fn fill_node_tables(
 }
 
 // The segments' rows, from `at` on: net, orientation byte and the keys of fixed, start and end, the ends in rising order.
-fn fill_segment_table(
-    s: &mut [u64],
-    at: usize,
-    segments: &Segments<'_>,
-)
+fn fill_segment_table(s: &mut [u64], at: usize, segments: &Segments<'_>)
     requires { SegmentsAgree (lent_segments segments.now) × (at + 5 * length segments.now.net.now ≤ length s.old) }
     ensures { Filled (segment_row_at (lent_segments segments.now)) at (length segments.now.net.now) s.old s.new }
 {
@@ -92,15 +79,20 @@ fn fill_segment_table(
         let fixed = key_of(segment.fixed);
         let start = key_of(ends.start);
         let end = key_of(ends.end);
-        put_row(s, at + 5 * i, u64::from(segment.net), u64::from(segment.orientation), fixed, start, end);
+        put_row(
+            s,
+            at + 5 * i,
+            u64::from(segment.net),
+            u64::from(segment.orientation),
+            fixed,
+            start,
+            end,
+        );
     }
 }
 
 // The indices of the segments in the order of SCOPE 9.4, in the first words of s; their rows follow.
-pub(crate) fn order_segments(
-    s: &mut [u64],
-    segments: &Segments<'_>,
-)
+pub(crate) fn order_segments(s: &mut [u64], segments: &Segments<'_>)
     requires { SegmentsAgree (lent_segments segments.now) × (6 * length segments.now.net.now ≤ length s.old) }
     ensures { SegmentsOrdered (lent_segments segments.now) s.old s.new }
 {

@@ -18,8 +18,11 @@ ghost use Rattle.clearance_call.specs.Inner.Marks.{MarksOf};
 use crate::marks::is_marked;
 use crate::stored::fit_box_from;
 use boxes::Aabb;
+use clearance::{
+    Halves, Subtree, Walking, clearance_subtree_can_contribute, edges_below, nearer_first,
+    visit_pair,
+};
 use drawing::Refusal;
-use clearance::{Halves, Subtree, Walking, clearance_subtree_can_contribute, edges_below, nearer_first, visit_pair};
 
 // The box around the n leaves from leaf i on.
 pub(crate) fn bounds_of(words: &[u64], i: usize, n: usize) -> Aabb
