@@ -25,6 +25,7 @@ use Rattle.drawing.specs.Conditions.{short_output}
 use Rattle.drawing.specs.Checks.{segment_list_conditions}
 use Rattle.drawing.specs.Held.{SegmentsHeld}
 use Rattle.drawing.specs.Inner.Lengths.{SegmentsAgree}
+use Rattle.drawing.specs.Inner.Typed.{SegmentsTyped}
 use Rattle.drawing.specs.Outputs.{written_over}
 use Rattle.drawing.proofs.EntryLaws.{length-segments}
 use Rattle.drawing.proofs.ListOrders.{segments-all, segments-held}
@@ -38,7 +39,7 @@ use Rattle.joining.proofs.Canonical.{Canonical}
 use Rattle.joining.proofs.JoinedLists.{joined_canonical, joined-all, no_more}
 use Rattle.joining.specs.declared.piece.Piece.{Piece}
 use Rattle.joining.specs.Inner.Pieces.{piece_of, touches_piece, next_piece, join_pieces_from, joined_pieces}
-use Rattle.join_call.specs.Inner.Table.{entries_from, Typed, Lists, TableInOrder}
+use Rattle.join_call.specs.Inner.Table.{entries_from, Lists, TableInOrder}
 use Rattle.join_call.specs.declared.output.Output.{Output}
 use Rattle.join_call.specs.Inner.Output.{held, net_of, orientation_of, written_pieces, Room}
 use Rattle.join_call.specs.Inner.Rest.{rest_answer, rest_output}
@@ -195,10 +196,10 @@ module _ (c out : SegmentColumns) where
   passed r new p h e = let q = rest-is p in (e.0 ∙ q.0, e.1 ∙ q.1, λ z. h)
 
 -- ---- what the checks leave known
-pub held_of : (c : SegmentColumns) → first_of (segment_list_conditions c) ≡ Ok tt → Typed c.net c.fixed c.start c.end → SegmentsHeld c
+pub held_of : (c : SegmentColumns) → first_of (segment_list_conditions c) ≡ Ok tt → SegmentsTyped c → SegmentsHeld c
 held_of c e t = segments-held c (segment_list_passes c e).agree t.fixed t.start t.end
 
-pub lists_of : (c : SegmentColumns) (m : ℕ) → first_of (segment_list_conditions c) ≡ Ok tt → Typed c.net c.fixed c.start c.end → 5 * length c.net ≤ m → Lists c m
+pub lists_of : (c : SegmentColumns) (m : ℕ) → first_of (segment_list_conditions c) ≡ Ok tt → SegmentsTyped c → 5 * length c.net ≤ m → Lists c m
 lists_of c m e t r = let p = segment_list_passes c e in record { agree = p.agree; few = p.few-segments; fit = fit-segments (segments c) (held_of c e t) p.fit; typed = t; room = r }
 
 pub passes-few : (c : SegmentColumns) → first_of (segment_list_conditions c) ≡ Ok tt → length c.net ≤ 4096

@@ -9,7 +9,7 @@ ghost use Rattle.joining.specs.Answer.{join_answer, output_after};
 ghost use Rattle.joining.specs.Inner.Pieces.{joined_pieces};
 ghost use Rattle.join_call.specs.Inner.Rest.{rest_answer, rest_output};
 ghost use Rattle.join_call.specs.Inner.Output.{held, SameColumns};
-ghost use Rattle.join_call.specs.Inner.Table.{entries_from, Lists, Tabled, Typed};
+ghost use Rattle.join_call.specs.Inner.Table.{entries_from, Lists, Tabled};
 
 use crate::output::Output;
 use crate::table::{count_pieces, order_pieces};
@@ -49,11 +49,6 @@ fn join_by_table(
     })
 }
 
-// What the types of the columns say of their entries: nets have 32 bits, and floats are values of binary64. Only proofs use it: they know it of a slice that is passed by itself, and not of one in a struct.
-fn columns_typed(net: &[u32], fixed: &[f64], start: &[f64], end: &[f64])
-    ensures { Typed net.now fixed.now start.now end.now }
-{}
-
 // SCOPE 16: the fewest pieces that cover what the segments cover, in order, are written to the columns to_net to to_end. Nothing is written where the call is refused.
 // Five parameters and no struct of them: a struct that is passed by `&mut` could come back with other columns in it, so the contract would have to say of each that it is the one that was lent, and of a struct by value the check does not prove what its columns hold at the end.
 pub fn join(
@@ -71,7 +66,7 @@ pub fn join(
         × (first_of (segment_list_conditions lent) ≡ Ok tt → SegmentsHeld lent) }
 {
     check_segment_list(segments)?;
-    columns_typed(segments.net, segments.fixed, segments.start, segments.end);
+    segments.typed();
     let mut output = Output {
         net: to_net,
         orientation: to_orientation,

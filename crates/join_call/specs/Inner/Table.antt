@@ -1,12 +1,12 @@
 -- The table of n pieces in a slice of words: n indices, and behind them the pieces, four words each.
-use Rattle.std.specs.Prelude.{◌≡◌, List, [], ◌∷◌, map, ℕ, zero, suc, ◌+◌, ◌*◌, ◌≤◌, ◌<◌, length, get_or, take, drop, Float}
-use Rattle.std.specs.Float.{nan}
+use Rattle.std.specs.Prelude.{◌≡◌, List, [], ◌∷◌, map, ℕ, zero, suc, ◌+◌, ◌*◌, ◌≤◌, ◌<◌, length, get_or, take, drop}
 use Rattle.laws.specs.Lists.{All}
 use Rattle.laws.specs.Sort.{sort_by}
 use Rattle.drawing.specs.Entries.{SegmentColumns, segments}
 use Rattle.drawing.specs.Inner.Entries.{segment_at}
 use Rattle.drawing.specs.Inner.Lengths.{SegmentsAgree}
-use Rattle.drawing.specs.Held.{Binary64, FitSegment}
+use Rattle.drawing.specs.Inner.Typed.{SegmentsTyped}
+use Rattle.drawing.specs.Held.{FitSegment}
 use Rattle.joining.specs.declared.piece.Piece.{Piece}
 use Rattle.joining.specs.Inner.Pieces.{piece_of}
 use Rattle.joining.specs.Joined.{canonical_zeros, is_in_order}
@@ -28,19 +28,12 @@ unfoldable pub entries_from : ℕ → List ℕ → ℕ → ℕ → List Piece
 entries_from n a k zero = []
 entries_from n a k (suc m) = placed n a k ∷ entries_from n a (k + 1) m
 
--- what the types of columns say of their entries
-pub record Typed (nets : List ℕ) (lines starts ends : List Float) : Type 0 where
-  pub net : (i : ℕ) → get_or nets i 0 < 4294967296
-  pub fixed : (i : ℕ) → Binary64 (get_or lines i nan)
-  pub start : (i : ℕ) → Binary64 (get_or starts i nan)
-  pub end : (i : ℕ) → Binary64 (get_or ends i nan)
-
 -- segments that passed the checks, and m words, enough for a table of them
 pub record Lists (c : SegmentColumns) (m : ℕ) : Type 0 where
   pub agree : SegmentsAgree c
   pub few : length c.net ≤ 4096
   pub fit : All FitSegment (segments c)
-  pub typed : Typed c.net c.fixed c.start c.end
+  pub typed : SegmentsTyped c
   pub room : 5 * length c.net ≤ m
 
 -- the first i segments are in the table
