@@ -1,11 +1,9 @@
 -- The loop that copies the records of a list into columns: the first i records are in them. Assumes nothing.
-use Rattle.std.proofs.Common.{◌≡◌, Bool, true, false, ℕ, ◌+◌, ◌≤◌, ◌<◌, List, [], ◌∷◌, ◌++◌, map, length, get_or, set, take, min, refl, sym, ap, ◌∙◌, arith, Float}
-use Rattle.std.specs.Int.{from_bool}
+use Rattle.std.proofs.Common.{◌≡◌, ℕ, ◌+◌, ◌≤◌, ◌<◌, List, map, length, get_or, set, take, min, refl, sym, ap, ◌∙◌, arith}
 use Rattle.std.proofs.lemmas.List.{take_more, take_more_set, map-append, length-set, length-take, take-map, take_min, take_all}
 use Rattle.std.proofs.lemmas.Simd.{map-map}
-use Rattle.std.proofs.Math.Nat.{le_antisymm, min_comm}
+use Rattle.std.proofs.Math.Nat.{min_comm}
 use Rattle.drawing.specs.Entries.{Segment, segment_columns, columns_of}
-use Rattle.lines.specs.Orientation.{orientation_byte}
 
 -- the first i entries of a column are a field of the first i records
 pub record Copied {R A : Type 0} (field : R → A) (records : List R) (column : List A) (i : ℕ) : Type 0 where
@@ -28,14 +26,7 @@ module _ {R A : Type 0} (field : R → A) (records : List R) where
       let same : i ≡ n = omega (arith, length-take n records, e) in
       ap (λ k. take k column) (sym same) ∙ p.is ∙ ap (map field) (take_all i (take n records) large ∙ front)
 
--- the columns of segments that come from records, field by field
+-- the columns of the segments that records stand for, field by field
 pub columns_of-records : {R : Type 0} (segment : R → Segment) (n : ℕ) (records : List R) → columns_of (take n (map segment records)) ≡ segment_columns (map (λ (r : R). (segment r).net) (take n records)) (map (λ (r : R). (segment r).orientation) (take n records)) (map (λ (r : R). (segment r).fixed) (take n records)) (map (λ (r : R). (segment r).start) (take n records)) (map (λ (r : R). (segment r).end) (take n records))
 unfolding columns_of
 columns_of-records segment n records = simp (take-map, map-map)
-
-
--- the byte of a `bool`
-pub byte_of : (b : Bool) → from_bool b ≡ orientation_byte b
-unfolding orientation_byte
-byte_of true = refl
-byte_of false = refl

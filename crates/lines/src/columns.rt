@@ -1,4 +1,4 @@
-// The columns of a list of records. A call refuses more than 4,096 entries whatever they are (SCOPE 7.3), so the first 4,097 records are enough, and the columns need no heap.
+// The columns of a list of records. A call refuses more than 4,096 entries whatever they are (SCOPE 7.3), so the first 4,097 records are enough, and no heap is needed.
 ghost use Rattle.std.specs.Prelude.{◌≡◌, ◌≤◌, map, take};
 ghost use Rattle.drawing.specs.Entries.{SegmentColumns, segment_columns, lent_segments, columns_of};
 
@@ -6,9 +6,9 @@ use crate::record::SegmentRecord;
 use drawing::Segments;
 use std::marker::Model;
 
-// How many records are copied at most.
-pub const PLACES: usize = 4097;
+const PLACES: usize = 4097;
 
+#[derive(Drop)]
 pub struct Columns {
     count: usize,
     net: [u32; PLACES],
@@ -18,6 +18,7 @@ pub struct Columns {
     end: [f64; PLACES],
 }
 
+// The first `count` places of each column.
 impl Model for Columns {
     ghost Value = { SegmentColumns };
 
@@ -27,6 +28,7 @@ impl Model for Columns {
 }
 
 impl Columns {
+    // The columns of the list, or of its first 4,097 records.
     pub fn of<R: SegmentRecord>(records: &[R]) -> Columns
         ensures { result ≡ columns_of (take 4097 (map R.segment records.now)) }
     {
@@ -40,15 +42,17 @@ impl Columns {
             end: [0.0; PLACES],
         };
         for (i, record) in records[..count].iter().enumerate() {
-            columns.net[i] = record.net();
-            columns.orientation[i] = u8::from(record.is_horizontal());
-            columns.fixed[i] = record.fixed();
-            columns.start[i] = record.start();
-            columns.end[i] = record.end();
+            let segment = record.segment();
+            columns.net[i] = segment.net;
+            columns.orientation[i] = segment.orientation;
+            columns.fixed[i] = segment.fixed;
+            columns.start[i] = segment.start;
+            columns.end[i] = segment.end;
         }
         columns
     }
 
+    // As a call by columns takes them.
     pub fn segments(&self) -> Segments<'_>
         ensures { lent_segments result ≡ self.now }
     {
