@@ -31,10 +31,10 @@ pub(crate) fn start_net(c: &mut [u64], n: usize, slot: usize, line: usize, net: 
         let many = c[n + line];
         let total = c[2 * n + line];
         c[n + line] = many + 1;
-        c[2 * n + line] = total + net as u64;
+        c[2 * n + line] = total + u64::from(net);
     }
     c[slot] = count + 1;
-    line_summary(&c[0..], n, line)
+    line_summary(c, n, line)
 }
 
 // A segment ends: the last of its slot removes its net from the line.
@@ -48,8 +48,8 @@ pub(crate) fn end_net(c: &mut [u64], n: usize, slot: usize, line: usize, net: u3
         let many = c[n + line];
         let total = c[2 * n + line];
         c[n + line] = many - 1;
-        c[2 * n + line] = total - net as u64;
+        c[2 * n + line] = total - u64::from(net);
     }
     c[slot] = count - 1;
-    line_summary(&c[0..], n, line)
+    line_summary(c, n, line)
 }

@@ -5,30 +5,31 @@ use Prim.Native.Nat.{ℕ, zero, suc, ◌+◌, ◌-◌, ◌*◌, ◌/◌, ◌%◌
 use native.Mathlib.Nat.{pow-succ'}
 use native.Mathlib.Omega.{arith}
 use lib.ListN.{length, length-append}
+use Rattle.text.specs.declared.put.TextBuffer.{TextBuffer}
 use Rattle.text.specs.Text.{glyph, hexadecimal, leading, decimal}
 use Rattle.text.specs.Inner.TextPut.{Put}
 use Rattle.text.proofs.TextPuts.{put-none, put_both, put-within}
 
 -- ---- hexadecimal
-pub hexadecimal-none : (k n : ℕ) (s : List ℕ) (at : ℕ) → k ≡ 0 → Put k s at (hexadecimal k n) s at
+pub hexadecimal-none : (k n : ℕ) (b : TextBuffer) → k ≡ 0 → Put k b (hexadecimal k n) b
 unfolding hexadecimal
-hexadecimal-none zero n s at e = put-none 0 s at
-hexadecimal-none (suc k) n s at e = absurd (omega arith)
+hexadecimal-none zero n b e = put-none 0 b
+hexadecimal-none (suc k) n b e = absurd (omega arith)
 
-hexadecimal_next : (k j n d : ℕ) {s : List ℕ} {at : ℕ} {e : List ℕ} {m : ℕ} {f : List ℕ} {r : ℕ} → k ≡ suc j → Put j s at (hexadecimal j (n / 16)) e m → d ≡ glyph (n % 16) → Put 1 e m (d ∷ []) f r → Put k s at (hexadecimal k n) f r
+hexadecimal_next : (k j n d : ℕ) {b m e : TextBuffer} → k ≡ suc j → Put j b (hexadecimal j (n / 16)) m → d ≡ glyph (n % 16) → Put 1 m (d ∷ []) e → Put k b (hexadecimal k n) e
 unfolding hexadecimal
-hexadecimal_next k j n d {s} {at} {e} {m} {f} {r} h p g q =
-    let b : Put (j + 1) s at (hexadecimal (suc j) n) f r = put_both p (subst (λ (z : ℕ). Put 1 e m (z ∷ []) f r) g q) in
-    subst (λ (z : ℕ). Put z s at (hexadecimal z n) f r) (sym h) (put-within (omega arith) b)
+hexadecimal_next k j n d {b} {m} {e} h p g q =
+    let both : Put (j + 1) b (hexadecimal (suc j) n) e = put_both p (subst (λ (z : ℕ). Put 1 m (z ∷ []) e) g q) in
+    subst (λ (z : ℕ). Put z b (hexadecimal z n) e) (sym h) (put-within (omega arith) both)
 
-pub hexadecimal_more : (k n d : ℕ) {s : List ℕ} {at : ℕ} {e : List ℕ} {m : ℕ} {f : List ℕ} {r : ℕ} → (k ≡ 0 → ⊥) → Put (k - 1) s at (hexadecimal (k - 1) (n / 16)) e m → d ≡ glyph (n % 16) → Put 1 e m (d ∷ []) f r → Put k s at (hexadecimal k n) f r
+pub hexadecimal_more : (k n d : ℕ) {b m e : TextBuffer} → 0 < k → Put (k - 1) b (hexadecimal (k - 1) (n / 16)) m → d ≡ glyph (n % 16) → Put 1 m (d ∷ []) e → Put k b (hexadecimal k n) e
 hexadecimal_more k n d h p g q = hexadecimal_next k (k - 1) n d (omega arith) p g q
 
 -- ---- decimal
-pub leading-none : (n : ℕ) (s : List ℕ) (at : ℕ) → n ≡ 0 → Put (length (leading n n)) s at (leading n n) s at
+pub leading-none : (n : ℕ) (b : TextBuffer) → n ≡ 0 → Put (length (leading n n)) b (leading n n) b
 unfolding leading
-leading-none zero s at e = put-none 0 s at
-leading-none (suc n) s at e = absurd (omega arith)
+leading-none zero b e = put-none 0 b
+leading-none (suc n) b e = absurd (omega arith)
 
 -- n steps are enough for a number n, and more change nothing
 leading-steps : (j k n : ℕ) → n ≤ j → n ≤ k → leading j n ≡ leading k n
@@ -41,18 +42,18 @@ leading-steps (suc j) zero (suc n) g h = absurd (omega arith)
 leading-steps (suc j) (suc k) zero g h = refl
 leading-steps (suc j) (suc k) (suc n) g h = ap (λ (l : List ℕ). l ++ (glyph (suc n % 10) ∷ [])) (leading-steps j k (suc n / 10) (omega arith) (omega arith))
 
-leading-last : (n : ℕ) → (n ≡ 0 → ⊥) → leading (n / 10) (n / 10) ++ (glyph (n % 10) ∷ []) ≡ leading n n
+leading-last : (n : ℕ) → 0 < n → leading (n / 10) (n / 10) ++ (glyph (n % 10) ∷ []) ≡ leading n n
 unfolding leading
-leading-last zero h = absurd (h refl)
+leading-last zero h = absurd (omega arith)
 leading-last (suc n) h = ap (λ (l : List ℕ). l ++ (glyph (suc n % 10) ∷ [])) (leading-steps (suc n / 10) n (suc n / 10) (omega arith) (omega arith))
 
-leading-room : (n : ℕ) → (n ≡ 0 → ⊥) → length (leading (n / 10) (n / 10)) + 1 ≡ length (leading n n)
+leading-room : (n : ℕ) → 0 < n → length (leading (n / 10) (n / 10)) + 1 ≡ length (leading n n)
 leading-room n h = sym (length-append (leading (n / 10) (n / 10)) (glyph (n % 10) ∷ [])) ∙ ap length (leading-last n h)
 
-pub leading_more : (n d : ℕ) {s : List ℕ} {at : ℕ} {e : List ℕ} {m : ℕ} {f : List ℕ} {r : ℕ} → (n ≡ 0 → ⊥) → Put (length (leading (n / 10) (n / 10))) s at (leading (n / 10) (n / 10)) e m → d ≡ glyph (n % 10) → Put 1 e m (d ∷ []) f r → Put (length (leading n n)) s at (leading n n) f r
-leading_more n d {s} {at} {e} {m} {f} {r} h p g q =
-    let b : Put (length (leading n n)) s at (leading (n / 10) (n / 10) ++ (glyph (n % 10) ∷ [])) f r = put-within (omega (arith, leading-room n h)) (put_both p (subst (λ (z : ℕ). Put 1 e m (z ∷ []) f r) g q)) in
-    subst (λ (l : List ℕ). Put (length (leading n n)) s at l f r) (leading-last n h) b
+pub leading_more : (n d : ℕ) {b m e : TextBuffer} → 0 < n → Put (length (leading (n / 10) (n / 10))) b (leading (n / 10) (n / 10)) m → d ≡ glyph (n % 10) → Put 1 m (d ∷ []) e → Put (length (leading n n)) b (leading n n) e
+leading_more n d {b} {m} {e} h p g q =
+    let both : Put (length (leading n n)) b (leading (n / 10) (n / 10) ++ (glyph (n % 10) ∷ [])) e = put-within (omega (arith, leading-room n h)) (put_both p (subst (λ (z : ℕ). Put 1 m (z ∷ []) e) g q)) in
+    subst (λ (l : List ℕ). Put (length (leading n n)) b l e) (leading-last n h) both
 
 -- a number below 10 ^ w has at most w digits
 leading-short : (w k n : ℕ) → n < 10 ^ w → length (leading k n) ≤ w

@@ -6,7 +6,8 @@ use native.Mathlib.Nat.{zero-add}
 use native.Mathlib.Numerals.{add-one}
 use native.Mathlib.Omega.{arith}
 use lib.ListN.{length, get_or, set, take, drop, length-append, length-set}
-use lib.Seq.{sets, sets-eq, set_out, take-suc, take_all}
+use lib.Seq.{sets, sets-eq, take-suc, take_all}
+use Rattle.text.specs.declared.put.TextBuffer.{TextBuffer}
 use Rattle.text.specs.Inner.TextPut.{last_index, index_after, stored, Put}
 
 -- ---- the index after a text
@@ -45,59 +46,58 @@ length-stored s at [] = refl
 length-stored s at (x ∷ t) = length-stored (set s at x) (index_after at 1) t ∙ length-set s at x
 
 -- ---- texts put
-pub put-none : (k : ℕ) (s : List ℕ) (at : ℕ) → Put k s at [] s at
+pub put-none : (k : ℕ) (b : TextBuffer) → Put k b [] b
 unfolding stored
-put-none k s at = record { is-stored = refl; ended = sym (behind-none at); short = omega arith }
+put-none k b = record { is-stored = refl; ended = sym (behind-none b.position); short = omega arith; same_reference = refl }
 
-pub put_one : (s : List ℕ) (at b : ℕ) {n : ℕ} → n ≡ index_after at 1 → Put 1 s at (b ∷ []) (set s at b) n
+-- a byte, stored where the buffer reaches
+pub put_one : (byte : ℕ) {b e : TextBuffer} → e.bytes.now ≡ set b.bytes.now b.position byte → e.position ≡ index_after b.position 1 → e.bytes.ghost_name ≡ b.bytes.ghost_name → Put 1 b (byte ∷ []) e
 unfolding stored
-put_one s at b e = record { is-stored = refl; ended = e; short = omega arith }
-
--- a byte past the buffer's end
-pub put_out : (s : List ℕ) (at b : ℕ) {n : ℕ} → length s ≤ at → n ≡ index_after at 1 → Put 1 s at (b ∷ []) s n
-unfolding stored
-put_out s at b h e = record { is-stored = sym (set_out s at b h); ended = e; short = omega arith }
+put_one byte h p n = record { is-stored = h; ended = p; short = omega arith; same_reference = n }
 
 -- the buffer keeps its length
-pub put-length : {k : ℕ} {s : List ℕ} {at : ℕ} {t e : List ℕ} {n : ℕ} → Put k s at t e n → length e ≡ length s
-put-length {s} {at} {t} p = ap length p.is-stored ∙ length-stored s at t
+pub put-length : {k : ℕ} {b : TextBuffer} {t : List ℕ} {e : TextBuffer} → Put k b t e → length e.bytes.now ≡ length b.bytes.now
+put-length {b} {t} p = ap length p.is-stored ∙ length-stored b.bytes.now b.position t
 
 -- one text after another
-pub put_both : {j k : ℕ} {s : List ℕ} {at : ℕ} {a e : List ℕ} {m : ℕ} {b f : List ℕ} {n : ℕ} → Put j s at a e m → Put k e m b f n → Put (j + k) s at (a ++ b) f n
-put_both {s} {at} {a} {e} {m} {b} p q =
-    let l : length (a ++ b) ≡ length a + length b = length-append a b in
+pub put_both : {j k : ℕ} {b : TextBuffer} {t : List ℕ} {m : TextBuffer} {u : List ℕ} {e : TextBuffer} → Put j b t m → Put k m u e → Put (j + k) b (t ++ u) e
+put_both {b} {t} {m} {u} p q =
+    let l : length (t ++ u) ≡ length t + length u = length-append t u in
     record {
-      is-stored = q.is-stored ∙ ap (λ (z : List ℕ). stored z m b) p.is-stored ∙ ap (λ (z : ℕ). stored (stored s at a) z b) p.ended ∙ stored-append s at a b;
-      ended = q.ended ∙ ap (λ (z : ℕ). index_after z (length b)) p.ended ∙ behind_both at (length a) (length b) ∙ ap (index_after at) (sym l);
+      is-stored = q.is-stored ∙ ap (λ (z : List ℕ). stored z m.position u) p.is-stored ∙ ap (λ (z : ℕ). stored (stored b.bytes.now b.position t) z u) p.ended ∙ stored-append b.bytes.now b.position t u;
+      ended = q.ended ∙ ap (λ (z : ℕ). index_after z (length u)) p.ended ∙ behind_both b.position (length t) (length u) ∙ ap (index_after b.position) (sym l);
       short = omega arith;
+      same_reference = q.same_reference ∙ p.same_reference;
     }
 
 -- an equal text
-pub put_same : {k : ℕ} {s : List ℕ} {at : ℕ} {t u e : List ℕ} {n : ℕ} → t ≡ u → Put k s at t e n → Put k s at u e n
-put_same {k} {s} {at} {e = e} {n = n} h p = subst (λ (z : List ℕ). Put k s at z e n) h p
+pub put_same : {k : ℕ} {b : TextBuffer} {t u : List ℕ} {e : TextBuffer} → t ≡ u → Put k b t e → Put k b u e
+put_same {k} {b} {e = e} h p = subst (λ (z : List ℕ). Put k b z e) h p
 
 -- a larger bound on the length
-pub put-within : {j k : ℕ} {s : List ℕ} {at : ℕ} {t e : List ℕ} {n : ℕ} → j ≤ k → Put j s at t e n → Put k s at t e n
-put-within h p = record { is-stored = p.is-stored; ended = p.ended; short = omega arith }
+pub put-within : {j k : ℕ} {b : TextBuffer} {t : List ℕ} {e : TextBuffer} → j ≤ k → Put j b t e → Put k b t e
+put-within h p = record { is-stored = p.is-stored; ended = p.ended; short = omega arith; same_reference = p.same_reference }
 
 -- a text put at the front of a buffer that has room for it
-pub put_front : {k : ℕ} {s t e : List ℕ} {n : ℕ} → Put k s 0 t e n → k ≤ length s → k ≤ last_index → (e ≡ t ++ drop (length t) s) × (n ≡ length t)
-put_front {s} {t} p h u =
-    let near : 0 + length t ≤ last_index = omega arith in
-    (p.is-stored ∙ stored-near s 0 t near ∙ sets-eq t s 0 (omega arith) ∙ ap (λ (z : ℕ). t ++ drop z s) (zero-add (length t)), p.ended ∙ behind-near 0 (length t) near ∙ zero-add (length t))
+pub put_front : {k : ℕ} {b : TextBuffer} {t : List ℕ} {e : TextBuffer} → Put k b t e → b.position ≡ 0 → k ≤ length b.bytes.now → k ≤ last_index → (e.bytes.now ≡ t ++ drop (length t) b.bytes.now) × (e.position ≡ length t)
+put_front {b} {t} p z h u =
+    let s : List ℕ = b.bytes.now in
+    let near : 0 + length t ≤ last_index = omega (arith, p.short) in
+    let front : stored s b.position t ≡ stored s 0 t = ap (λ (n : ℕ). stored s n t) z in
+    (p.is-stored ∙ front ∙ stored-near s 0 t near ∙ sets-eq t s 0 (omega (arith, p.short)) ∙ ap (λ (n : ℕ). t ++ drop n s) (zero-add (length t)), p.ended ∙ ap (λ (n : ℕ). index_after n (length t)) z ∙ behind-near 0 (length t) near ∙ zero-add (length t))
 
 -- a loop that puts a text byte by byte: after i turns its first i bytes are put
-pub record Copied (s : List ℕ) (at : ℕ) (text e : List ℕ) (next i : ℕ) : Type 0 where
+pub record Copied (b : TextBuffer) (text : List ℕ) (e : TextBuffer) (i : ℕ) : Type 0 where
   pub small : i ≤ length text
-  pub put : Put i s at (take i text) e next
+  pub put : Put i b (take i text) e
 
-pub copied_none : (s : List ℕ) (at : ℕ) (text : List ℕ) → Copied s at text s at 0
-copied_none s at text = record { small = omega arith; put = put-none 0 s at }
+pub copied_none : (b : TextBuffer) (text : List ℕ) → Copied b text b 0
+copied_none b text = record { small = omega arith; put = put-none 0 b }
 
-pub copied_next : {s : List ℕ} {at : ℕ} (text : List ℕ) {e : List ℕ} {m : ℕ} (i : ℕ) {f : List ℕ} {n : ℕ} → Copied s at text e m i → i < length text → Put 1 e m (get_or text i 0 ∷ []) f n → Copied s at text f n (i + 1)
-copied_next {s} {at} text {e} {m} i {f} {n} c h q =
+pub copied_next : {b : TextBuffer} (text : List ℕ) {m : TextBuffer} (i : ℕ) {e : TextBuffer} → Copied b text m i → i < length text → Put 1 m (get_or text i 0 ∷ []) e → Copied b text e (i + 1)
+copied_next text i c h q =
     let w : take (i + 1) text ≡ take i text ++ (get_or text i 0 ∷ []) = ap (λ (z : ℕ). take z text) (add-one i) ∙ take-suc text i 0 h in
     record { small = omega arith; put = put_same (sym w) (put_both c.put q) }
 
-pub copied_all : {s : List ℕ} {at : ℕ} (text : List ℕ) {e : List ℕ} {n : ℕ} (i : ℕ) → Copied s at text e n i → length text ≤ i → Put (length text) s at text e n
+pub copied_all : {b : TextBuffer} (text : List ℕ) {e : TextBuffer} (i : ℕ) → Copied b text e i → length text ≤ i → Put (length text) b text e
 copied_all text i c h = put-within (omega (arith, c.small)) (put_same (take_all i text h) c.put)

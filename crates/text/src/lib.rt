@@ -3,4 +3,4 @@
 
 pub mod put;
 
-pub use put::{glyph, put_byte, put_decimal, put_float, put_word};
+pub use put::{TextBuffer, glyph};

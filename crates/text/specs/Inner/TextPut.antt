@@ -1,5 +1,6 @@
 -- A text put into a lent buffer, for every index and every length of the buffer.
 use Rattle.std.specs.Prelude.{◌≡◌, List, [], ◌∷◌, ℕ, ◌+◌, ◌-◌, ◌≤◌, min, length, set}
+use Rattle.text.specs.declared.put.TextBuffer.{TextBuffer}
 
 -- the greatest index, 2^64 - 1; no buffer has a byte there
 abbrev pub last_index : ℕ
@@ -14,8 +15,9 @@ unfoldable pub stored : List ℕ → ℕ → List ℕ → List ℕ
 stored s at [] = s
 stored s at (b ∷ t) = stored (set s at b) (index_after at 1) t
 
--- Of a buffer s, a text and the resulting buffer e: the text is stored in s from index `at` on, as far as s reaches; `next` is the index after the whole text, also where some of it was left out, or the greatest index where that would be larger; the text has at most `longest` bytes.
-pub record Put (longest : ℕ) (s : List ℕ) (at : ℕ) (text e : List ℕ) (next : ℕ) : Type 0 where
-  pub is-stored : e ≡ stored s at text
-  pub ended : next ≡ index_after at (length text)
+-- Of a text buffer before and after a text was put: the text is stored from the position on, as far as the lent bytes reach; the new position is the index after the whole text, also where some of it was left out, or the greatest index where that would be larger; the text has at most `longest` bytes; the buffer still lends the same memory.
+pub record Put (longest : ℕ) (before : TextBuffer) (text : List ℕ) (after : TextBuffer) : Type 0 where
+  pub is-stored : after.bytes.now ≡ stored before.bytes.now before.position text
+  pub ended : after.position ≡ index_after before.position (length text)
   pub short : length text ≤ longest
+  pub same_reference : after.bytes.ghost_name ≡ before.bytes.ghost_name

@@ -1,8 +1,8 @@
--- `text::put::put_float` meets its contract: the digits are those of its bits. Assumes nothing.
+-- `text::put::TextBuffer::put_float` meets its contract: the digits are those of its bits. Assumes nothing.
 use mathlib.Core.Path.{ap}
 use Rattle.text.specs.Text.{float_text, hexadecimal}
 use Rattle.text.proofs.TextPuts.{put_same}
-use Rattle.text.proofs.put.put_float.Goals as goal
+use Rattle.text.proofs.put.TextBuffer.put_float.Goals as goal
 
 pub returns : goal.returns
 unfolding float_text

@@ -1,0 +1,12 @@
+-- `text::put::TextBuffer::put_word` meets its contract: after i turns the word's first i bytes are put. Assumes nothing.
+use Rattle.text.proofs.TextPuts.{copied_none, copied_next, copied_all}
+use Rattle.text.proofs.put.TextBuffer.put_word.Goals as goal
+
+pub loop-byte-init : goal.loop-byte-init
+loop-byte-init c = copied_none _ _
+
+pub loop-byte-preserved : goal.loop-byte-preserved
+loop-byte-preserved c = copied_next _ _ c.loop-byte.invariant c.loop-byte-test.true c.put_byte.ensures
+
+pub returns : goal.returns
+returns c = copied_all _ _ c.loop-byte.invariant c.loop-byte-test.false
