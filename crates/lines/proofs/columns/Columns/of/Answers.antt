@@ -1,6 +1,6 @@
 -- `lines::columns::Columns::of` meets its contract. Assumes nothing.
-use Rattle.std.proofs.Common.{refl, ap, rules}
-use Rattle.lines.proofs.Copying.{copied_next, copied_all, columns_of-records}
+use Rattle.std.proofs.Common.{rules}
+use Rattle.lines.proofs.Copying.{copied_next, columns_copied}
 use Rattle.lines.proofs.columns.Columns.of.Goals as goal
 
 pub loop-i-preserved : goal.loop-i-preserved
@@ -19,6 +19,4 @@ loop-i-preserved g c =
 pub returns : goal.returns
 returns g c =
     let now = c.loop-i.invariant in
-    let records = c.args.records.now in
-    let segment = g.R.SegmentRecord.segment in
-    rw (now.count, columns_of-records segment 4097 records, copied_all (λ r. (segment r).net) records _ _ _ (search rules) now.nets c.loop-i.auto.i-end c.loop-i-test.false, copied_all (λ r. (segment r).orientation) records _ _ _ (search rules) now.orientations c.loop-i.auto.i-end c.loop-i-test.false, copied_all (λ r. (segment r).fixed) records _ _ _ (search rules) now.fixeds c.loop-i.auto.i-end c.loop-i-test.false, copied_all (λ r. (segment r).start) records _ _ _ (search rules) now.starts c.loop-i.auto.i-end c.loop-i-test.false, copied_all (λ r. (segment r).end) records _ _ _ (search rules) now.ends c.loop-i.auto.i-end c.loop-i-test.false) refl
+    rw now.count (columns_copied g.R.SegmentRecord.segment c.args.records.now _ _ _ _ _ _ _ (search rules) c.loop-i.auto.i-end c.loop-i-test.false now.nets now.orientations now.fixeds now.starts now.ends)
