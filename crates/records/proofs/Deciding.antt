@@ -1,5 +1,5 @@
 -- The first 4,097 entries of a list decide as the whole list does: with more than 4,096 entries a call is refused (SCOPE 7.3), whatever they are. Assumes nothing.
-use Rattle.std.specs.Prelude.{Result, Ok, Err, Bool, true, cond, List, ℕ, ◌<◌, Float, length, take, ◌≡◌, refl}
+use Rattle.std.specs.Prelude.{Result, Ok, Err, true, cond, List, ℕ, ◌<◌, Float, length, take, ◌≡◌, refl}
 use Rattle.std.proofs.Common.{sym, ap, subst, ◌∙◌, inl, inr, arith}
 use Rattle.std.proofs.lemmas.List.{take_all, length-take-le}
 use borrow.Author.Tests.{lt-ltb}
@@ -70,11 +70,11 @@ module _ {A : Type 0} (answer : SegmentColumns → Result A Refusal) (checked : 
   pub decided : {told : Result A Refusal} {after : List ℕ} {s : SegmentColumns} (why : Refusal) → ((k : List Segment) → 4096 < length k → checked (columns_of k) ≡ Err why) → ((t : SegmentColumns) → checked t ≡ Err why → answer t ≡ Err why) → (l : List Segment) → s ≡ columns_of (take 4097 l) → Promised told after s → Promised told after (columns_of l)
   decided {told} {after} {s} why many refused l e p =
       let both : (j k : List Segment) → 4096 < length j → 4096 < length k → Promised told after (columns_of j) → Promised told after (columns_of k) = λ j k x y q.
-          let stop : checked (columns_of k) ≡ Err why = many k y in (
-            q.0 ∙ refused (columns_of j) (many j x) ∙ sym (refused (columns_of k) stop),
-            q.1 ∙ ap (λ r. scratch_after r before) (many j x ∙ sym stop),
-            λ passed. cc,
-          ) in
+      let stop : checked (columns_of k) ≡ Err why = many k y in (
+        q.0 ∙ refused (columns_of j) (many j x) ∙ sym (refused (columns_of k) stop),
+        q.1 ∙ ap (λ r. scratch_after r before) (many j x ∙ sym stop),
+        λ passed. cc,
+      ) in
       few_or_many (λ j k. Promised told after (columns_of j) → Promised told after (columns_of k)) l (λ k q. q) both (subst (Promised told after) e p)
 
 pub separation-refused : (allowance words : ℕ) (s : SegmentColumns) → first_of (separation_conditions s words) ≡ Err TooManyEntries → separation_answer s allowance words ≡ Err TooManyEntries
