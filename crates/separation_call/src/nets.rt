@@ -31,7 +31,7 @@ pub(crate) fn start_net(c: &mut [u64], n: usize, slot: usize, line: usize, net: 
         let many = c[n + line];
         let total = c[2 * n + line];
         c[n + line] = many + 1;
-        c[2 * n + line] = total + u64::from(net);
+        c[2 * n + line] = total + net as u64;
     }
     c[slot] = count + 1;
     line_summary(c, n, line)
@@ -48,7 +48,7 @@ pub(crate) fn end_net(c: &mut [u64], n: usize, slot: usize, line: usize, net: u3
         let many = c[n + line];
         let total = c[2 * n + line];
         c[n + line] = many - 1;
-        c[2 * n + line] = total - u64::from(net);
+        c[2 * n + line] = total - net as u64;
     }
     c[slot] = count - 1;
     line_summary(c, n, line)
