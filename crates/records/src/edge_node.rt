@@ -53,7 +53,8 @@ pub fn measure_edge_node_clearance_bounded_by_records(
         × (scratch.new ≡ scratch_after refusal scratch.old)
         × (refusal ≡ Ok tt → SegmentsHeld segments × NodesHeld (lent_nodes nodes.now) × Binary64 threshold) }
 {
-    let columns = Columns::of(records);
+    let mut columns = Columns::empty();
+    columns.copy_from(records);
     measure_edge_node_clearance_bounded(
         &columns.segments(),
         nodes,

@@ -54,7 +54,8 @@ pub fn measure_parallel_separation_bounded_by_records(
         × (scratch.new ≡ scratch_after refusal scratch.old)
         × (refusal ≡ Ok tt → SegmentsHeld lent) }
 {
-    let columns = Columns::of(records);
+    let mut columns = Columns::empty();
+    columns.copy_from(records);
     measure_parallel_separation_bounded(&columns.segments(), allowance, scratch)
 }
 
@@ -71,7 +72,8 @@ pub fn measure_parallel_density_profile_bounded_by_records(
         × (scratch.new ≡ scratch_after refusal scratch.old)
         × (refusal ≡ Ok tt → SegmentsHeld lent × Binary64 cutoff) }
 {
-    let columns = Columns::of(records);
+    let mut columns = Columns::empty();
+    columns.copy_from(records);
     measure_parallel_density_profile_bounded(&columns.segments(), cutoff, allowance, scratch)
 }
 
@@ -88,7 +90,8 @@ pub fn measure_parallel_congestion_profile_bounded_by_records(
         × (scratch.new ≡ scratch_after refusal scratch.old)
         × (refusal ≡ Ok tt → SegmentsHeld lent × Binary64 cutoff) }
 {
-    let columns = Columns::of(records);
+    let mut columns = Columns::empty();
+    columns.copy_from(records);
     measure_parallel_congestion_profile_bounded(&columns.segments(), cutoff, allowance, scratch)
 }
 
@@ -104,6 +107,7 @@ pub fn measure_parallel_congestion_by_records(
         × (scratch.new ≡ scratch_after refusal scratch.old)
         × (refusal ≡ Ok tt → SegmentsHeld lent × Binary64 cutoff) }
 {
-    let columns = Columns::of(records);
+    let mut columns = Columns::empty();
+    columns.copy_from(records);
     measure_parallel_congestion(&columns.segments(), cutoff, scratch)
 }

@@ -15,4 +15,4 @@ returns c =
     let scratch = given.scratch.now in
     let nodes = lent_nodes given.nodes.now in
     let exemptions = lent_exemptions given.exemptions.now in
-    decided (λ t. clearance_answer t nodes exemptions given.threshold given.allowance (length scratch)) (λ t. first_of (clearance_conditions t nodes exemptions given.threshold (length scratch))) (λ t. SegmentsHeld t × NodesHeld nodes × Binary64 given.threshold) scratch (stops nodes exemptions) (clearance-many nodes exemptions given.threshold (length scratch)) (clearance-refused nodes exemptions given.threshold given.allowance (length scratch)) (map of_edge_node given.records.now) (c.segments.ensures ∙ c.of-columns.ensures) c.measure_edge_node_clearance_bounded.ensures
+    decided (λ t. clearance_answer t nodes exemptions given.threshold given.allowance (length scratch)) (λ t. first_of (clearance_conditions t nodes exemptions given.threshold (length scratch))) (λ t. SegmentsHeld t × NodesHeld nodes × Binary64 given.threshold) scratch (stops nodes exemptions) (clearance-many nodes exemptions given.threshold (length scratch)) (clearance-refused nodes exemptions given.threshold given.allowance (length scratch)) (map of_edge_node given.records.now) (c.segments.ensures ∙ c.copy_from.ensures) c.measure_edge_node_clearance_bounded.ensures

@@ -13,4 +13,4 @@ pub returns : goal.returns
 returns c =
     let given = c.args in
     let scratch = given.scratch.now in
-    decided (λ t. density_answer t given.cutoff given.allowance (length scratch)) (λ t. first_of (congestion_conditions t given.cutoff (length scratch))) (λ t. SegmentsHeld t × Binary64 given.cutoff) scratch TooManyEntries (congestion-many given.cutoff (length scratch)) (density-refused given.cutoff given.allowance (length scratch)) (map of_parallel given.records.now) (c.segments.ensures ∙ c.of-columns.ensures) c.measure_parallel_density_profile_bounded.ensures
+    decided (λ t. density_answer t given.cutoff given.allowance (length scratch)) (λ t. first_of (congestion_conditions t given.cutoff (length scratch))) (λ t. SegmentsHeld t × Binary64 given.cutoff) scratch TooManyEntries (congestion-many given.cutoff (length scratch)) (density-refused given.cutoff given.allowance (length scratch)) (map of_parallel given.records.now) (c.segments.ensures ∙ c.copy_from.ensures) c.measure_parallel_density_profile_bounded.ensures

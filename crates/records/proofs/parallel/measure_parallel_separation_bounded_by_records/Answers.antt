@@ -13,4 +13,4 @@ pub returns : goal.returns
 returns c =
     let given = c.args in
     let scratch = given.scratch.now in
-    decided (λ t. separation_answer t given.allowance (length scratch)) (λ t. first_of (separation_conditions t (length scratch))) SegmentsHeld scratch TooManyEntries (separation-many (length scratch)) (separation-refused given.allowance (length scratch)) (map of_parallel given.records.now) (c.segments.ensures ∙ c.of-columns.ensures) c.measure_parallel_separation_bounded.ensures
+    decided (λ t. separation_answer t given.allowance (length scratch)) (λ t. first_of (separation_conditions t (length scratch))) SegmentsHeld scratch TooManyEntries (separation-many (length scratch)) (separation-refused given.allowance (length scratch)) (map of_parallel given.records.now) (c.segments.ensures ∙ c.copy_from.ensures) c.measure_parallel_separation_bounded.ensures
