@@ -1,11 +1,11 @@
 -- The visit of a pair, the order of two halves, and the answer of a call from the state of a walk. Assumes nothing.
 use Rattle.drawing.specs.declared.refusal.Refusal.{Refusal}
 use Rattle.std.specs.Prelude.{Option, Some, Result, Ok, Err}
-use Rattle.std.proofs.Common.{◌≡◌, ℕ, suc, ◌+◌, ◌-◌, ◌%◌, ◌^◌, ◌<◌, Bool, true, false, sym, ap, ◌∙◌, mod-eq_of_lt, arith}
+use Rattle.std.proofs.Common.{◌≡◌, refl, ℕ, suc, ◌+◌, ◌-◌, ◌%◌, ◌^◌, ◌<◌, Bool, true, false, sym, ap, ◌∙◌, mod-eq_of_lt, arith}
 use lib.Ieee.{Float, lt}
 use Rattle.laws.specs.Lists.{bit}
 use Rattle.laws.specs.Charged.{free, visit}
-use Rattle.laws.specs.Inner.Allowance.{left, within, reply}
+use Rattle.laws.specs.Inner.Allowance.{left, within}
 use Rattle.laws.proofs.Runs.{within-free, visit-spent, visit-paid}
 use Rattle.drawing.specs.declared.refusal.Refusal.TheVariants.{WorkLimitExceeded}
 use Rattle.drawing.specs.Gaps.{lesser_gap}
@@ -53,10 +53,9 @@ module _ (l r : Subtree) where
   left-first e = rw e
 
 -- ---- the answer from what the walks returned
-pub answers-spent : (r : Result Walking Refusal) (allowance : ℕ) → r ≡ Err WorkLimitExceeded → Answers r allowance (Err WorkLimitExceeded)
-unfolding outcome_of reply
-answers-spent r allowance h = rw h
+pub answers-refused : (r : Result Walking Refusal) (allowance : ℕ) (e : Refusal) → r ≡ Err e → Answers r allowance (Err e)
+answers-refused r allowance e h = rw h refl
 
 pub answers-went : (r : Result Walking Refusal) (allowance : ℕ) (w : Walking) → r ≡ Ok w → (g : Option Float) → g ≡ gap_of_float w.least → (n : ℕ) → n ≡ allowance - w.remaining → Answers r allowance (Ok (record { minimum_clearance = g; violations = w.violations; visits = n }))
-unfolding outcome_of reply accepted
+unfolding accepted
 answers-went r allowance w h g e n f = rw (h, e, f)

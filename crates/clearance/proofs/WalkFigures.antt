@@ -80,7 +80,7 @@ module _ (t bound : Float) (seen ds : List Float) (v : ℕ) (q : Num binary64 t)
       (λ x i. (x, append_left x seen ds i, le_refl (mag binary64 x)))
 
   pub stays : contributes bound t (least_gap seen) ≡ false → onwards t seen v ds ≡ sofar seen v
-  unfolding least_gcontributes
+  unfolding least_gap contributes
   stays e = go (least lt seen) refl (is-least gaps_ranked seen p) e
     where
       go : (o : Option Float) → least lt seen ≡ o → IsLeast (mag binary64) seen o → contributes bound t (o) ≡ false → onwards t seen v ds ≡ sofar seen v

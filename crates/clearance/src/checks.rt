@@ -17,21 +17,11 @@ pub fn check_clearance(
 ) -> Result<(), Refusal>
     ensures { result ≡ first_of (clearance_conditions (lent_segments segments.now) (lent_nodes nodes.now) (lent_exemptions exemptions.now) threshold words) }
 {
-    let first = check_lists(
-        segments,
-        nodes,
-        exemptions,
-    );
-    let Ok(()) = first else {
-        return first;
-    };
+    check_lists(segments, nodes, exemptions)?;
     if short_scratch(words, segments.net.len(), nodes.id.len()) {
         return Err(Refusal::ShortScratch);
     }
-    let second = check_entries(segments, nodes);
-    let Ok(()) = second else {
-        return second;
-    };
+    check_entries(segments, nodes)?;
     if threshold_unfit(threshold) {
         return Err(Refusal::InvalidInput);
     }

@@ -10,43 +10,31 @@ use boxes::Aabb;
 pub fn clearance_subtree_can_contribute(lower: f64, threshold: f64, least: f64) -> bool
     ensures { Number lower → result ≡ contributes lower threshold (gap_of_float least) }
 {
-    if lower < threshold {
-        true
-    } else {
-        !(least <= lower)
-    }
+    lower < threshold || !(least <= lower)
 }
 
 // Along one axis: whether d lies less than the threshold beyond b, and c less than the threshold before a. Where the threshold is above 0, everything in c..d is then nearer to a..b than the threshold.
 fn axis_below(a: f64, b: f64, c: f64, d: f64, threshold: f64) -> bool
     ensures { result ≡ axis_below a b c d threshold }
 {
-    if d - b < threshold {
-        a - c < threshold
-    } else {
-        false
-    }
+    d - b < threshold && a - c < threshold
 }
 
 // Whether the farthest edges of the box `around` are nearer to the box `bounds` than the threshold. Where the threshold is above 0, every box in `around` then is too.
 pub fn edges_below(bounds: Aabb, around: Aabb, threshold: f64) -> bool
     ensures { result ≡ edges_below bounds around threshold }
 {
-    if axis_below(
+    axis_below(
         bounds.left,
         bounds.right,
         around.left,
         around.right,
         threshold,
-    ) {
-        axis_below(
-            bounds.top,
-            bounds.bottom,
-            around.top,
-            around.bottom,
-            threshold,
-        )
-    } else {
-        false
-    }
+    ) && axis_below(
+        bounds.top,
+        bounds.bottom,
+        around.top,
+        around.bottom,
+        threshold,
+    )
 }

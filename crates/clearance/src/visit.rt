@@ -1,13 +1,13 @@
 // The state of a walk, and the visit of one pair of a segment and a node.
-ghost use Rattle.std.specs.Prelude.{◌≡◌, ◌+◌, ◌^◌, ◌<◌};
+ghost use Rattle.std.specs.Prelude.{◌≡◌, ◌+◌, ◌^◌, ◌<◌, IfErr};
 ghost use Rattle.laws.specs.Charged.{free, visit};
 ghost use Rattle.laws.specs.Inner.Allowance.{within};
+ghost use Rattle.drawing.specs.declared.refusal.Refusal.TheVariants.{WorkLimitExceeded};
 ghost use Rattle.drawing.specs.Inner.LeastFloats.{Number};
 ghost use Rattle.clearance.specs.Walk.{with_pair};
 ghost use Rattle.clearance.specs.Inner.State.{so_far, outcome_of, at_start};
 
-use drawing::{least_with, no_gap};
-use std::num::wrapping_add_usize;
+use drawing::{Refusal, least_with, no_gap};
 
 // The figures so far, and the remaining visits. The least distance is a NaN where there is none yet.
 #[derive(Clone, Copy)]
@@ -15,13 +15,6 @@ pub struct Walking {
     pub violations: usize,
     pub least: f64,
     pub remaining: usize,
-}
-
-// The walk stops where a visit is due and none remains.
-#[derive(Clone, Copy)]
-pub enum Walked {
-    Spent,
-    Went(Walking),
 }
 
 // The state before the first walk: no pair measured, and the whole allowance remaining.
@@ -36,8 +29,14 @@ pub fn at_start(allowance: usize) -> Walking
 }
 
 // The visit of a pair at the given distance: charged first, then counted unless the pair is exempt (SCOPE 5.7). The walk passes distances of boxes, which are numbers, and states whose violations and remaining visits together fit a word, so no count wraps.
-pub fn visit_pair(exempt: bool, distance: f64, threshold: f64, state: Walking) -> Result<Walking, Refusal>
-    ensures { Number distance → state.violations + state.remaining < 2 ^ 64 → outcome_of result ≡ within state.remaining (visit (free (with_pair exempt threshold distance (so_far state)))) }
+pub fn visit_pair(
+    exempt: bool,
+    distance: f64,
+    threshold: f64,
+    state: Walking,
+) -> Result<Walking, Refusal>
+    ensures outcome { Number distance → state.violations + state.remaining < 2 ^ 64 → outcome_of result ≡ within state.remaining (visit (free (with_pair exempt threshold distance (so_far state)))) }
+    ensures refusal { IfErr result (λ r. r ≡ WorkLimitExceeded) }
 {
     if state.remaining == 0 {
         return Err(Refusal::WorkLimitExceeded);
@@ -53,7 +52,7 @@ pub fn visit_pair(exempt: bool, distance: f64, threshold: f64, state: Walking) -
     }
     let least = least_with(state.least, distance);
     if distance < threshold {
-        let violations = wrapping_add_usize(state.violations, 1);
+        let violations = state.violations.wrapping_add(1);
         Ok(Walking {
             violations: violations,
             least: least,

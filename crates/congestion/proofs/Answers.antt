@@ -11,7 +11,6 @@ use Rattle.drawing.specs.Entries.{Segment, SegmentColumns, segments}
 use Rattle.drawing.specs.Refusals.{number_of, first_of, checked}
 use Rattle.drawing.specs.declared.refusal.Refusal.{Refusal}
 use Rattle.drawing.specs.declared.refusal.Refusal.TheVariants.{WorkLimitExceeded}
-use Rattle.drawing.specs.declared.refusal.Check.TheVariants as Checked
 use Rattle.congestion.specs.declared.report.ParallelCongestion.{ParallelCongestion}
 use Rattle.congestion.specs.Conditions.{congestion_conditions}
 use Rattle.congestion.specs.AllPairs.{all_pairs}
@@ -20,15 +19,15 @@ use Rattle.congestion.proofs.Visits.{visits_at_most}
 
 -- a call with this cutoff and a scratch whose length is `words` meets no refusal before 7
 abbrev pub Passes : SegmentColumns → Float → ℕ → Type 0
-Passes s cutoff words = first_of (congestion_conditions s cutoff words) ≡ Checked.Passed
+Passes s cutoff words = first_of (congestion_conditions s cutoff words) ≡ Ok tt
 
 -- a call that checks and then settles an all-pairs report with its visit count
-pub record Settles (answer : SegmentColumns → Float → ℕ → ℕ → (Result CongestionReport Refusal)) (report : Float → List Segment → Charged (ParallelCongestion × (Option Float))) : Type 0 where
+pub record Settles (answer : SegmentColumns → Float → ℕ → ℕ → Result CongestionReport Refusal) (report : Float → List Segment → Charged (ParallelCongestion × Option Float)) : Type 0 where
   -- an earlier refusal is returned
-  pub earlier : (s : SegmentColumns) (cutoff : Float) (m words : ℕ) (r : Refusal) → first_of (congestion_conditions s cutoff words) ≡ Checked.Refused r → answer s cutoff m words ≡ Err r
+  pub earlier : (s : SegmentColumns) (cutoff : Float) (m words : ℕ) (r : Refusal) → first_of (congestion_conditions s cutoff words) ≡ Err r → answer s cutoff m words ≡ Err r
   pub behind : (s : SegmentColumns) (cutoff : Float) (m words : ℕ) → Passes s cutoff words → answer s cutoff m words ≡ settled m (report cutoff (segments s))
 
-module _ (answer : SegmentColumns → Float → ℕ → ℕ → (Result CongestionReport Refusal)) (report : Float → List Segment → Charged (ParallelCongestion × (Option Float)))
+module _ (answer : SegmentColumns → Float → ℕ → ℕ → Result CongestionReport Refusal) (report : Float → List Segment → Charged (ParallelCongestion × Option Float))
     (is : (s : SegmentColumns) (cutoff : Float) (m words : ℕ) → answer s cutoff m words ≡ checked Err (first_of (congestion_conditions s cutoff words)) (settled m (report cutoff (segments s)))) where
   settles : Settles answer report
   settles = record {
@@ -37,7 +36,7 @@ module _ (answer : SegmentColumns → Float → ℕ → ℕ → (Result Congesti
   }
 
 -- SCOPE 8.3: "A call whose allowance reaches it returns the all-pairs report, whose visits are that count; a call whose allowance does not returns the spent-allowance refusal", which is 7
-pub result_settles : (m : ℕ) (c : Charged (ParallelCongestion × (Option Float))) → result_of (settled m c) ≡ settle (λ p n. (0, report_of p n)) (7, zeros) m c
+pub result_settles : (m : ℕ) (c : Charged (ParallelCongestion × Option Float)) → result_of (settled m c) ≡ settle (λ p n. (0, report_of p n)) (7, zeros) m c
 unfolding settled settle result_of number_of
 result_settles m c = go (reaches m c)
   where
@@ -56,7 +55,7 @@ unfolding profile_answer
 profile_settles = settles profile_answer (λ cutoff l. without_density (all_pairs cutoff l)) (λ s cutoff m words. refl)
 
 -- SCOPE 6.2: `measure_parallel_congestion`, with an allowance that always reaches
-pub congestion-earlier : (s : SegmentColumns) (cutoff : Float) (words : ℕ) (r : Refusal) → first_of (congestion_conditions s cutoff words) ≡ Checked.Refused r → congestion_answer s cutoff words ≡ Err r
+pub congestion-earlier : (s : SegmentColumns) (cutoff : Float) (words : ℕ) (r : Refusal) → first_of (congestion_conditions s cutoff words) ≡ Err r → congestion_answer s cutoff words ≡ Err r
 unfolding congestion_answer
 congestion-earlier s cutoff words r e = rw e
 

@@ -30,7 +30,7 @@ use Rattle.congestion.specs.Visits.{visit_count}
 use Rattle.congestion.specs.AllPairs.{lengths, least_nonzero, all_pairs}
 use Rattle.congestion.specs.Walk.{in_order, sweep, along, sweep_wires, walk_all}
 use Rattle.congestion.specs.Answer.{settled, density_answer, profile_answer, congestion_answer, zeros, result_of}
-use Rattle.congestion.specs.Ratio.{clamp, ratio}
+use Rattle.congestion.specs.Ratio.{ratio}
 use Rattle.congestion.proofs.UnitVisits.{close_pairs, visits}
 use Rattle.congestion.proofs.SweepFigures.{gathered, found}
 
@@ -137,5 +137,5 @@ pub record Marked : Type 0 where
   pub one-net : found 384 (flat 1 0 0 320 ∷ flat 1 64 0 320 ∷ []) ≡ gathered 640 0 0 0 None 4
 
 pub marked : Marked
-unfolding of_bits to_bits round sub div lt some_of chosen fold pairs row_le insert_by sort_by lesser least runs settle key key_of lesser_of greater_of gap_of abs_of on_grid steps unit of_units segments segments_of segment_row segments_in_order number_of first_of differ too_many short_scratch unfit_fields unfit_segment unfit_cutoff off_grid_fields off_grid_segment off_grid_cutoff segments_differ congestion_conditions least_gap cutoff_of cells_from total stretches congested close_other_pairs pair_overlap peak lengths least_nonzero close_floats visit_count all_pairs in_order sweep along sweep_wires walk_all settled density_answer profile_answer congestion_answer result_of clamp ratio close_pairs visits segment_conditions
+unfolding of_bits to_bits round sub div lt some_of chosen fold pairs row_le insert_by sort_by lesser least runs settle key key_of lesser_of greater_of gap_of abs_of on_grid steps unit of_units segments segments_of segment_row segments_in_order number_of first_of differ too_many short_scratch unfit_fields unfit_segment unfit_cutoff off_grid_fields off_grid_segment off_grid_cutoff segments_differ congestion_conditions least_gap cutoff_of cells_from total stretches congested close_other_pairs pair_overlap peak lengths least_nonzero close_floats visit_count all_pairs in_order sweep along sweep_wires walk_all settled density_answer profile_answer congestion_answer result_of ratio close_pairs visits segment_conditions
 marked = record { D_at_4 = refl; D_at_3 = refl; D_sheet = refl; D_spent = refl; D_profile = refl; D_congestion = refl; D_sweep = refl; D_ratio = refl; gap_equals_cutoff = refl; on_the_grid = refl; off_the_grid = refl; net_2_reversed = (refl, refl); reversed = (refl, refl); upright_reversed = (refl, refl); reversed_off_the_grid = refl; minus_zero = refl; cutoff-zero = refl; cutoff_minus_zero = refl; cutoff-below-zero = refl; empty_list = refl; fork_figures = refl; fork_sweep = refl; stack_figures = refl; stack_sweep = refl; one-net = refl }

@@ -108,10 +108,10 @@ one_way c pos h l v = elim (decide (ltb (length (only h l)) 2)) [
 
 -- ---- the whole sweep
 -- figures given in 64ths, at a cost
-abbrev pub gathered : ℕ → ℕ → ℕ → ℕ → Option ℕ → ℕ → Charged (ParallelCongestion × (Option Float))
+abbrev pub gathered : ℕ → ℕ → ℕ → ℕ → Option ℕ → ℕ → Charged (ParallelCongestion × Option Float)
 gathered t c o p g n = record { value = (lengths t c o p, gap_of_units g); cost = n }
 
-abbrev pub found : ℕ → List Wire → Charged (ParallelCongestion × (Option Float))
+abbrev pub found : ℕ → List Wire → Charged (ParallelCongestion × Option Float)
 found c l = gathered (total l) (congested c l) (pair_overlap c l) (peak c l) (least_units c l) (visits c l)
 
 -- SCOPE 3.16, 4.5: "Cutoff 0 or less gives total length, zeros and an absent gap", at no cost

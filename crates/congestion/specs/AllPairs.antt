@@ -24,7 +24,7 @@ unfoldable pub least_nonzero : ℕ → List Segment → Option Float
 least_nonzero c l = least_gap (chosen (λ p. gapped c (wire_of p.0) (wire_of p.1)) (λ p. gap_of p.0.fixed p.1.fixed) (pairs l))
 
 -- SCOPE 6.3: the figures of the report and the least gap, and what they cost, for a drawing on the grid: a float off it is no number of 64ths, and check 6 comes first. "The all-pairs report is the measure's figures above with its visit count."
-unfoldable pub all_pairs : Float → List Segment → Charged (ParallelCongestion × (Option Float))
+unfoldable pub all_pairs : Float → List Segment → Charged (ParallelCongestion × Option Float)
 all_pairs cutoff l =
     let c = cutoff_of cutoff in
     let w = map wire_of l in

@@ -12,11 +12,11 @@ use Rattle.congestion.specs.Conditions.{congestion_conditions}
 use Rattle.congestion.specs.AllPairs.{all_pairs}
 
 -- SCOPE 6.3: the report of figures, with the n visits that they cost
-abbrev pub report_of : ParallelCongestion × (Option Float) → ℕ → CongestionReport
+abbrev pub report_of : ParallelCongestion × Option Float → ℕ → CongestionReport
 report_of p n = record { congestion = p.0; minimum_positive = p.1; visits = n }
 
 -- SCOPE 7.7, 8.3: "7. `WorkLimitExceeded`: the visit count exceeds the allowance"
-unfoldable pub settled : ℕ → Charged (ParallelCongestion × (Option Float)) → Result CongestionReport Refusal
+unfoldable pub settled : ℕ → Charged (ParallelCongestion × Option Float) → Result CongestionReport Refusal
 settled allowance c = settle (λ p n. Ok (report_of p n)) (Err WorkLimitExceeded) allowance c
 
 -- SCOPE 6.2: `measure_parallel_density_profile_bounded`, "the congestion reference", with a scratch whose length is `words`
@@ -24,7 +24,7 @@ unfoldable pub density_answer : SegmentColumns → Float → ℕ → ℕ → Res
 density_answer s cutoff allowance words = checked Err (first_of (congestion_conditions s cutoff words)) (settled allowance (all_pairs cutoff (segments s)))
 
 -- SCOPE 6.2: "is the same with pair overlap and peak zero"
-abbrev pub without_density : Charged (ParallelCongestion × (Option Float)) → Charged (ParallelCongestion × (Option Float))
+abbrev pub without_density : Charged (ParallelCongestion × Option Float) → Charged (ParallelCongestion × Option Float)
 without_density c =
     let p = c.value.0 in
     record { value = (record { total_length = p.total_length; congested_length = p.congested_length; pair_overlap_length = plus_zero; peak_close_neighbors = 0 }, c.value.1); cost = c.cost }

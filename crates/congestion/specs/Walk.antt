@@ -169,7 +169,7 @@ gap_of_units None = None
 gap_of_units (Some n) = Some (of_units n)
 
 -- SCOPE 3.16, 5.12: `measure_parallel_profile_bounded` with no limit; on an empty list, where the Rust returns early too, all is 0
-unfoldable pub sweep_wires : ℕ → List Wire → Charged (ParallelCongestion × (Option Float))
+unfoldable pub sweep_wires : ℕ → List Wire → Charged (ParallelCongestion × Option Float)
 sweep_wires c l =
     cond (eqb c 0) (free (lengths (total l) 0 0 0, None))
     (after (along c (only true l)) (λ h. after (along c (only false l)) (λ v. free (
@@ -178,5 +178,5 @@ sweep_wires c l =
     ))))
 
 -- SCOPE 9.4: "Each measure walks as if its segments came in the order net, orientation byte, fixed, start, end"
-unfoldable pub walk_all : Float → List Segment → Charged (ParallelCongestion × (Option Float))
+unfoldable pub walk_all : Float → List Segment → Charged (ParallelCongestion × Option Float)
 walk_all cutoff l = sweep_wires (cutoff_of cutoff) (map wire_of (segments_in_order l))

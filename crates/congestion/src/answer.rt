@@ -2,6 +2,7 @@
 ghost use Rattle.std.specs.Prelude.{◌≡◌};
 ghost use Rattle.congestion.specs.Inner.Answering.{answer_of, answer_without_density};
 
+use crate::found::Found;
 use crate::report::{CongestionReport, ParallelCongestion};
 use drawing::{Refusal, visits_used};
 
@@ -9,11 +10,7 @@ use drawing::{Refusal, visits_used};
 pub fn answer_of(swept: Result<Found, Refusal>, total: f64, allowance: usize) -> Result<CongestionReport, Refusal>
     ensures { result ≡ answer_of swept total allowance }
 {
-    let Ok(found) = swept else {
-        return Err(Refusal::WorkLimitExceeded);
-    };
-    let minimum = found.minimum_positive;
-    let visits = visits_used(allowance, found.remaining);
+    let found = swept?;
     let congestion = ParallelCongestion {
         total_length: total,
         congested_length: found.congested_length,
@@ -22,8 +19,8 @@ pub fn answer_of(swept: Result<Found, Refusal>, total: f64, allowance: usize) ->
     };
     let report = CongestionReport {
         congestion: congestion,
-        minimum_positive: minimum,
-        visits: visits,
+        minimum_positive: found.minimum_positive,
+        visits: visits_used(allowance, found.remaining),
     };
     Ok(report)
 }
@@ -32,20 +29,11 @@ pub fn answer_of(swept: Result<Found, Refusal>, total: f64, allowance: usize) ->
 pub fn without_density(answer: Result<CongestionReport, Refusal>) -> Result<CongestionReport, Refusal>
     ensures { result ≡ answer_without_density answer }
 {
-    let Ok(report) = answer else {
-        return answer;
-    };
-    let congestion = report.congestion;
-    let minimum = report.minimum_positive;
-    let lengths = ParallelCongestion {
-        total_length: congestion.total_length,
-        congested_length: congestion.congested_length,
+    let report = answer?;
+    let congestion = ParallelCongestion {
         pair_overlap_length: 0.0,
         peak_close_neighbors: 0,
+        ..report.congestion
     };
-    Ok(CongestionReport {
-        congestion: lengths,
-        minimum_positive: minimum,
-        visits: report.visits,
-    })
+    Ok(CongestionReport { congestion: congestion, ..report })
 }

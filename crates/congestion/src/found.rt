@@ -9,10 +9,3 @@ pub struct Found {
     pub minimum_positive: Option<f64>,
     pub remaining: usize,
 }
-
-// What the sweep found, or that the allowance is spent.
-#[derive(Clone, Copy)]
-pub enum Swept {
-    Went(Found),
-    Spent,
-}

@@ -2,8 +2,6 @@
 ghost use Rattle.std.specs.Prelude.{◌≡◌};
 ghost use Rattle.congestion.specs.Ratio as Ratio;
 
-use drawing::Refusal;
-
 // The lengths of all wires and of those close to other nets, and the peak (SCOPE 3.11, 3.12, 3.13, 3.14).
 #[derive(Clone, Copy)]
 pub struct ParallelCongestion {
@@ -23,23 +21,10 @@ impl ParallelCongestion {
         let total = self.total_length;
         let congested = self.congested_length;
         if 0.0 < total {
-            clamp(congested / total, 0.0, 1.0)
+            (congested / total).clamp(0.0, 1.0)
         } else {
             0.0
         }
-    }
-}
-
-// Rust's `clamp`, by comparison: a NaN stays.
-fn clamp(x: f64, low: f64, high: f64) -> f64
-    ensures { result ≡ Ratio.clamp x low high }
-{
-    if x < low {
-        low
-    } else if high < x {
-        high
-    } else {
-        x
     }
 }
 
@@ -49,11 +34,4 @@ pub struct CongestionReport {
     pub congestion: ParallelCongestion,
     pub minimum_positive: Option<f64>,
     pub visits: usize,
-}
-
-// What a congestion call answers: its report, or the refusal.
-#[derive(Clone, Copy)]
-pub enum CongestionAnswer {
-    Report(CongestionReport),
-    Refused(Refusal),
 }

@@ -9,7 +9,6 @@ use lib.Ieee.{Float}
 use Rattle.laws.specs.Charged.{reaches, settle}
 use Rattle.laws.proofs.Runs.{settle-reached}
 use Rattle.drawing.specs.declared.refusal.Refusal.TheVariants.{WorkLimitExceeded}
-use Rattle.drawing.specs.declared.refusal.Check.TheVariants as Checked
 use Rattle.drawing.specs.Entries.{SegmentColumns, segments}
 use Rattle.drawing.specs.Refusals.{first_of, checked}
 use Rattle.congestion.specs.Conditions.{congestion_conditions}
@@ -27,9 +26,9 @@ plain-answer c cutoff allowance words = go (first_of (congestion_conditions c cu
     go : (k : Result Unit Refusal) (b : Bool)
         → answer_without_density (checked Err k (cond b (Ok (report_of (all_pairs cutoff (segments c)).value (all_pairs cutoff (segments c)).cost)) (Err WorkLimitExceeded)))
         ≡ checked Err k (cond b (Ok (report_of (without_density (all_pairs cutoff (segments c))).value (all_pairs cutoff (segments c)).cost)) (Err WorkLimitExceeded))
-    go (Checked.Refused r) b = refl
-    go Checked.Passed true = refl
-    go Checked.Passed false = refl
+    go (Err r) b = refl
+    go (Ok tt) true = refl
+    go (Ok tt) false = refl
 
 -- ---- `measure_parallel_congestion`: 4,096 segments cost at most 4,096 * 4,096 visits
 pub great_allowance : (c : SegmentColumns) (cutoff : Float) (m words : ℕ) → 16777216 ≤ m → density_answer c cutoff m words ≡ congestion_answer c cutoff words
@@ -37,8 +36,8 @@ unfolding settled
 great_allowance c cutoff m words h = go (first_of (congestion_conditions c cutoff words)) refl
   where
     go : (k : Result Unit Refusal) → first_of (congestion_conditions c cutoff words) ≡ k → density_answer c cutoff m words ≡ congestion_answer c cutoff words
-    go (Checked.Refused r) e = density_settles.earlier c cutoff m words r e ∙ sym (congestion-earlier c cutoff words r e)
-    go Checked.Passed e =
+    go (Err r) e = density_settles.earlier c cutoff m words r e ∙ sym (congestion-earlier c cutoff words r e)
+    go (Ok tt) e =
         let few = (fit_list c cutoff words e).few in
         density_settles.behind c cutoff m words e
         ∙ settle-reached (λ p n. Ok (report_of p n)) (Err WorkLimitExceeded) m (all_pairs cutoff (segments c)) (le_trans (cost-at_most cutoff (segments c)) (le_trans (mul-le-mul few few) h))

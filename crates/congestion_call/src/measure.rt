@@ -6,9 +6,9 @@ ghost use Rattle.drawing.specs.Held.{Binary64, SegmentsHeld};
 ghost use Rattle.congestion.specs.Conditions.{congestion_conditions};
 ghost use Rattle.congestion.specs.Answer.{profile_answer, congestion_answer};
 
-use drawing::Segments;
-use congestion::without_density;
+use congestion::{CongestionReport, without_density};
 use density_call::measure_parallel_density_profile_bounded;
+use drawing::{Refusal, Segments};
 
 pub fn measure_parallel_congestion_profile_bounded(
     segments: &Segments<'_>,
@@ -23,12 +23,7 @@ pub fn measure_parallel_congestion_profile_bounded(
         × (scratch.new ≡ scratch_after refusal scratch.old)
         × (refusal ≡ Ok tt → SegmentsHeld lent × Binary64 cutoff) }
 {
-    let answer = measure_parallel_density_profile_bounded(
-        segments,
-        cutoff,
-        allowance,
-        scratch,
-    );
+    let answer = measure_parallel_density_profile_bounded(segments, cutoff, allowance, scratch);
     without_density(answer)
 }
 
@@ -45,10 +40,5 @@ pub fn measure_parallel_congestion(
         × (scratch.new ≡ scratch_after refusal scratch.old)
         × (refusal ≡ Ok tt → SegmentsHeld lent × Binary64 cutoff) }
 {
-    measure_parallel_density_profile_bounded(
-        segments,
-        cutoff,
-        0xffff_ffff_ffff_ffff,
-        scratch,
-    )
+    measure_parallel_density_profile_bounded(segments, cutoff, usize::MAX, scratch)
 }

@@ -8,7 +8,6 @@ use Rattle.laws.specs.Inner.Allowance.{Outcome, spent, left, within, reply}
 use Rattle.laws.proofs.Runs.{within-left, settle-within}
 use Rattle.drawing.specs.declared.refusal.Refusal.{Refusal}
 use Rattle.drawing.specs.declared.refusal.Refusal.TheVariants.{WorkLimitExceeded}
-use Rattle.drawing.specs.declared.refusal.Check.TheVariants as Checked
 use Rattle.drawing.specs.Entries.{SegmentColumns, segments}
 use Rattle.drawing.specs.Refusals.{first_of, checked}
 use Rattle.congestion.specs.declared.report.ParallelCongestion.{ParallelCongestion}
@@ -40,7 +39,7 @@ answer_replies (left p m) total allowance k =
 
 -- ---- `measure_parallel_density_profile_bounded`
 module _ (c : SegmentColumns) (cutoff : Float) (allowance words : ℕ) where
-  pub refused-answer : (k : Result Unit Refusal) (r : Refusal) → k ≡ first_of (congestion_conditions c cutoff words) → k ≡ Checked.Refused r → Err r ≡ density_answer c cutoff allowance words
+  pub refused-answer : (k : Result Unit Refusal) (r : Refusal) → k ≡ first_of (congestion_conditions c cutoff words) → k ≡ Err r → Err r ≡ density_answer c cutoff allowance words
   refused-answer k r h g = sym (density_settles.earlier c cutoff allowance words r (sym h ∙ g))
 
   module _ (passed : Passes c cutoff words) where

@@ -2,7 +2,7 @@
 ghost use Rattle.std.specs.Prelude.{◌≡◌, map, eqb, length};
 ghost use Rattle.laws.specs.Inner.Allowance.{within};
 ghost use Rattle.drawing.specs.Entries as Entries;
-ghost use Rattle.drawing.specs.Entries.{lent_segments, segments};
+ghost use Rattle.drawing.specs.Entries.{lent_segments};
 ghost use Rattle.rows.specs.Rows as Rows;
 ghost use Rattle.congestion.specs.Wires.{cutoff_of};
 ghost use Rattle.congestion.specs.Walk.{sweep, along};
@@ -12,7 +12,7 @@ ghost use Rattle.density_call.specs.Inner.Measuring.{wire_of_row, Cutoff, AtRows
 use crate::ranges::fill_ranges;
 use crate::run::run_events;
 use congestion::Found;
-use drawing::{Segments, clear};
+use drawing::{Refusal, Segments, clear};
 use rows::{order_events, order_rows, spread_rows};
 
 // Makes the tables of n rows: their indices in order are stored from word `from` on, and the rows themselves `table` words later. The words after the tables are cleared: no wire is active yet. Then the sweep runs.
@@ -31,8 +31,7 @@ fn sweep_rows(
     spread_rows(s, n, from, table);
     order_events(s, n);
     fill_ranges(s, n, cutoff);
-    let end = 10 * n + 1;
-    clear(&mut s[8 * n..end]);
+    clear(&mut s[8 * n..10 * n + 1]);
     run_events(s, n, allowance)
 }
 

@@ -2,7 +2,6 @@
 #![tactic(auto)]
 
 mod along;
-mod counts;
 pub mod measure;
 mod meet;
 mod ranges;

@@ -3,7 +3,7 @@ ghost use Rattle.std.specs.Prelude.{◌≡◌, length, Ok};
 ghost use Rattle.laws.specs.Inner.Allowance.{within};
 ghost use Rattle.drawing.specs.Refusals.{first_of, scratch_after};
 ghost use Rattle.drawing.specs.Entries as Entries;
-ghost use Rattle.drawing.specs.Entries.{lent_segments, segments};
+ghost use Rattle.drawing.specs.Entries.{lent_segments};
 ghost use Rattle.drawing.specs.Held.{Binary64, SegmentsHeld};
 ghost use Rattle.congestion.specs.Conditions.{congestion_conditions};
 ghost use Rattle.congestion.specs.AllPairs.{all_pairs};
@@ -11,24 +11,19 @@ ghost use Rattle.congestion.specs.Answer.{density_answer};
 ghost use Rattle.density_call.specs.Inner.Measuring.{found_of, combined_of};
 
 use crate::along::sweep_along;
-use crate::counts::greater;
-use congestion::{Found, answer_of, check_congestion, total_length};
-use drawing::{Segments, clear, minimum_option};
+use congestion::{CongestionReport, Found, answer_of, check_congestion, total_length};
+use drawing::{Refusal, Segments, clear, minimum_option};
 use rows::segments_to_sweep;
 
 // The figures of both orientations, with the remaining visits of the second sweep.
 fn combined(across: Found, down: Found) -> Found
     ensures { result ≡ combined_of across down }
 {
-    let one = across.minimum_positive;
-    let other = down.minimum_positive;
-    let minimum = minimum_option(one, other);
-    let peak = greater(across.peak_close_neighbors, down.peak_close_neighbors);
     Found {
         congested_length: across.congested_length + down.congested_length,
         pair_overlap_length: across.pair_overlap_length + down.pair_overlap_length,
-        peak_close_neighbors: peak,
-        minimum_positive: minimum,
+        peak_close_neighbors: across.peak_close_neighbors.max(down.peak_close_neighbors),
+        minimum_positive: minimum_option(across.minimum_positive, down.minimum_positive),
         remaining: down.remaining,
     }
 }
@@ -41,7 +36,7 @@ fn walk_segments(
     allowance: usize,
     scratch: &mut [u64],
 ) -> Result<Found, Refusal>
-    requires { first_of (congestion_conditions (lent_segments segments.now) cutoff (length scratch.old)) ≡ (Ok tt) }
+    requires { first_of (congestion_conditions (lent_segments segments.now) cutoff (length scratch.old)) ≡ Ok tt }
     ensures { result ≡ found_of (within allowance (all_pairs cutoff (Entries.segments (lent_segments segments.now)))) }
 {
     if cutoff <= 0.0 {
@@ -56,26 +51,8 @@ fn walk_segments(
     if allowance < segments_to_sweep(segments.orientation) {
         return Err(Refusal::WorkLimitExceeded);
     }
-    let first = sweep_along(
-        scratch,
-        1,
-        segments,
-        cutoff,
-        allowance,
-    );
-    let Ok(across) = first else {
-        return Err(Refusal::WorkLimitExceeded);
-    };
-    let second = sweep_along(
-        scratch,
-        0,
-        segments,
-        cutoff,
-        across.remaining,
-    );
-    let Ok(down) = second else {
-        return Err(Refusal::WorkLimitExceeded);
-    };
+    let across = sweep_along(scratch, 1, segments, cutoff, allowance)?;
+    let down = sweep_along(scratch, 0, segments, cutoff, across.remaining)?;
     Ok(combined(across, down))
 }
 
@@ -92,18 +69,9 @@ pub fn measure_parallel_density_profile_bounded(
         × (scratch.new ≡ scratch_after refusal scratch.old)
         × (refusal ≡ Ok tt → SegmentsHeld lent × Binary64 cutoff) }
 {
-    let words = scratch.len();
-    let check = check_congestion(segments, cutoff, words);
-    if let Err(why) = check {
-        return Err(why);
-    }
+    check_congestion(segments, cutoff, scratch.len())?;
     let total = total_length(segments);
-    let swept = walk_segments(
-        segments,
-        cutoff,
-        allowance,
-        scratch,
-    );
+    let swept = walk_segments(segments, cutoff, allowance, scratch);
     clear(scratch);
     answer_of(swept, total, allowance)
 }

@@ -1,10 +1,9 @@
 // An event's wire meets the active wires within the cutoff.
 ghost use Rattle.std.specs.Prelude.{◌≡◌, false, cond, ◌+◌, ◌≤◌, max, get_or, set};
-ghost use Rattle.laws.specs.Lists.{bit};
 ghost use Rattle.density_call.specs.Inner.Meeting.{Meetable, CountsOnly, Meets, with_gap, Countable, with_neighbor, count_after, Visitable, Visits};
 
-use crate::counts::greater;
-use bitset::{Last, last_below, rest_below};
+use bitset::{last_below, rest_below};
+use drawing::Refusal;
 use floats::{absolute, float_of_key, lesser};
 
 // How many of the wires met are of another net; how many of these become congested or cease to be; the greatest count among them; the least gap so far; the remaining visits.
@@ -18,30 +17,12 @@ pub(crate) struct Meeting {
     pub remaining: usize,
 }
 
-// The meeting, or that the allowance is spent: a visit is due and none remains.
-#[derive(Clone, Copy)]
-pub(crate) enum Met {
-    Went(Meeting),
-    Spent,
-}
-
 // The gap to a neighbor joins the least gap where it is above 0: it is taken unless the least gap is below it, and a NaN is below nothing.
 // Of two equal gaps either will do here, and `lesser` is one instruction; `least_with`, which keeps the old one, is a comparison and a choice, and the loop took 6 to 8% longer.
 fn with_gap(least: f64, gap: f64) -> f64
     ensures { result ≡ with_gap least gap }
 {
-    if 0.0 < gap {
-        return lesser(gap, least);
-    }
-    least
-}
-
-// One more where the test holds.
-fn count_if(count: usize, counts: bool) -> usize
-    requires { count ≤ 4096 }
-    ensures { result ≡ count + bit counts }
-{
-    if counts { count + 1 } else { count }
+    if 0.0 < gap { lesser(gap, least) } else { least }
 }
 
 // A neighbor's count after the event: it rises by one at a start and falls by one at an end.
@@ -64,11 +45,7 @@ fn lower(starts: bool, count: u64, after: u64) -> u64
 fn highest_after(starts: bool, highest: usize, after: u64) -> usize
     ensures { result ≡ cond starts (max highest after) highest }
 {
-    if starts {
-        greater(highest, after as usize)
-    } else {
-        highest
-    }
+    if starts { highest.max(after as usize) } else { highest }
 }
 
 // A neighbor, whose count is in word `at`.
@@ -81,10 +58,9 @@ fn meet_neighbor(s: &mut [u64], at: usize, starts: bool, gap: f64, meeting: Meet
     let count = s[at];
     let after = count_after(starts, count);
     s[at] = after;
-    let changed = count_if(meeting.changed, lower(starts, count, after) == 0);
     Meeting {
         neighbors: meeting.neighbors + 1,
-        changed: changed,
+        changed: meeting.changed + usize::from(lower(starts, count, after) == 0),
         highest: highest_after(starts, meeting.highest, after),
         least: with_gap(meeting.least, gap),
         remaining: meeting.remaining - 1,
@@ -106,9 +82,10 @@ fn visit(
 {
     let other = s[5 * n + i];
     if other == net {
-        let mut paid = meeting;
-        paid.remaining = meeting.remaining - 1;
-        return paid;
+        return Meeting {
+            remaining: meeting.remaining - 1,
+            ..meeting
+        };
     }
     let there = float_of_key(s[4 * n + i]);
     let gap = absolute(there - here);
@@ -140,11 +117,7 @@ pub(crate) fn meet(
         least: least,
         remaining: remaining,
     };
-    loop {
-        let last = last_below(&s[9 * n..], from, to, rest);
-        let Last::Found(i, below) = last else {
-            return Ok(meeting);
-        };
+    while let Some((i, below)) = last_below(&s[9 * n..], from, to, rest) {
         if meeting.remaining == 0 {
             return Err(Refusal::WorkLimitExceeded);
         }
@@ -152,4 +125,5 @@ pub(crate) fn meet(
         to = i;
         rest = below;
     }
+    Ok(meeting)
 }

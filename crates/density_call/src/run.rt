@@ -6,7 +6,7 @@ ghost use Rattle.density_call.specs.Inner.Sweeping.{AtEvent, Handles, AtFirst, s
 
 use crate::sweep::{Sweeping, end_event, start_event};
 use congestion::Found;
-use drawing::{gap_of_float, no_gap};
+use drawing::{Refusal, gap_of_float, no_gap};
 use floats::float_of_key;
 
 // Event e: below n it is the end of wire e, else the start of wire e - n.
@@ -15,9 +15,10 @@ fn handle_event(s: &mut [u64], n: usize, e: usize, state: Sweeping) -> Result<Sw
     ensures { Handles s.old s.new n e state result }
 {
     if e < n {
-        return end_event(s, n, e, state);
+        end_event(s, n, e, state)
+    } else {
+        start_event(s, n, e - n, state)
     }
-    start_event(s, n, e - n, state)
 }
 
 // The events in order, from no active wire and the coordinate of the first one. The key of event e, be it an end or a start, is word 2 n + e.
@@ -26,7 +27,6 @@ pub(crate) fn run_events(s: &mut [u64], n: usize, allowance: usize) -> Result<Fo
     ensures { (a : AtFirst s.old n) → result ≡ swept_of (within allowance (sweep a.c a.L)) }
 {
     let first = s[0] as usize;
-    let coordinate = float_of_key(s[2 * n + first]);
     let mut state = Sweeping {
         congested_active: 0,
         congested_length: 0.0,
@@ -34,25 +34,19 @@ pub(crate) fn run_events(s: &mut [u64], n: usize, allowance: usize) -> Result<Fo
         pair_overlap_length: 0.0,
         peak_close_neighbors: 0,
         minimum_positive: no_gap(),
-        previous: coordinate,
+        previous: float_of_key(s[2 * n + first]),
         remaining: allowance,
     };
-    let mut q = 0;
-    while q < 2 * n {
+    // By index, since an event writes the same scratch, behind the events.
+    for q in 0..2 * n {
         let e = s[q] as usize;
-        let handled = handle_event(s, n, e, state);
-        let Ok(next) = handled else {
-            return Err(Refusal::WorkLimitExceeded);
-        };
-        state = next;
-        q += 1;
+        state = handle_event(s, n, e, state)?;
     }
-    let minimum = gap_of_float(state.minimum_positive);
     Ok(Found {
         congested_length: state.congested_length,
         pair_overlap_length: state.pair_overlap_length,
         peak_close_neighbors: state.peak_close_neighbors,
-        minimum_positive: minimum,
+        minimum_positive: gap_of_float(state.minimum_positive),
         remaining: state.remaining,
     })
 }

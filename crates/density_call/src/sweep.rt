@@ -3,9 +3,9 @@ ghost use Rattle.std.specs.Prelude.{◌≡◌, not, ◌+◌, ◌*◌, ◌^◌, �
 ghost use Rattle.laws.specs.Lists.{bit};
 ghost use Rattle.density_call.specs.Inner.Sweeping.{passed_to, started_by, ended_by, activated, deactivated, AtEvent, Handles};
 
-use crate::counts::greater;
 use crate::meet::{Meeting, meet};
 use bitset::{insert, remove};
+use drawing::Refusal;
 use floats::float_of_key;
 
 // The Rust's variables, and the remaining visits. The least gap is a NaN where there is none yet.
@@ -21,13 +21,6 @@ pub(crate) struct Sweeping {
     pub remaining: usize,
 }
 
-// The state after an event, or that the allowance is spent.
-#[derive(Clone, Copy)]
-pub(crate) enum Handled {
-    Went(Sweeping),
-    Spent,
-}
-
 // The lengths up to an event's coordinate join the sums.
 fn pass_to(state: Sweeping, coordinate: f64) -> Sweeping
     requires congested_active_bound { state.congested_active ≤ 2 ^ 53 }
@@ -37,39 +30,28 @@ fn pass_to(state: Sweeping, coordinate: f64) -> Sweeping
     let active = state.congested_active as f64;
     let pairs = state.close_pairs as f64;
     let along = coordinate - state.previous;
-    let mut next = state;
-    next.congested_length = state.congested_length + active * along;
-    next.pair_overlap_length = state.pair_overlap_length + pairs * along;
-    next.previous = coordinate;
-    next
+    Sweeping {
+        congested_length: state.congested_length + active * along,
+        pair_overlap_length: state.pair_overlap_length + pairs * along,
+        previous: coordinate,
+        ..state
+    }
 }
 
-// A wire is congested where it has close neighbors.
-fn congested(neighbors: usize) -> usize
-    ensures { result ≡ bit (not (eqb neighbors 0)) }
-{
-    if neighbors == 0 { 0 } else { 1 }
-}
-
-// A start: the wire itself may be congested, and so may be neighbors that were not.
+// A start: the wire itself is congested where it has close neighbors, and so may be neighbors that were not.
 fn with_start(state: Sweeping, meeting: Meeting) -> Sweeping
     requires active_fits { state.congested_active + meeting.changed + 1 < 2 ^ 64 }
     requires pairs_fit { state.close_pairs + meeting.neighbors < 2 ^ 64 }
     ensures { result ≡ started_by state meeting }
 {
     let neighbors = meeting.neighbors;
-    let highest = greater(meeting.highest, neighbors);
-    let peak = greater(state.peak_close_neighbors, highest);
-    let own = congested(neighbors);
     Sweeping {
-        congested_active: state.congested_active + own + meeting.changed,
-        congested_length: state.congested_length,
+        congested_active: state.congested_active + usize::from(neighbors != 0) + meeting.changed,
         close_pairs: state.close_pairs + neighbors,
-        pair_overlap_length: state.pair_overlap_length,
-        peak_close_neighbors: peak,
+        peak_close_neighbors: state.peak_close_neighbors.max(meeting.highest.max(neighbors)),
         minimum_positive: meeting.least,
-        previous: state.previous,
         remaining: meeting.remaining,
+        ..state
     }
 }
 
@@ -79,16 +61,12 @@ fn with_end(state: Sweeping, count: usize, meeting: Meeting) -> Sweeping
     requires pairs_suffice { meeting.neighbors ≤ state.close_pairs }
     ensures { result ≡ ended_by state «count» meeting }
 {
-    let own = congested(count);
     Sweeping {
-        congested_active: state.congested_active - own - meeting.changed,
-        congested_length: state.congested_length,
+        congested_active: state.congested_active - usize::from(count != 0) - meeting.changed,
         close_pairs: state.close_pairs - meeting.neighbors,
-        pair_overlap_length: state.pair_overlap_length,
-        peak_close_neighbors: state.peak_close_neighbors,
         minimum_positive: meeting.least,
-        previous: state.previous,
         remaining: meeting.remaining,
+        ..state
     }
 }
 
@@ -121,10 +99,7 @@ pub(crate) fn start_event(s: &mut [u64], n: usize, j: usize, state: Sweeping) ->
 {
     let coordinate = float_of_key(s[3 * n + j]);
     let passed = pass_to(state, coordinate);
-    let met = meet(s, n, j, true, passed.minimum_positive, passed.remaining);
-    let Ok(meeting) = met else {
-        return Err(Refusal::WorkLimitExceeded);
-    };
+    let meeting = meet(s, n, j, true, passed.minimum_positive, passed.remaining)?;
     activate(s, n, j, meeting.neighbors);
     Ok(with_start(passed, meeting))
 }
@@ -138,10 +113,7 @@ pub(crate) fn end_event(s: &mut [u64], n: usize, j: usize, state: Sweeping) -> R
     let coordinate = float_of_key(s[2 * n + j]);
     let count = s[8 * n + j] as usize;
     let passed = pass_to(state, coordinate);
-    let met = meet(s, n, j, false, passed.minimum_positive, passed.remaining);
-    let Ok(meeting) = met else {
-        return Err(Refusal::WorkLimitExceeded);
-    };
+    let meeting = meet(s, n, j, false, passed.minimum_positive, passed.remaining)?;
     deactivate(s, n, j);
     Ok(with_end(passed, count, meeting))
 }

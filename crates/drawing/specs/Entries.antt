@@ -2,17 +2,18 @@
 use Rattle.std.specs.Prelude.{List, [], ◌∷◌, map, ℕ, Float}
 use Rattle.floats.specs.Values.{lesser_of, greater_of}
 use Rattle.drawing.specs.declared.ends.Ends.{Ends}
-pub use Rattle.drawing.specs.declared.lists.Segment.{Segment}
+use Rattle.drawing.specs.declared.lists.Segment.{Segment as SegmentStruct}
+use Rattle.drawing.specs.declared.lists.Node.{Node as NodeStruct}
 use Rattle.drawing.specs.declared.lists.Segments.{Segments}
 use Rattle.drawing.specs.declared.lists.Nodes.{Nodes}
 use Rattle.drawing.specs.declared.lists.Exemptions.{Exemptions}
 
-pub record Node : Type 0 where
-  pub id : ℕ
-  pub x : Float
-  pub y : Float
-  pub width : Float
-  pub height : Float
+-- a segment and a node are records with a field for each of the code's structs
+abbrev pub Segment : Type 0
+Segment = SegmentStruct
+
+abbrev pub Node : Type 0
+Node = NodeStruct
 
 pub record Exemption : Type 0 where
   pub net : ℕ

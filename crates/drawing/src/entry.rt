@@ -4,19 +4,20 @@ ghost use Rattle.drawing.specs.Entries as Entries;
 ghost use Rattle.drawing.specs.Conditions as Conditions;
 
 use crate::ends::ends_in_order;
+use crate::lists::{Node, Segment};
 use floats::is_finite;
 
 // A segment, its ends in either order: an orientation byte above 1, a number that is not finite, or ends that are equal.
-pub fn segment_unfit(orientation: u8, fixed: f64, start: f64, end: f64) -> bool
-    ensures { let ends = Entries.ends_in_order start end in result ≡ Conditions.unfit_fields orientation fixed ends.start ends.end }
+pub fn segment_unfit(segment: Segment) -> bool
+    ensures { result ≡ Conditions.unfit_segment (Entries.as_taken segment) }
 {
-    let ends = ends_in_order(start, end);
+    let ends = ends_in_order(segment.start, segment.end);
     let first = ends.start;
     let last = ends.end;
-    if 1 < orientation {
+    if 1 < segment.orientation {
         return true;
     }
-    if !is_finite(fixed) {
+    if !is_finite(segment.fixed) {
         return true;
     }
     if !is_finite(first) {
@@ -45,13 +46,13 @@ fn extent_unfit(corner: f64, extent: f64) -> bool
 }
 
 // A node: either axis of its box.
-pub fn node_unfit(x: f64, y: f64, width: f64, height: f64) -> bool
-    ensures { result ≡ Conditions.unfit_box x y width height }
+pub fn node_unfit(node: Node) -> bool
+    ensures { result ≡ Conditions.unfit_node node }
 {
-    if extent_unfit(x, width) {
+    if extent_unfit(node.x, node.width) {
         return true;
     }
-    extent_unfit(y, height)
+    extent_unfit(node.y, node.height)
 }
 
 // A threshold: not finite, or below 0, which -0 is not.

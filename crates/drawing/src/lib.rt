@@ -12,7 +12,7 @@ pub mod visits;
 pub use ends::{Ends, ends_in_order};
 pub use entry::{node_unfit, segment_unfit, threshold_unfit};
 pub use gap::{gap_of_float, least_with, minimum_option, no_gap};
-pub use lists::{Exemptions, Nodes, Segment, Segments};
+pub use lists::{Exemptions, Node, Nodes, Segment, Segments};
 pub use refusal::Refusal;
 pub use scratch::clear;
 pub use visits::visits_used;

@@ -1,9 +1,9 @@
 // The lists of a drawing as columns, as they are lent: a slice for each field of the entries. SCOPE 2.1 to 2.3, 2.5.
 // The columns of one list may differ in length. A call then refuses them (SCOPE 7.2).
 ghost use Rattle.std.specs.Prelude.{◌≡◌, ◌<◌, length};
-ghost use Rattle.drawing.specs.Entries.{lent_segments};
-ghost use Rattle.drawing.specs.Inner.Entries.{lent_at};
-ghost use Rattle.drawing.specs.Inner.Lengths.{SegmentsAgree};
+ghost use Rattle.drawing.specs.Entries.{lent_segments, lent_nodes};
+ghost use Rattle.drawing.specs.Inner.Entries.{lent_at, node_at};
+ghost use Rattle.drawing.specs.Inner.Lengths.{SegmentsAgree, NodesAgree};
 
 // A segment as an entry of these columns: the orientation byte is 1 where it is horizontal and 0 where it is vertical.
 #[derive(Clone, Copy)]
@@ -13,6 +13,15 @@ pub struct Segment {
     pub fixed: f64,
     pub start: f64,
     pub end: f64,
+}
+
+#[derive(Clone, Copy)]
+pub struct Node {
+    pub id: u32,
+    pub x: f64,
+    pub y: f64,
+    pub width: f64,
+    pub height: f64,
 }
 
 #[derive(Clone, Copy)]
@@ -48,6 +57,23 @@ pub struct Nodes<'a> {
     pub y: &'a [f64],
     pub width: &'a [f64],
     pub height: &'a [f64],
+}
+
+impl Nodes<'_> {
+    // The entry at index i.
+    pub fn at(&self, i: usize) -> Node
+        requires agree { NodesAgree (lent_nodes self.now) }
+        requires in_bounds { i < length self.now.id.now }
+        ensures { result ≡ node_at (lent_nodes self.now) i }
+    {
+        Node {
+            id: self.id[i],
+            x: self.x[i],
+            y: self.y[i],
+            width: self.width[i],
+            height: self.height[i],
+        }
+    }
 }
 
 #[derive(Clone, Copy)]

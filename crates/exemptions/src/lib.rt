@@ -9,16 +9,10 @@ ghost use Rattle.exemptions.specs.Inner.Exempting.{word, word_at, node_of, Ascen
 
 use drawing::Exemptions;
 use sorting::sort_indices;
+use std::ops::Range;
 
 // 2 to the power 32: the upper half of a word is the net, the lower the node.
 pub const HALF: u64 = 4294967296;
-
-// The indices of one net's exemptions: from `from` on, and before `to`.
-#[derive(Clone, Copy)]
-pub struct Range {
-    pub from: usize,
-    pub to: usize,
-}
 
 fn pack(net: u32, node: u32) -> u64
     ensures { result ≡ word net node }
@@ -37,10 +31,8 @@ pub fn gather(words: &mut [u64], exemptions: &Exemptions<'_>)
     if words.len() < k {
         return;
     }
-    let mut i = 0;
-    while i < k {
+    for i in 0..k {
         words[i] = pack(exemptions.net[i], exemptions.node[i]);
-        i += 1;
     }
     sort_indices(words, k, k, 0);
 }
@@ -49,32 +41,19 @@ pub fn gather(words: &mut [u64], exemptions: &Exemptions<'_>)
 pub fn first_at_least(words: &[u64], a: usize, b: usize, v: u64) -> usize
     ensures { a ≤ b → b ≤ length words.now → Ascending (word_at words.now) a b → LowerBound (word_at words.now) a b v result }
 {
-    if b < a {
+    let Some(part) = words.get(a..b) else {
         return a;
-    }
-    if words.len() < b {
-        return a;
-    }
-    // the index sought is one of the n from `at` on, or the one after them
-    let mut at = a;
-    let mut n = b - a;
-    while 0 < n {
-        let rest = n / 2;
-        let half = n - rest;
-        if words[at + half - 1] < v {
-            at += half;
-        }
-        n = rest;
-    }
-    at
+    };
+    a + part.partition_point(|word| *word < v)
 }
 
-// The same for the nodes of the words. `below` is 1 where the node in the middle is below id, and 0 where it is not: a comparison here would become a branch, mispredicted half of the time.
+// The same for the nodes of the words. It is written out, since `partition_point` compares: `below` is 1 where the node in the middle is below id, and 0 where it is not: a comparison here would become a branch, mispredicted half of the time.
 fn first_node(words: &[u64], a: usize, b: usize, id: u32) -> usize
     requires { (a ≤ b) × (b ≤ length words.now) }
     ensures { Ascending (node_of words.now) a b → LowerBound (node_of words.now) a b id result }
 {
     let limit = id as u64 + (HALF - 1);
+    // the index sought is one of the n from `at` on, or the one after them
     let mut at = a;
     let mut n = b - a;
     while 0 < n {
@@ -88,24 +67,24 @@ fn first_node(words: &[u64], a: usize, b: usize, id: u32) -> usize
 }
 
 // The indices of that net's exemptions among the first k words, which ascend once they are gathered.
-pub fn net_range(words: &[u64], k: usize, net: u32) -> Range
+pub fn net_range(words: &[u64], k: usize, net: u32) -> Range<usize>
     ensures { Rising words.now k → Own words.now k net result }
 {
     let from = first_at_least(words, 0, k, net as u64 * HALF);
     // the words of the last net extend to the end
-    if net == 4294967295 {
-        return Range { from: from, to: k };
+    if net == u32::MAX {
+        return from..k;
     }
     let to = first_at_least(words, from, k, (net as u64 + 1) * HALF);
-    Range { from: from, to: to }
+    from..to
 }
 
 // Whether a node of that id is exempt for the net whose exemptions are in the range that `net_range` returns for gathered words. Where the range is empty or extends beyond the words, no node is.
-pub fn is_exempt(words: &[u64], range: Range, id: u32) -> bool
-    ensures { (ex : List Exemption) (net : ℕ) → Listed words.now ex net range → result ≡ exempt ex net id }
+pub fn is_exempt(words: &[u64], range: &Range<usize>, id: u32) -> bool
+    ensures { (ex : List Exemption) (net : ℕ) → Listed words.now ex net range.now → result ≡ exempt ex net id }
 {
-    let from = range.from;
-    let to = range.to;
+    let from = range.start;
+    let to = range.end;
     if to <= from {
         return false;
     }

@@ -15,7 +15,8 @@ use Rattle.floats.proofs.Rank.{rank, fin_num, lt_rank, lt→, →le, →lt}
 use Rattle.floats.proofs.Zeros.{canonical_again, canonical_rank, canonical_fin}
 use Rattle.floats.proofs.NumberKeys.{key-lt, canonical_key, key-of-one}
 use Rattle.floats.proofs.Trichotomy.{lt_asym}
-use Rattle.drawing.specs.Entries.{Segment, as_taken}
+use Rattle.drawing.specs.declared.lists.Segment.{Segment}
+use Rattle.drawing.specs.Entries.{as_taken}
 use Rattle.drawing.specs.Conditions.{unfit_fields, unfit_segment}
 use Rattle.drawing.specs.Held.{FitSegment}
 use Rattle.drawing.proofs.Directions.{taken_kept}

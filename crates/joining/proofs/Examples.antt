@@ -12,11 +12,12 @@ use Rattle.floats.specs.TotalOrder.{key, key_of}
 use Rattle.floats.specs.Values.{canonical_zero, lesser_of, greater_of}
 use Rattle.drawing.specs.declared.refusal.Refusal.TheVariants.{ColumnsDiffer, InvalidInput, ShortOutput}
 use Rattle.drawing.specs.Conditions.{differ, too_many, unfit_fields, unfit_segment, short_output}
-use Rattle.drawing.specs.Entries.{Segment, SegmentColumns, segment_columns, segments_of, segments, columns_of}
+use Rattle.drawing.specs.declared.lists.Segment.{Segment}
+use Rattle.drawing.specs.Entries.{SegmentColumns, segment_columns, segments_of, segments, columns_of}
 use Rattle.drawing.specs.Checks.{segments_differ, segment_list_conditions}
 use Rattle.drawing.specs.Held.{FitSegment}
 use Rattle.drawing.specs.Refusals.{first_of}
-use Rattle.joining.specs.declared.answer.JoinAnswer.TheVariants.{Joined, Refused}
+use Rattle.std.specs.Prelude.{Ok, Err}
 use Rattle.joining.specs.Points.{SamePoints}
 use Rattle.joining.specs.Joined.{canonical_zeros, piece_row, touches, extended, join_from, pieces, joined}
 use Rattle.joining.specs.Conditions.{join_conditions}
@@ -119,7 +120,7 @@ abbrev nothing : SegmentColumns
 nothing = segment_columns [] [] [] [] []
 
 -- 9 down to 5, and 0 to 5: one, from 0 to 9, and 1 went away
-pub reversed : join_answer (columns_of (entry 1 1 0 0x4022_0000_0000_0000 0x4014_0000_0000_0000 ∷ entry 1 1 0 0 0x4014_0000_0000_0000 ∷ [])) (held 1 1 1 1 1) ≡ Joined 1 1
+pub reversed : join_answer (columns_of (entry 1 1 0 0x4022_0000_0000_0000 0x4014_0000_0000_0000 ∷ entry 1 1 0 0 0x4014_0000_0000_0000 ∷ [])) (held 1 1 1 1 1) ≡ Ok (record { pieces = 1; gone = 1 })
 unfolding join_answer join_conditions segment_list_conditions segments_differ differ too_many short_output unfit_segment unfit_fields some_of first_of segments segments_of columns_of joined pieces join_from touches extended canonical_zeros piece_row sort_by insert_by row_le key_of key to_bits size canonical_zero lesser_of greater_of lt of_bits
 reversed = refl
 
@@ -131,7 +132,7 @@ reversed_written = refl
 abbrev two-nets : SegmentColumns
 two-nets = columns_of (entry 2 1 0x4010_0000_0000_0000 0 0x4014_0000_0000_0000 ∷ entry 1 0 0x4010_0000_0000_0000 0 0x4014_0000_0000_0000 ∷ [])
 
-pub different-lengths : join_answer two-nets (held 3 2 9 9 9) ≡ Joined 2 0
+pub different-lengths : join_answer two-nets (held 3 2 9 9 9) ≡ Ok (record { pieces = 2; gone = 0 })
 unfolding join_answer join_conditions segment_list_conditions segments_differ differ too_many short_output unfit_segment unfit_fields some_of first_of segments segments_of columns_of joined pieces join_from touches extended canonical_zeros piece_row sort_by insert_by row_le key_of key to_bits size canonical_zero lesser_of greater_of lt of_bits
 different-lengths = refl
 
@@ -143,7 +144,7 @@ kept-past = refl
 abbrev three-nets : SegmentColumns
 three-nets = columns_of (entry 2 1 0 0 0x3ff0_0000_0000_0000 ∷ entry 1 0 0 0 0x3ff0_0000_0000_0000 ∷ entry 3 0 0 0 0x3ff0_0000_0000_0000 ∷ [])
 
-pub short : join_answer three-nets (held 3 2 9 9 9) ≡ Refused ShortOutput
+pub short : join_answer three-nets (held 3 2 9 9 9) ≡ Err ShortOutput
 unfolding join_answer join_conditions segment_list_conditions segments_differ differ too_many short_output unfit_segment unfit_fields some_of first_of segments segments_of columns_of joined pieces join_from touches extended canonical_zeros piece_row sort_by insert_by row_le key_of key to_bits size canonical_zero lesser_of greater_of lt of_bits
 short = refl
 
@@ -152,20 +153,20 @@ unfolding output_after written join_conditions segment_list_conditions segments_
 nothing_written = refl
 
 -- a NaN and no room: 5; columns that differ and no room: 2
-pub unfit-first : join_answer (columns_of (entry 1 1 0x7ff8_0000_0000_0000 0 0x3ff0_0000_0000_0000 ∷ [])) nothing ≡ Refused InvalidInput
+pub unfit-first : join_answer (columns_of (entry 1 1 0x7ff8_0000_0000_0000 0 0x3ff0_0000_0000_0000 ∷ [])) nothing ≡ Err InvalidInput
 unfolding join_answer join_conditions segment_list_conditions segments_differ differ too_many short_output unfit_segment unfit_fields some_of first_of segments segments_of columns_of joined pieces join_from touches extended canonical_zeros piece_row sort_by insert_by row_le key_of key to_bits size canonical_zero lesser_of greater_of lt of_bits
 unfit-first = refl
 
-pub differ-first : join_answer (segment_columns (1 ∷ []) (1 ∷ []) (one ∷ []) (one ∷ []) []) nothing ≡ Refused ColumnsDiffer
+pub differ-first : join_answer (segment_columns (1 ∷ []) (1 ∷ []) (one ∷ []) (one ∷ []) []) nothing ≡ Err ColumnsDiffer
 unfolding join_answer join_conditions segment_list_conditions segments_differ differ too_many short_output unfit_segment unfit_fields some_of first_of segments segments_of columns_of joined pieces join_from touches extended canonical_zeros piece_row sort_by insert_by row_le key_of key to_bits size canonical_zero lesser_of greater_of lt of_bits
 differ-first = refl
 
 -- no segments, and empty columns: accepted, with no piece and none gone
-pub none : join_answer nothing nothing ≡ Joined 0 0
+pub none : join_answer nothing nothing ≡ Ok (record { pieces = 0; gone = 0 })
 unfolding join_answer join_conditions segment_list_conditions segments_differ differ too_many short_output unfit_segment unfit_fields some_of first_of segments segments_of columns_of joined pieces join_from touches extended canonical_zeros piece_row sort_by insert_by row_le key_of key to_bits size canonical_zero lesser_of greater_of lt of_bits
 none = refl
 
 -- a segment between the two zeros: 5
-pub between-zeros : join_answer (columns_of (entry 1 1 0 0x8000_0000_0000_0000 0 ∷ [])) (held 1 1 1 1 1) ≡ Refused InvalidInput
+pub between-zeros : join_answer (columns_of (entry 1 1 0 0x8000_0000_0000_0000 0 ∷ [])) (held 1 1 1 1 1) ≡ Err InvalidInput
 unfolding join_answer join_conditions segment_list_conditions segments_differ differ too_many short_output unfit_segment unfit_fields some_of first_of segments segments_of columns_of joined pieces join_from touches extended canonical_zeros piece_row sort_by insert_by row_le key_of key to_bits size canonical_zero lesser_of greater_of lt of_bits
 between-zeros = refl

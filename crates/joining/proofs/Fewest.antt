@@ -14,7 +14,7 @@ use Rattle.laws.proofs.ListLaws.{all_mem}
 use Rattle.floats.specs.TotalOrder.{key_of}
 use Rattle.floats.specs.Values.{canonical_zero}
 use Rattle.floats.proofs.NumberKeys.{key-of-one}
-use Rattle.drawing.specs.Entries.{Segment}
+use Rattle.drawing.specs.declared.lists.Segment.{Segment}
 use Rattle.drawing.specs.Held.{Binary64}
 use Rattle.joining.specs.Points.{Finite, NumberLine, NetLine, net_line_of, is_on}
 use Rattle.joining.proofs.Canonical.{Canonical, canonical_number, row-of-line}

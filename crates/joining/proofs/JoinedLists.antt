@@ -19,7 +19,8 @@ use Rattle.laws.proofs.Perms.{perm_sym, perm-all, perm-map, perm_mem, perm-lengt
 use Rattle.laws.proofs.RowLaws.{row_less, row_more, row_antisym, by_rows}
 use Rattle.laws.proofs.Sorting.{sort_perm, sort_sorted, sort_same}
 use Rattle.floats.specs.TotalOrder.{key_of}
-use Rattle.drawing.specs.Entries.{Segment, as_taken}
+use Rattle.drawing.specs.declared.lists.Segment.{Segment}
+use Rattle.drawing.specs.Entries.{as_taken}
 use Rattle.drawing.specs.Held.{Binary64, FitSegment}
 use Rattle.joining.specs.Points.{NumberLine, NetLine, net_line_of, Covers, SamePoints, SameOnLine, is_on}
 use Rattle.joining.specs.Joined.{canonical_zeros, line_row, piece_row, is_in_order, extended, pieces, joined}

@@ -17,7 +17,7 @@ use Rattle.laws.proofs.Orders.{Order}
 use Rattle.laws.proofs.RowLaws.{by_rows}
 use Rattle.laws.proofs.Sorting.{own}
 use Rattle.floats.specs.TotalOrder.{key_of}
-use Rattle.drawing.specs.Entries.{Segment}
+use Rattle.drawing.specs.declared.lists.Segment.{Segment}
 use Rattle.joining.specs.Points.{NumberLine, NetLine, net_line_of}
 use Rattle.joining.specs.Joined.{line_row, touches, extended, join_from}
 use Rattle.joining.proofs.LineRows.{lead, on_one, one_up}

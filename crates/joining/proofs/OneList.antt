@@ -14,7 +14,7 @@ use Rattle.laws.proofs.ListLaws.{all_mem}
 use Rattle.laws.proofs.RowLaws.{row_antisym}
 use Rattle.laws.proofs.Sorting.{own}
 use Rattle.floats.specs.TotalOrder.{key_of}
-use Rattle.drawing.specs.Entries.{Segment}
+use Rattle.drawing.specs.declared.lists.Segment.{Segment}
 use Rattle.joining.specs.Points.{NumberLine, NetLine, net_line_of}
 use Rattle.joining.specs.Joined.{line_row}
 use Rattle.joining.proofs.LineRows.{lead, on_one, one_up, one-above}

@@ -1,56 +1,21 @@
 -- Pieces of four words: what the code finds of them, and what they are to the segments that they stand for. Assumes nothing.
-use mathlib.Core.Path.{◌≡◌, refl, sym, ap, ◌∙◌}
+use mathlib.Core.Path.{◌≡◌, refl, ap, ◌∙◌}
 use mathlib.Core.Bool.{Bool, true, false, not, ◌&&◌, cond}
 use mathlib.Core.List.{List, [], ◌∷◌, map}
-use Prim.Native.Nat.{ℕ, ◌+◌, ◌-◌, ◌*◌, ◌≤◌, ◌<◌}
+use Prim.Native.Nat.{ℕ, ◌+◌, ◌-◌, ◌*◌, ◌≤◌}
 use native.Mathlib.Omega.{arith}
 use lib.Dec.{leb, ltb, eqb}
-use borrow.Author.Tests.{lt-ltb, le-ltb, eq-eqb, ne_eqb, eqb-true}
+use borrow.Author.Tests.{eq-eqb, eqb-true}
 use Rattle.laws.specs.Lists.{put}
-use Rattle.laws.proofs.Tests.{same_test, is_true, of_true, and_left, and_right, and_both, cond_true, cond_false}
+use Rattle.laws.proofs.Tests.{same_test, is_true, of_true, and_left, and_right, and_both}
 use Rattle.floats.specs.TotalOrder.{key_of}
-use Rattle.floats.specs.Values.{canonical_zero}
-use Rattle.drawing.specs.declared.ends.Ends.{Ends}
-use Rattle.drawing.specs.Entries.{Segment, ends_in_order, as_taken}
+use Rattle.drawing.specs.declared.lists.Segment.{Segment}
 use Rattle.joining.specs.declared.piece.Piece.{Piece}
-use Rattle.joining.specs.Joined.{canonical_zeros, touches, extended, join_from, pieces}
+use Rattle.joining.specs.Joined.{touches, extended, join_from, pieces}
 use Rattle.joining.specs.Inner.Pieces.{piece_of, touches_piece, extended_piece, next_piece, begun, join_pieces_from, joined_pieces}
 
--- ---- the greater of two words
-pub later_second : (a b : ℕ) → a < b → b ≡ cond (ltb a b) b a
-later_second a b h = sym (cond_true (ltb a b) b a (lt-ltb a b h))
-
-pub later_first : (a b : ℕ) → b ≤ a → a ≡ cond (ltb a b) b a
-later_first a b h = sym (cond_false (ltb a b) b a (le-ltb a b h))
-
--- ---- the piece of a segment, from its ends in rising order
-pub piece_made : (s : Segment) (head line start end : ℕ) (ends : Ends) → ends ≡ ends_in_order s.start s.end → head ≡ 2 * s.net + (1 - s.orientation) → line ≡ key_of (canonical_zero s.fixed) → start ≡ key_of (canonical_zero ends.start) → end ≡ key_of (canonical_zero ends.end)
-    → ◌≡◌ {A = Piece} (record { net_and_orientation = head; fixed = line; start = start; end = end }) (piece_of (canonical_zeros (as_taken s)))
-unfolding piece_of canonical_zeros
-piece_made s head line start end ends o a b c d = (λ i. record { net_and_orientation = a i; fixed = b i; start = (c ∙ ap (λ (z : Ends). key_of (canonical_zero z.start)) o) i; end = (d ∙ ap (λ (z : Ends). key_of (canonical_zero z.end)) o) i })
-
--- ---- what touches
+-- ---- where x begins a piece of its own
 module _ (c x : Piece) where
-  pub other_head : (c.net_and_orientation ≡ x.net_and_orientation → ⊥) → false ≡ touches_piece c x
-  unfolding touches_piece
-  other_head n = sym (rw (ne_eqb c.net_and_orientation x.net_and_orientation n))
-
-  pub other-line : c.net_and_orientation ≡ x.net_and_orientation → (c.fixed ≡ x.fixed → ⊥) → false ≡ touches_piece c x
-  unfolding touches_piece
-  other-line e n = sym (rw (eq-eqb c.net_and_orientation x.net_and_orientation e, ne_eqb c.fixed x.fixed n))
-
-  pub one_line : c.net_and_orientation ≡ x.net_and_orientation → c.fixed ≡ x.fixed → leb x.start c.end ≡ touches_piece c x
-  unfolding touches_piece
-  one_line e f = sym (rw (eq-eqb c.net_and_orientation x.net_and_orientation e, eq-eqb c.fixed x.fixed f))
-
-  pub next_apart : touches_piece c x ≡ false → x ≡ next_piece c x
-  unfolding next_piece
-  next_apart f = sym (cond_false (touches_piece c x) (extended_piece c x) x f)
-
-  pub next_grown : (end : ℕ) → touches_piece c x ≡ true → end ≡ cond (ltb c.end x.end) x.end c.end → ◌≡◌ {A = Piece} (record { net_and_orientation = c.net_and_orientation; fixed = c.fixed; start = c.start; end = end }) (next_piece c x)
-  unfolding next_piece extended_piece
-  next_grown end t e = (λ i. record { net_and_orientation = c.net_and_orientation; fixed = c.fixed; start = c.start; end = e i }) ∙ sym (cond_true (touches_piece c x) (extended_piece c x) x t)
-
   pub none-begun : (n : ℕ) → touches_piece c x ≡ true → n ≡ n + begun c x
   none-begun n t = rw t (omega arith)
 

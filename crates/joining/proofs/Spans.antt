@@ -10,7 +10,7 @@ use Rattle.laws.proofs.Tests.{le_or_lt}
 use Rattle.floats.specs.TotalOrder.{key_of}
 use Rattle.floats.specs.Values.{canonical_zero}
 use Rattle.floats.proofs.Zeros.{canonical_again}
-use Rattle.drawing.specs.Entries.{Segment}
+use Rattle.drawing.specs.declared.lists.Segment.{Segment}
 use Rattle.drawing.specs.Held.{FitSegment}
 use Rattle.joining.specs.Points.{NumberLine, NetLine, net_line_of, Covers}
 use Rattle.joining.specs.Joined.{canonical_zeros}

@@ -5,7 +5,7 @@ use Rattle.laws.specs.Rows.{row_le}
 use Rattle.laws.specs.Sort.{sort_by}
 use Rattle.floats.specs.TotalOrder.{key_of}
 use Rattle.floats.specs.Values.{canonical_zero}
-use Rattle.drawing.specs.Entries.{Segment}
+use Rattle.drawing.specs.declared.lists.Segment.{Segment}
 
 -- SCOPE 16.4: "with zeros made +0"
 unfoldable pub canonical_zeros : Segment → Segment

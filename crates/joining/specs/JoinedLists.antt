@@ -4,7 +4,8 @@ use Rattle.std.specs.Float.Ieee.{lt}
 use Rattle.laws.specs.Lists.{All, Pairwise, count}
 use Rattle.laws.specs.Perm.{Perm}
 use Rattle.floats.specs.Values.{canonical_zero}
-use Rattle.drawing.specs.Entries.{Segment, as_taken}
+use Rattle.drawing.specs.declared.lists.Segment.{Segment}
+use Rattle.drawing.specs.Entries.{as_taken}
 use Rattle.drawing.specs.Held.{Binary64, FitSegment}
 use Rattle.joining.specs.Points.{NumberLine, NetLine, net_line_of, SamePoints, SameOnLine, is_on}
 use Rattle.joining.specs.Joined.{is_in_order, joined}

@@ -5,7 +5,7 @@ use Rattle.std.specs.Float.Ieee.Scale.{finite}
 use Rattle.laws.specs.Lists.{Mem}
 use Rattle.floats.specs.TotalOrder.{key_of}
 use Rattle.floats.specs.Values.{canonical_zero}
-use Rattle.drawing.specs.Entries.{Segment}
+use Rattle.drawing.specs.declared.lists.Segment.{Segment}
 use Rattle.drawing.specs.Held.{Binary64}
 
 -- a finite number of binary64

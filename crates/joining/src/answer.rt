@@ -1,9 +1,8 @@
-// What the joiner returns.
-use drawing::Refusal;
+// What the joiner returns where it is not refused.
 
-// How many pieces were written and how many went away, or why nothing was written.
+// How many pieces were written, and how many of the segments went away.
 #[derive(Clone, Copy)]
-pub enum JoinAnswer {
-    Joined(usize, usize),
-    Refused(Refusal),
+pub struct Joined {
+    pub pieces: usize,
+    pub gone: usize,
 }

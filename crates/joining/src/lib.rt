@@ -5,6 +5,6 @@ pub mod answer;
 pub mod piece;
 pub mod room;
 
-pub use answer::JoinAnswer;
+pub use answer::Joined;
 pub use piece::{Piece, next, piece_of, touches};
 pub use room::short_output;

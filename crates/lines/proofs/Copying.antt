@@ -1,23 +1,41 @@
--- A loop that copies a list into a slice, entry by entry, each converted to another type: its invariant. Assumes nothing.
-use mathlib.Core.Path.{◌≡◌, refl, ap, ◌∙◌}
-use mathlib.Core.List.{List, [], ◌∷◌, map, map-append}
-use Prim.Native.Nat.{ℕ, ◌+◌, ◌<◌}
-use native.Mathlib.Numerals.{add-one}
-use native.Mathlib.Omega.{arith}
-use lib.ListN.{length, get_or, set, take, length-set}
-use lib.Seq.{take-suc, take-suc-set}
+-- The loop that copies the records of a list into columns: the first i records are in them. Assumes nothing.
+use Rattle.std.proofs.Common.{◌≡◌, Bool, true, false, ℕ, ◌+◌, ◌≤◌, ◌<◌, List, [], ◌∷◌, ◌++◌, map, length, get_or, set, take, min, refl, sym, ap, ◌∙◌, arith, Float}
+use Rattle.std.specs.Int.{from_bool}
+use Rattle.std.proofs.lemmas.List.{take_more, take_more_set, map-append, length-set, length-take, take-map, take_min, take_all}
+use Rattle.std.proofs.lemmas.Simd.{map-map}
+use Rattle.std.proofs.Math.Nat.{le_antisymm, min_comm}
+use Rattle.drawing.specs.Entries.{Segment, segment_columns, columns_of}
+use Rattle.lines.specs.Orientation.{orientation_byte}
 
--- g of the first i entries of s is f of those of xs; s is as long as s₀
-pub record Copied {A B C : Type 0} (g : B → C) (f : A → C) (xs : List A) (s₀ s : List B) (i : ℕ) : Type 0 where
-  pub len : length s ≡ length s₀
-  pub is : map g (take i s) ≡ map f (take i xs)
+-- the first i entries of a column are a field of the first i records
+pub record Copied {R A : Type 0} (field : R → A) (records : List R) (column : List A) (i : ℕ) : Type 0 where
+  pub room : length column ≡ 4097
+  pub is : take i column ≡ map field (take i records)
 
-module _ {A B C : Type 0} (g : B → C) (f : A → C) where
-  pub copied_none : {xs : List A} {s : List B} → Copied g f xs s s 0
-  copied_none = record { len = refl; is = refl }
+module _ {R A : Type 0} (field : R → A) (records : List R) where
+  pub copied_next : (column : List A) (i : ℕ) (x : R) (v : A) → Copied field records column i → i < length records → i < 4097 → x ≡ get_or records i x → v ≡ field x → Copied field records (set column i v) (i + 1)
+  copied_next column i x v p h k e f =
+      let room : i < length column = omega (arith, p.room) in
+      record {
+        room = length-set column i v ∙ p.room;
+        is = rw (take_more_set column i v room, take_more records i x h, map-append, ← e, p.is, f) refl;
+      }
 
-  pub copied_next : {xs : List A} {s₀ s : List B} {i : ℕ} {v : B} (d : A) → Copied g f xs s₀ s i → i < length xs → i < length s₀ → g v ≡ f (get_or xs i d) → Copied g f xs s₀ (set s i v) (i + 1)
-  copied_next {xs} {s₀} {s} {i} {v} d p h k₀ e =
-      let k : i < length s = omega (arith, p.len) in
-      let one : g v ∷ [] ≡ f (get_or xs i d) ∷ [] = ap (λ (y : C). y ∷ []) e in
-      record { len = length-set s i v ∙ p.len; is = rw (add-one i, take-suc-set s i v k, take-suc xs i d h, map-append g (take i s) (v ∷ []), map-append f (take i xs) (get_or xs i d ∷ []), p.is, one) }
+  -- a column, once the first n records are in it
+  pub copied_all : (column : List A) (i n : ℕ) → n ≡ min (length records) 4097 → Copied field (take n records) column i → i ≤ length (take n records) → length (take n records) ≤ i → take n column ≡ map field (take 4097 records)
+  copied_all column i n e p small large =
+      let front : take n records ≡ take 4097 records = ap (λ k. take k records) (e ∙ min_comm (length records) 4097) ∙ take_min 4097 records in
+      let same : i ≡ n = omega (arith, length-take n records, e) in
+      ap (λ k. take k column) (sym same) ∙ p.is ∙ ap (map field) (take_all i (take n records) large ∙ front)
+
+-- the columns of segments that come from records, field by field
+pub columns_of-records : {R : Type 0} (segment : R → Segment) (n : ℕ) (records : List R) → columns_of (take n (map segment records)) ≡ segment_columns (map (λ (r : R). (segment r).net) (take n records)) (map (λ (r : R). (segment r).orientation) (take n records)) (map (λ (r : R). (segment r).fixed) (take n records)) (map (λ (r : R). (segment r).start) (take n records)) (map (λ (r : R). (segment r).end) (take n records))
+unfolding columns_of
+columns_of-records segment n records = simp (take-map, map-map)
+
+
+-- the byte of a `bool`
+pub byte_of : (b : Bool) → from_bool b ≡ orientation_byte b
+unfolding orientation_byte
+byte_of true = refl
+byte_of false = refl

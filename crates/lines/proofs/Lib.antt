@@ -1,5 +1,2 @@
--- What the proofs of the functions use; `records` cites the first two.
-pub mod Copying
-pub mod UnpackCount
-mod LineColumns
-mod Unpacking
+-- What the proof of `Columns::of` uses.
+mod Copying

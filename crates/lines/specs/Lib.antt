@@ -1,4 +1,2 @@
 -- The definitions, a file for each notion.
 pub mod Orientation
--- what only contracts of inner functions and proofs cite
-pub mod Inner

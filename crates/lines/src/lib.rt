@@ -1,6 +1,8 @@
-// From a list of records to columns (SCOPE 2.6, 15.9): a line is an entry in the form that the columns have, and the lines of a list are copied into columns. The crates above make lines of their records and measure them.
+// From a list of records to columns (SCOPE 2.6, 15.9): what a record is, and the columns that the records of a list are copied into. The measures take columns.
 #![tactic(auto)]
 
-pub mod line;
+pub mod columns;
+pub mod record;
 
-pub use line::{Line, orientation_byte, unpack, unpack_count};
+pub use columns::{Columns, PLACES};
+pub use record::SegmentRecord;

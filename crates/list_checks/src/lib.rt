@@ -78,12 +78,7 @@ fn segments_unfit(segments: &Segments<'_>) -> bool
     ensures { result ≡ some_of Conditions.unfit_segment (Entries.segments (lent_segments segments.now)) }
 {
     for i in 0..segments.net.len() {
-        if segment_unfit(
-            segments.orientation[i],
-            segments.fixed[i],
-            segments.start[i],
-            segments.end[i],
-        ) {
+        if segment_unfit(segments.at(i)) {
             return true;
         }
     }
@@ -95,7 +90,7 @@ fn nodes_unfit(nodes: &Nodes<'_>) -> bool
     ensures { result ≡ some_of Conditions.unfit_node (Entries.nodes (lent_nodes nodes.now)) }
 {
     for i in 0..nodes.id.len() {
-        if node_unfit(nodes.x[i], nodes.y[i], nodes.width[i], nodes.height[i]) {
+        if node_unfit(nodes.at(i)) {
             return true;
         }
     }

@@ -4,13 +4,13 @@ use mathlib.Core.List.{List, [], ◌∷◌, map}
 use mathlib.Core.Bool.{Bool, true, false, cond}
 use Prim.Native.Nat.{ℕ, suc, ◌+◌, ◌≤◌, ◌<◌, zero-le}
 use native.Mathlib.Nat.{le_refl}
-use native.Mathlib.Numerals.{add-one}
 use native.Mathlib.Omega.{arith}
-use borrow.Author.Tests.{eqb-true, eq-eqb, ne_eqb, lt-ltb, le-ltb}
+use borrow.Author.Tests.{eqb-true, lt-ltb, le-ltb}
 use lib.Dec.{ltb, eqb}
 use lib.Ieee.{Float}
-use lib.ListN.{length, get_or, drop, drop_of_length-le}
-use lib.Seq.{drop-cons}
+use lib.ListN.{length}
+use Rattle.std.specs.List.{count_by}
+use Rattle.std.proofs.lemmas.List.Recursion.{is_count_by}
 use Rattle.laws.specs.Lists.{fold, bit, count}
 use Rattle.laws.proofs.Tests.{cond_true, cond_false}
 use Rattle.drawing.specs.Entries.{Segment, SegmentColumns, segments_of, as_taken, segments}
@@ -19,37 +19,14 @@ use Rattle.rows.specs.Rows.{oriented, at_least_two}
 use Rattle.rows.specs.Inner.Rows.{of_orientation, segments_to_sweep}
 use Rattle.rows.proofs.Oriented.{oriented-length}
 
--- ---- the loop: n of the first i bytes are o
-pub record Counted (o : ℕ) (l : List ℕ) (i n : ℕ) : Type 0 where
-  pub inside : i ≤ length l
-  pub few : n ≤ i
-  pub so_far : n + of_orientation o (drop i l) ≡ of_orientation o l
-
-pub counted_none : (o : ℕ) (l : List ℕ) → Counted o l 0 0
-counted_none o l = record { inside = omega arith; few = le_refl 0; so_far = omega arith }
-
-module _ (o : ℕ) (l : List ℕ) (i n : ℕ) (k : Counted o l i n) where
-  next : (b : Bool) (m : ℕ) → m ≡ n + bit b → i < length l → eqb (get_or l i 0) o ≡ b → Counted o l (i + 1) m
-  unfolding fold
-  next b m g h e = record { inside = omega arith; few = more b g k.few; so_far = rw (add-one i) (let z = k.so_far in shift b _ _ g (rw (drop-cons l i 0 h, e) at z)) }
-    where
-      more : (b : Bool) → m ≡ n + bit b → n ≤ i → m ≤ i + 1
-      more true g f = omega arith
-      more false g f = omega arith
-
-      shift : (b : Bool) (r t : ℕ) → m ≡ n + bit b → n + (bit b + r) ≡ t → m + r ≡ t
-      shift b r t g e = omega arith
-
-  -- the byte at i is o, or not
-  pub counted_hit : (m : ℕ) → m ≡ n + 1 → i < length l → get_or l i 0 ≡ o → Counted o l (i + 1) m
-  counted_hit m g h e = next true m g h (eq-eqb (get_or l i 0) o e)
-
-  pub counted_miss : (m : ℕ) → m ≡ n → i < length l → (get_or l i 0 ≡ o → ⊥) → Counted o l (i + 1) m
-  counted_miss m g h e = next false m (omega arith) h (ne_eqb (get_or l i 0) o e)
-
-  pub counted-all : length l ≤ i → n ≡ of_orientation o l
-  unfolding fold
-  counted-all h = let z = k.so_far in omega (arith, rw (drop_of_length-le l {i = i} h) at z)
+-- ---- the code's count is the definition's
+pub oriented-count : (o : ℕ) (l : List ℕ) → of_orientation o l ≡ count_by (λ b. eqb b o) l
+unfolding fold
+oriented-count o l = is_count_by (of_orientation o) (λ b. eqb b o) refl (λ x xs. go (eqb x o) (of_orientation o xs)) l
+  where
+    go : (t : Bool) (n : ℕ) → bit t + n ≡ cond t (1 + n) n
+    go true n = refl
+    go false n = omega arith
 
 -- ---- both orientations
 -- a byte is not both 1 and 0

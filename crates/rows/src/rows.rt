@@ -3,80 +3,57 @@ ghost use Rattle.std.specs.Prelude.{◌≡◌, ◌+◌, ◌*◌, ◌≤◌, ◌<
 ghost use Rattle.std.proofs.Math.Seq.{paste};
 ghost use Rattle.floats.specs.TotalOrder.{key_of};
 ghost use Rattle.floats.specs.Values.{canonical_zero};
-ghost use Rattle.drawing.specs.Entries.{lent_segments, ends_in_order, as_taken};
+ghost use Rattle.drawing.specs.Entries.{lent_segments, as_taken};
 ghost use Rattle.rows.specs.Rows.{words};
 ghost use Rattle.rows.specs.Inner.Placed.{row_count, rows_placed, row_column, rows_spread};
 ghost use Rattle.rows.specs.Inner.Tables.{Orderable, Spreadable, RowAdded, Gathered};
 
-use drawing::{Segments, ends_in_order};
+use drawing::{Segment, Segments, ends_in_order};
 use floats::{canonical_zero, key_of};
 use list_checks::segments_differ;
 use sorting::{fill_places, rows_fit, sort_indices};
 
 // The four words of a row, from `at` on: the ends in rising order, then zeros as +0.
-fn put_row(s: &mut [u64], at: usize, net: u32, fixed: f64, start: f64, end: f64)
+fn put_row(s: &mut [u64], at: usize, segment: Segment)
     requires { at + 4 ≤ length s.old }
-    ensures { let ends = ends_in_order start end in s.new ≡ paste s.old at (words (record { net = net; line = key_of (canonical_zero fixed); start = key_of (canonical_zero ends.start); end = key_of (canonical_zero ends.end) })) 4 }
+    ensures { let taken = as_taken segment in s.new ≡ paste s.old at (words (record { net = taken.net; line = key_of (canonical_zero taken.fixed); start = key_of (canonical_zero taken.start); end = key_of (canonical_zero taken.end) })) 4 }
 {
-    let ends = ends_in_order(start, end);
-    let line = key_of(canonical_zero(fixed));
+    let ends = ends_in_order(segment.start, segment.end);
+    let line = key_of(canonical_zero(segment.fixed));
     let first = key_of(canonical_zero(ends.start));
     let last = key_of(canonical_zero(ends.end));
     s[at] = line;
     s[at + 1] = first;
     s[at + 2] = last;
-    s[at + 3] = net as u64;
+    s[at + 3] = u64::from(segment.net);
 }
 
 // Appends the row of a segment to the n rows of the table that begins at word t, where its orientation is the wanted one. Returns how many rows there are then.
-fn add_row(
-    p: &mut [u64],
-    t: usize,
-    n: usize,
-    wanted: u8,
-    net: u32,
-    orientation: u8,
-    fixed: f64,
-    start: f64,
-    end: f64,
-) -> usize
+fn add_row(p: &mut [u64], t: usize, n: usize, wanted: u8, segment: Segment) -> usize
     requires { t + 4 * n + 4 ≤ length p.old }
-    ensures { RowAdded t n wanted (as_taken (record { net = net; orientation = orientation; fixed = fixed; start = start; end = end })) p.old p.new result }
+    ensures { RowAdded t n wanted (as_taken segment) p.old p.new result }
 {
-    if orientation != wanted {
+    if segment.orientation != wanted {
         return n;
     }
-    let at = t + 4 * n;
-    put_row(p, at, net, fixed, start, end);
+    put_row(p, t + 4 * n, segment);
     n + 1
 }
 
-// The rows of the segments with the wanted orientation byte, in a table that begins at the word net.len(). Returns how many there are.
+// The rows of the segments with the wanted orientation byte, in a table that begins after a word for each segment. Returns how many there are.
 fn gather_rows(p: &mut [u64], wanted: u8, segments: &Segments<'_>) -> usize
     requires { Orderable (lent_segments segments.now) (length p.old) }
     ensures { Gathered (length segments.now.net.now) wanted (lent_segments segments.now) p.old p.new result }
 {
     let t = segments.net.len();
     let mut n = 0;
-    let mut i = 0;
-    while i < segments.net.len() {
-        n = add_row(
-            p,
-            t,
-            n,
-            wanted,
-            segments.net[i],
-            segments.orientation[i],
-            segments.fixed[i],
-            segments.start[i],
-            segments.end[i],
-        );
-        i += 1;
+    for i in 0..t {
+        n = add_row(p, t, n, wanted, segments.at(i));
     }
     n
 }
 
-// The indices of these rows in sorted order, in the first words of p, and from word segments.net.len() on the rows themselves. Returns how many there are. Where the columns differ in length or p is too short, it returns 0 and p is left as it is.
+// The indices of these rows in sorted order, in the first words of p, and after a word for each segment the rows themselves. Returns how many there are. Where the columns differ in length or p is too short, it returns 0 and p is left as it is.
 pub fn order_rows(p: &mut [u64], wanted: u8, segments: &Segments<'_>) -> usize
     ensures value { result ≡ row_count wanted (lent_segments segments.now) (length p.old) }
     ensures p_after { p.new ≡ rows_placed wanted (lent_segments segments.now) p.old }
@@ -98,12 +75,10 @@ fn spread_column(s: &mut [u64], n: usize, from: usize, table: usize, word: usize
     requires { Spreadable n from table s.old × (word < 4) × (to + n ≤ from) }
     ensures { s.new ≡ paste s.old to (row_column n table word (drop from s.old)) n }
 {
-    let mut j = 0;
-    while j < n {
+    for j in 0..n {
         let row = s[from + j] as usize;
         let value = s[from + table + 4 * row + word];
         s[to + j] = value;
-        j += 1;
     }
 }
 

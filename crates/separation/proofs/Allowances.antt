@@ -1,5 +1,6 @@
 -- Searches, `set` and the steps of the sweep within an allowance, node by node: the outcomes of code that pays for each visit. Assumes nothing.
-use Rattle.std.specs.Prelude.{Option, None, Some}
+use Rattle.drawing.specs.declared.refusal.Refusal.TheVariants.{WorkLimitExceeded}
+use Rattle.std.specs.Prelude.{Option, None, Some, Ok, Err}
 use mathlib.Core.Path.{◌≡◌, refl, ◌∙◌}
 use mathlib.Core.Bool.{Bool, true, false}
 use mathlib.Core.List.{List, [], ◌∷◌}
@@ -11,24 +12,19 @@ use Rattle.laws.specs.Inner.Allowance.{spent, left, within, onward}
 use Rattle.laws.proofs.Runs.{within-free, within-after, visit-spent, visit-paid, onward-spent, onward-left}
 use Rattle.drawing.specs.Entries.{Segment}
 use Rattle.rows.specs.Rows.{Row, oriented, events}
-use Rattle.separation.specs.declared.search.Search.TheVariants.{Found, Empty, Spent}
 use Rattle.separation.specs.Lines.{lines, levels}
 use Rattle.separation.specs.Searches.{search_leaf, or_else, search_node, set_run}
 use Rattle.separation.specs.Inner.Searches.{search_of}
 use Rattle.separation.specs.Walk.{no_figures, lesser_figures, Sweep, remove, ends_at, step, sweep, along, walk_all}
 
 -- ---- SCOPE 15.6: "a search answers found, empty or spent"
-pub answer-spent : search_of spent ≡ Spent
+pub answer-spent : search_of spent ≡ Err WorkLimitExceeded
 unfolding search_of
 answer-spent = refl
 
-pub answer-found : (i m : ℕ) → search_of (left (Some i) m) ≡ Found i m
+pub answer-paid : (found : Option ℕ) (m : ℕ) → search_of (left found m) ≡ Ok (record { line = found; remaining = m })
 unfolding search_of
-answer-found i m = refl
-
-pub answer-empty : (m : ℕ) → search_of (left None m) ≡ Empty m
-unfolding search_of
-answer-empty m = refl
+answer-paid found m = refl
 
 -- ---- a leaf and a node, with no visit left and with at least one
 pub leaf-spent : (t : Bool) (s : ℕ) → within 0 (search_leaf t s) ≡ spent

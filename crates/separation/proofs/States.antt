@@ -1,7 +1,7 @@
 -- What the functions on a state of the sweep and on an allowance answer. Assumes nothing.
 use Rattle.drawing.specs.declared.refusal.Refusal.{Refusal}
 use Rattle.std.specs.Prelude.{Option, Some, Result, Ok, Err}
-use mathlib.Core.Path.{◌≡◌, refl, sym, ap, ◌∙◌}
+use mathlib.Core.Path.{◌≡◌, refl, sym, ap, ◌∙◌, subst}
 use mathlib.Core.Bool.{Bool, true, false}
 use Prim.Native.Nat.{ℕ, ◌-◌, ◌*◌, ◌/◌, ◌<◌}
 use native.Mathlib.Omega.{arith}
@@ -19,25 +19,18 @@ use Rattle.separation.specs.declared.found.Found.{Found}
 use Rattle.separation.specs.Figures.{Figures}
 use Rattle.separation.specs.Walk.{no_figures, lesser_figures, own_line}
 use Rattle.separation.specs.Answer.{accepted}
-use Rattle.separation.specs.Inner.States.{met_by, at_start, outcome_of, found_by, swept_of, with_gap, Answers, too_few, gap_met}
+use Rattle.separation.specs.Inner.States.{met_by, at_start, Gives, found_by, swept_of, with_gap, Answers, too_few, gap_met}
 use Rattle.separation.proofs.Summaries.{both}
 
 -- ---- what the code's answer says of a run while the sweep runs
-pub went_on : (r : Result Sweeping Refusal) (t : Sweeping) (o : Outcome Figures) → r ≡ Ok t → outcome_of r ≡ o → o ≡ left (met_by t) t.remaining
-unfolding outcome_of
-went_on r t o e h = sym h ∙ ap outcome_of e
+pub went_on : (r : Result Sweeping Refusal) (t : Sweeping) (o : Outcome Figures) → r ≡ Ok t → Gives r o → o ≡ left (met_by t) t.remaining
+went_on r t o e h = rw e at h
 
-pub stopped : (r : Result Sweeping Refusal) (o : Outcome Figures) → r ≡ Err WorkLimitExceeded → outcome_of r ≡ o → o ≡ spent
-unfolding outcome_of
-stopped r o e h = sym h ∙ ap outcome_of e
+pub stopped : (r : Result Sweeping Refusal) (x : Refusal) (o : Outcome Figures) → r ≡ Err x → Gives r o → (x ≡ WorkLimitExceeded) × (o ≡ spent)
+stopped r x o e h = rw e at h
 
-pub stops : (o : Outcome Figures) → o ≡ spent → outcome_of (Err WorkLimitExceeded) ≡ o
-unfolding outcome_of
-stops o e = sym e
-
-pub goes : (t : Sweeping) (o : Outcome Figures) → o ≡ left (met_by t) t.remaining → outcome_of (Ok t) ≡ o
-unfolding outcome_of
-goes t o e = sym e
+pub gives_on : (r : Result Sweeping Refusal) (a b : Outcome Figures) → a ≡ b → Gives r a → Gives r b
+gives_on r a b e h = subst (Gives r) e h
 
 -- ---- and of a whole sweep
 pub went-is : (o : Outcome Figures) (t : Found) → Ok t ≡ swept_of o → o ≡ left (found_by t) t.remaining
@@ -45,10 +38,10 @@ unfolding swept_of
 went-is spent t e = cc
 went-is (left f m) t e = cc
 
-pub spent-is : (o : Outcome Figures) → (Err WorkLimitExceeded) ≡ swept_of o → o ≡ spent
+pub spent-is : (o : Outcome Figures) (x : Refusal) → Err x ≡ swept_of o → (x ≡ WorkLimitExceeded) × (o ≡ spent)
 unfolding swept_of
-spent-is spent e = refl
-spent-is (left f m) e = cc
+spent-is spent x e = (cc, refl)
+spent-is (left f m) x e = cc
 
 -- ---- before the first event
 pub start-met : (allowance : ℕ) → met_by (at_start allowance) ≡ no_figures
@@ -80,9 +73,9 @@ unfolding lesser_figures
 lesser-of a b x y e f = λ i. record { least = e i; least_nonzero = f i }
 
 -- ---- the answer
-pub answers-spent : (r : Result Found Refusal) (allowance : ℕ) → r ≡ Err WorkLimitExceeded → Answers r allowance (Err WorkLimitExceeded)
+pub answers-spent : (r : Result Found Refusal) (allowance : ℕ) (x : Refusal) → r ≡ Err x → Answers r allowance (Err x)
 unfolding reply
-answers-spent r allowance h o e = sym (rw (spent-is o (sym h ∙ e)))
+answers-spent r allowance x h o e = let p = spent-is o x (sym h ∙ e) in rw (p.0, p.1)
 
 pub answers-went : (r : Result Found Refusal) (allowance : ℕ) (t : Found) (v : ℕ) → r ≡ Ok t → v ≡ allowance - t.remaining → Answers r allowance (Ok (record { minimum = t.minimum; minimum_positive = t.minimum_positive; visits = v }))
 unfolding reply

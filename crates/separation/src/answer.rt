@@ -1,21 +1,21 @@
 // The answer of a call whose checks passed, from where its walk ended.
 ghost use Rattle.separation.specs.Inner.States.{Answers};
 
+use crate::found::Found;
 use crate::report::ParallelSeparation;
 use drawing::{Refusal, visits_used};
 
-pub fn answer_of(swept: Result<Found, Refusal>, allowance: usize) -> Result<ParallelSeparation, Refusal>
+pub fn answer_of(
+    swept: Result<Found, Refusal>,
+    allowance: usize,
+) -> Result<ParallelSeparation, Refusal>
     ensures { Answers swept allowance result }
 {
-    let Ok(found) = swept else {
-        return Err(Refusal::WorkLimitExceeded);
-    };
-    let minimum = found.minimum;
-    let positive = found.minimum_positive;
+    let found = swept?;
     let visits = visits_used(allowance, found.remaining);
     Ok(ParallelSeparation {
-        minimum: minimum,
-        minimum_positive: positive,
-        visits: visits,
+        minimum: found.minimum,
+        minimum_positive: found.minimum_positive,
+        visits,
     })
 }

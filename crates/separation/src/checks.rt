@@ -4,14 +4,11 @@ ghost use Rattle.drawing.specs.Refusals.{first_of};
 ghost use Rattle.drawing.specs.Entries.{lent_segments};
 ghost use Rattle.separation.specs.Conditions.{separation_conditions};
 
-use drawing::Segments;
+use drawing::{Refusal, Segments};
 use list_checks::check_segments;
 
 // Separation takes segments, and a scratch whose length is `words`.
-pub fn check_separation(
-    segments: &Segments<'_>,
-    words: usize,
-) -> Result<(), Refusal>
+pub fn check_separation(segments: &Segments<'_>, words: usize) -> Result<(), Refusal>
     ensures { result ≡ first_of (separation_conditions (lent_segments segments.now) words) }
 {
     check_segments(segments, words)

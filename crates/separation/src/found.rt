@@ -13,27 +13,16 @@ pub struct Found {
     pub remaining: usize,
 }
 
-// What the sweep found, or that the allowance is spent.
-#[derive(Clone, Copy)]
-pub enum Swept {
-    Went(Found),
-    Spent,
-}
-
 // The lesser of each figure, with the remaining visits of the second sweep.
 pub fn combined(across: Found, down: Found) -> Found
     ensures figures { found_by result ≡ lesser_figures (found_by across) (found_by down) }
     ensures remaining { result.remaining ≡ down.remaining }
 {
-    let one = across.minimum;
-    let other = down.minimum;
-    let minimum = minimum_option(one, other);
-    let one_positive = across.minimum_positive;
-    let other_positive = down.minimum_positive;
-    let positive = minimum_option(one_positive, other_positive);
+    let minimum = minimum_option(across.minimum, down.minimum);
+    let minimum_positive = minimum_option(across.minimum_positive, down.minimum_positive);
     Found {
-        minimum: minimum,
-        minimum_positive: positive,
+        minimum,
+        minimum_positive,
         remaining: down.remaining,
     }
 }

@@ -1,5 +1,4 @@
 // What separation answers.
-use drawing::Refusal;
 
 // The Rust's record, with the visits that the walk used.
 #[derive(Clone, Copy)]
@@ -7,11 +6,4 @@ pub struct ParallelSeparation {
     pub minimum: Option<f64>,
     pub minimum_positive: Option<f64>,
     pub visits: usize,
-}
-
-// The report, or the refusal.
-#[derive(Clone, Copy)]
-pub enum SeparationAnswer {
-    Report(ParallelSeparation),
-    Refused(Refusal),
 }

@@ -3,7 +3,7 @@ ghost use Rattle.std.specs.Prelude.{◌≡◌, ◌||◌, ℕ};
 ghost use Rattle.separation.specs.Inner.Summaries.{summary_has_other, summary_of_word};
 
 // No net, one, or at least two different ones. The Rust stores two of them; it does not matter which, since of two different nets at least one is not the excluded net.
-#[derive(Clone, Copy)]
+#[derive(Clone, Copy, PartialEq, Eq, Debug)]
 pub enum NetSummary {
     Nothing,
     One(u32),
@@ -12,23 +12,23 @@ pub enum NetSummary {
 
 impl NetSummary {
     // The summary of two ranges together.
-    pub fn merged(left: NetSummary, right: NetSummary) -> NetSummary
-        ensures { (n : ℕ) → summary_has_other result n ≡ (summary_has_other left n || summary_has_other right n) }
+    pub fn merged(self, right: NetSummary) -> NetSummary
+        ensures { (n : ℕ) → summary_has_other result n ≡ (summary_has_other self n || summary_has_other right n) }
     {
-        match left {
+        match self {
             NetSummary::Nothing => right,
             NetSummary::One(first) => match right {
-                NetSummary::Nothing => left,
+                NetSummary::Nothing => self,
                 NetSummary::One(second) => {
                     if second == first {
-                        left
+                        self
                     } else {
                         NetSummary::Two
                     }
                 }
                 NetSummary::Two => right,
             },
-            NetSummary::Two => left,
+            NetSummary::Two => self,
         }
     }
 
@@ -45,26 +45,30 @@ impl NetSummary {
 }
 
 // A summary as a word: 0 is no net, a net plus 1 is that net, and any greater word is two nets.
-pub fn summary_of_word(word: u64) -> NetSummary
-    ensures { result ≡ summary_of_word word }
-{
-    if word == 0 {
-        NetSummary::Nothing
-    } else if word <= 4294967296 {
-        NetSummary::One((word - 1) as u32)
-    } else {
-        NetSummary::Two
+impl From<u64> for NetSummary {
+    ghost from_gives = { λ word summary. summary ≡ summary_of_word word };
+
+    fn from(word: u64) -> NetSummary {
+        if word == 0 {
+            return NetSummary::Nothing;
+        }
+        match u32::try_from(word - 1) {
+            Ok(net) => NetSummary::One(net),
+            Err(_) => NetSummary::Two,
+        }
     }
 }
 
 // The least word of a summary.
-pub fn word_of(summary: NetSummary) -> u64
-    ensures { summary_of_word result ≡ summary }
-{
-    match summary {
-        NetSummary::Nothing => 0,
-        NetSummary::One(net) => net as u64 + 1,
-        NetSummary::Two => 4294967297,
+impl From<NetSummary> for u64 {
+    ghost from_gives = { λ summary word. summary_of_word word ≡ summary };
+
+    fn from(summary: NetSummary) -> u64 {
+        match summary {
+            NetSummary::Nothing => 0,
+            NetSummary::One(net) => u64::from(net) + 1,
+            NetSummary::Two => u64::from(u32::MAX) + 2,
+        }
     }
 }
 
@@ -72,7 +76,7 @@ pub fn word_of(summary: NetSummary) -> u64
 pub fn merged_word(low: u64, high: u64) -> u64
     ensures { (n : ℕ) → summary_has_other (summary_of_word result) n ≡ (summary_has_other (summary_of_word low) n || summary_has_other (summary_of_word high) n) }
 {
-    let left = summary_of_word(low);
-    let right = summary_of_word(high);
-    word_of(NetSummary::merged(left, right))
+    let left = NetSummary::from(low);
+    let right = NetSummary::from(high);
+    u64::from(left.merged(right))
 }

@@ -2,7 +2,8 @@
 use Rattle.drawing.specs.declared.refusal.Refusal.{Refusal}
 use Rattle.std.specs.Prelude.{ℕ, ◌-◌, Float, Result, Ok, Err}
 use Rattle.floats.specs.Values.{plus_zero}
-use Rattle.drawing.specs.declared.refusal.Refusal.TheVariants.{WorkLimitExceeded}
+use Rattle.congestion.specs.declared.found.Found.{Found}
+use Rattle.congestion.specs.declared.report.CongestionReport.{CongestionReport}
 
 -- the answer of a call whose checks passed, for this total length
 unfoldable pub answer_of : Result Found Refusal → Float → ℕ → Result CongestionReport Refusal
@@ -11,7 +12,7 @@ answer_of (Ok f) total allowance = Ok (record {
   minimum_positive = f.minimum_positive;
   visits = allowance - f.remaining;
 })
-answer_of (Err WorkLimitExceeded) total allowance = Err WorkLimitExceeded
+answer_of (Err why) total allowance = Err why
 
 -- an answer with pair overlap and peak zero
 abbrev pub answer_without_density : Result CongestionReport Refusal → Result CongestionReport Refusal
@@ -20,4 +21,4 @@ answer_without_density (Ok r) = Ok (record {
   minimum_positive = r.minimum_positive;
   visits = r.visits;
 })
-answer_without_density (Err w) = Err w
+answer_without_density (Err why) = Err why

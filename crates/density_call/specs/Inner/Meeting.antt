@@ -32,7 +32,7 @@ pub record Meetable (starts : Bool) (s : List ℕ) (n j : ℕ) : Type 0 where
   pub stored : Stored L st (drop (8 * n) s)
   pub room : 10 * n + 1 ≤ length s
   pub counts : (i : ℕ) → i < n → get_or s (8 * n + i) 0 ≤ 4096
-  pub Some : starts ≡ false → (r : WireState) → Mem r st.wires → neighbor c (item_at L j).wire r ≡ true → 1 ≤ r.neighbors
+  pub some : starts ≡ false → (r : WireState) → Mem r st.wires → neighbor c (item_at L j).wire r ≡ true → 1 ≤ r.neighbors
 
 -- the scratch s became t: only counts changed
 pub record CountsOnly (n : ℕ) (s t : List ℕ) : Type 0 where
@@ -99,7 +99,7 @@ paid t = record { neighbors = t.neighbors; changed = t.changed; highest = t.high
 pub record Countable (s : List ℕ) (at : ℕ) (starts : Bool) (t : Meeting) : Type 0 where
   pub inside : at < length s
   pub small : get_or s at 0 ≤ 4096
-  pub Some : starts ≡ false → 1 ≤ get_or s at 0
+  pub some : starts ≡ false → 1 ≤ get_or s at 0
   pub neighbors : t.neighbors ≤ 4096
   pub changed : t.changed ≤ 4096
   pub remaining : 1 ≤ t.remaining
@@ -110,7 +110,7 @@ pub record Visitable (s : List ℕ) (n i net : ℕ) (starts : Bool) (t : Meeting
   pub inside : i < n
   pub room : 9 * n ≤ length s
   pub small : get_or s (8 * n + i) 0 ≤ 4096
-  pub Some : starts ≡ false → (get_or s (5 * n + i) 0 ≡ net → ⊥) → 1 ≤ get_or s (8 * n + i) 0
+  pub some : starts ≡ false → (get_or s (5 * n + i) 0 ≡ net → ⊥) → 1 ≤ get_or s (8 * n + i) 0
   pub neighbors : t.neighbors ≤ 4096
   pub changed : t.changed ≤ 4096
   pub remaining : 1 ≤ t.remaining

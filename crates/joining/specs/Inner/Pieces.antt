@@ -2,7 +2,7 @@
 use Rattle.std.specs.Prelude.{Bool, not, ◌&&◌, cond, List, [], ◌∷◌, ℕ, ◌+◌, ◌-◌, ◌*◌, leb, ltb, eqb}
 use Rattle.laws.specs.Lists.{put, bit}
 use Rattle.floats.specs.TotalOrder.{key_of}
-use Rattle.drawing.specs.Entries.{Segment}
+use Rattle.drawing.specs.declared.lists.Segment.{Segment}
 use Rattle.joining.specs.declared.piece.Piece.{Piece}
 
 -- twice the net and one more where the segment is vertical, so that horizontal ones come first, and the keys of its coordinates

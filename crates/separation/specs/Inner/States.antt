@@ -6,6 +6,7 @@ use Rattle.laws.specs.Inner.Allowance.{Outcome, spent, left, reply}
 use Rattle.drawing.specs.declared.refusal.Refusal.TheVariants.{WorkLimitExceeded}
 use Rattle.drawing.specs.Inner.LeastFloats.{gap_of_float, least_with}
 use Rattle.separation.specs.declared.state.Sweeping.{Sweeping}
+use Rattle.separation.specs.declared.report.ParallelSeparation.{ParallelSeparation}
 use Rattle.separation.specs.declared.found.Found.{Found}
 use Rattle.separation.specs.Figures.{Figures}
 use Rattle.separation.specs.Walk.{lesser_figures}
@@ -19,10 +20,10 @@ met_by s = record { least = gap_of_float s.minimum; least_nonzero = gap_of_float
 abbrev pub at_start : ℕ → Sweeping
 at_start allowance = record { minimum = nan; minimum_positive = nan; remaining = allowance }
 
--- the outcome of a run within the allowance, from the code's answer while the sweep runs
-unfoldable pub outcome_of : Result Sweeping Refusal → Outcome Figures
-outcome_of (Err WorkLimitExceeded) = spent
-outcome_of (Ok s) = left (met_by s) s.remaining
+-- the code's answer while the sweep runs, for the outcome of a run within the allowance: the figures with the remaining visits, or refusal 7 and no other
+abbrev pub Gives : Result Sweeping Refusal → Outcome Figures → Type 0
+Gives (Ok s) o = o ≡ left (met_by s) s.remaining
+Gives (Err r) o = (r ≡ WorkLimitExceeded) × (o ≡ spent)
 
 -- what the sweep found once its last event is handled
 abbrev pub found_in : Sweeping → Found
@@ -44,11 +45,6 @@ with_gap x f = let g = Some x in lesser_figures f (record { least = g; least_non
 -- the same for a state, with m remaining visits
 abbrev pub gap_met : Float → ℕ → Sweeping → Sweeping
 gap_met gap m s = record { minimum = least_with s.minimum gap; minimum_positive = least_with s.minimum_positive gap; remaining = m }
-
--- the figures of a state, with the remaining visits after a `set`
-abbrev pub charged_to : Sweeping → (Result ℕ Refusal) → Result Sweeping Refusal
-charged_to s (Err WorkLimitExceeded) = Err WorkLimitExceeded
-charged_to s (Ok m) = Ok (record { minimum = s.minimum; minimum_positive = s.minimum_positive; remaining = m })
 
 -- the answer of a call whose checks passed and whose walk ended with r
 abbrev pub Answers : Result Found Refusal → ℕ → Result ParallelSeparation Refusal → Type 0

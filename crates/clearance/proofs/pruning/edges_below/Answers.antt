@@ -8,4 +8,4 @@ returns-then-axis_below c = rw (sym c.axis_below.ensures ∙ c.if-axis_below.tru
 
 pub returns-else-axis_below : goal.returns-else-axis_below
 unfolding edges_below
-returns-else-axis_below c = rw (sym c.axis_below.ensures ∙ c.if-axis_below.false)
+returns-else-axis_below c = c.if-axis_below.false ∙ rw (sym c.axis_below.ensures ∙ c.if-axis_below.false)

@@ -1,26 +1,14 @@
--- `joining::room::short_output` meets its contract: test by test. Assumes nothing.
-use mathlib.Core.Path.{sym, ◌∙◌}
-use borrow.Author.Tests.{lt-ltb, le-ltb}
+-- `joining::room::short_output` meets its contract: some length is below what is needed. Assumes nothing.
+use Rattle.std.proofs.Common.{rules, tests, ◌∙◌, sym}
+use Rattle.std.proofs.lemmas.Iterator.{YieldsList-from_slice}
+use Rattle.std.proofs.lemmas.Iterator.Search.{any_from_yields_List}
+use lib.Dec.{ltb}
 use Rattle.drawing.specs.Conditions.{short_output}
-use Rattle.joining.proofs.SomeOf.{some_yes, some_no, some-last}
+use Rattle.joining.proofs.SomeOf.{some_any}
 use Rattle.joining.proofs.room.short_output.Goals as goal
-
-pub returns-then-net-needed : goal.returns-then-net-needed
-unfolding short_output
-returns-then-net-needed c = sym (some_yes _ _ _ (lt-ltb _ _ c.if-net-needed.true))
-
-pub returns-then-orientation-needed : goal.returns-then-orientation-needed
-unfolding short_output
-returns-then-orientation-needed c = sym (some_no _ _ _ (le-ltb _ _ c.if-net-needed.false) ∙ some_yes _ _ _ (lt-ltb _ _ c.if-orientation-needed.true))
-
-pub returns-then-fixed-needed : goal.returns-then-fixed-needed
-unfolding short_output
-returns-then-fixed-needed c = sym (some_no _ _ _ (le-ltb _ _ c.if-net-needed.false) ∙ some_no _ _ _ (le-ltb _ _ c.if-orientation-needed.false) ∙ some_yes _ _ _ (lt-ltb _ _ c.if-fixed-needed.true))
-
-pub returns-then-start-needed : goal.returns-then-start-needed
-unfolding short_output
-returns-then-start-needed c = sym (some_no _ _ _ (le-ltb _ _ c.if-net-needed.false) ∙ some_no _ _ _ (le-ltb _ _ c.if-orientation-needed.false) ∙ some_no _ _ _ (le-ltb _ _ c.if-fixed-needed.false) ∙ some_yes _ _ _ (lt-ltb _ _ c.if-start-needed.true))
 
 pub returns : goal.returns
 unfolding short_output
-returns c = sym (some_no _ _ _ (le-ltb _ _ c.if-net-needed.false) ∙ some_no _ _ _ (le-ltb _ _ c.if-orientation-needed.false) ∙ some_no _ _ _ (le-ltb _ _ c.if-fixed-needed.false) ∙ some_no _ _ _ (le-ltb _ _ c.if-start-needed.false) ∙ some-last _ _)
+returns c =
+    let a = c.args in
+    any_from_yields_List (λ m. ltb m a.needed) _ _ _ c.any.ensures.ran (YieldsList-from_slice a.lengths.now cc) (λ x b q k. search (rules, tests)) ∙ sym (some_any _ a.lengths.now)

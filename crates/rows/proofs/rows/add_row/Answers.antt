@@ -3,12 +3,12 @@ use Rattle.drawing.specs.Entries.{as_taken}
 use Rattle.rows.proofs.RowTables.{row_passed, row_added}
 use Rattle.rows.proofs.rows.add_row.Goals as goal
 
-pub returns-then-orientation-wanted : goal.returns-then-orientation-wanted
-returns-then-orientation-wanted c =
+pub returns-then-segment-wanted : goal.returns-then-segment-wanted
+returns-then-segment-wanted c =
     let a = c.args in
-    row_passed a.t a.n a.wanted (as_taken (record { net = a.net; orientation = a.orientation; fixed = a.fixed; start = a.start; end = a.end })) a.p.now c.if-orientation-wanted.true
+    row_passed a.t a.n a.wanted (as_taken a.segment) a.p.now c.if-segment-wanted.true
 
 pub returns : goal.returns
 returns c =
     let a = c.args in
-    row_added a.t a.n a.wanted (as_taken (record { net = a.net; orientation = a.orientation; fixed = a.fixed; start = a.start; end = a.end })) a.p.now _ c.if-orientation-wanted.false c.requires c.put_row.ensures
+    row_added a.t a.n a.wanted (as_taken a.segment) a.p.now _ c.if-segment-wanted.false c.requires c.put_row.ensures

@@ -1,6 +1,6 @@
 -- `rows::rows::put_row` meets its contract: four consecutive stores are one paste. Assumes nothing.
 use borrow.Author.Rules.{rules}
-use mathlib.Core.Path.{refl, ap, ◌∙◌}
+use mathlib.Core.Path.{ap, ◌∙◌}
 use lib.ListN.{length-set}
 use Rattle.floats.specs.Values.{canonical_zero}
 use Rattle.floats.specs.TotalOrder.{key_of}
@@ -23,4 +23,4 @@ returns c =
     let line = c.key_of-line.ensures ∙ ap key_of c.canonical_zero.ensures in
     let first = c.key_of-first.ensures ∙ ap key_of c.canonical_zero-2.ensures ∙ ap (λ (z : Ends). key_of (canonical_zero z.start)) ends in
     let last = c.key_of-last.ensures ∙ ap key_of c.canonical_zero-3.ensures ∙ ap (λ (z : Ends). key_of (canonical_zero z.end)) ends in
-    four_stores c.args.s.now c.args.at _ _ _ _ _ c.requires line first last refl
+    four_stores c.args.s.now c.args.at _ _ _ _ _ c.requires line first last c.from.ensures

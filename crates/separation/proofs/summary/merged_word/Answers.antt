@@ -3,4 +3,4 @@ use Rattle.separation.proofs.Summaries.{merged-words}
 use Rattle.separation.proofs.summary.merged_word.Goals as goal
 
 pub returns : goal.returns
-returns c = merged-words _ _ _ _ _ _ c.summary_of_word-left.ensures c.summary_of_word-right.ensures c.merged.ensures c.word_of.ensures
+returns c = merged-words _ _ _ _ _ _ c.from-left.ensures c.from-right.ensures c.merged.ensures c.from.ensures

@@ -1,6 +1,0 @@
--- `separation::state::with_other_line` meets its contract: the gap joins both figures. Assumes nothing.
-use Rattle.separation.proofs.States.{gap_meets}
-use Rattle.separation.proofs.state.with_other_line.Goals as goal
-
-pub returns : goal.returns
-returns c = gap_meets c.args.state _ _ _ _ _ _ c.absolute-gap.ensures c.least_with-minimum.ensures c.least_with-positive.ensures
