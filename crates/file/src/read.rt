@@ -1,5 +1,5 @@
 // A drawing file, read into lent columns.
-ghost use Rattle.std.specs.Prelude.{◌≡◌};
+ghost use Rattle.std.specs.Prelude.{◌≡◌, ◌≤◌, IfOk};
 ghost use Rattle.file.specs.Reading.{read};
 ghost use Rattle.file.specs.Columns.{reading_of, result_of, file_result, column_after};
 
@@ -12,6 +12,7 @@ use drawing::Refusal;
 // The faults are found before anything is written, so that a refused file leaves every column as it was (SCOPE 8.1).
 pub fn read_drawing(bytes: &[u8], columns: &mut DrawingColumns) -> Result<Header, Refusal>
     ensures value { (result ≡ reading_of (read bytes.now)) × (result_of result ≡ file_result (read bytes.now)) }
+    ensures room { IfOk result (λ h. (h.segments ≤ 120) × (h.nodes ≤ 120) × (h.exemptions ≤ 240)) }
     ensures net_after { columns.new.net ≡ column_after (λ d. d.segments) (λ s. s.net) (read bytes.now) columns.old.net }
     ensures orientation_after { columns.new.orientation ≡ column_after (λ d. d.segments) (λ s. s.orientation) (read bytes.now) columns.old.orientation }
     ensures fixed_after { columns.new.fixed ≡ column_after (λ d. d.segments) (λ s. s.fixed) (read bytes.now) columns.old.fixed }

@@ -1,6 +1,7 @@
 -- `file::read::read_drawing` meets its contract: the parts of a file that is read are where its counts say, and each column takes one value of each entry. Assumes nothing.
 use mathlib.Core.Path.{refl}
 use mathlib.Core.List.{[]}
+use Rattle.std.proofs.Common.{rules}
 use Rattle.std.proofs.lemmas.Result.{err_from_is_err_and}
 use Rattle.file.proofs.FixedParts.{number_at, float_at, segment_of, node_of, exemption_of}
 use Rattle.file.proofs.ReadingLaid.{laid}
@@ -14,6 +15,7 @@ returns-in_err-header c =
     let e = c.in_err-header.ensures.value in
     record {
       value = rw (p.1, p.2) (e, reading_result _ _ e);
+      room = search rules;
       net_after = column-kept (λ d. d.segments) (λ s. s.net) l _ _ e;
       orientation_after = column-kept (λ d. d.segments) (λ s. s.orientation) l _ _ e;
       fixed_after = column-kept (λ d. d.segments) (λ s. s.fixed) l _ _ e;
@@ -36,6 +38,7 @@ returns c =
     let is = (laid l h e).is in
     record {
       value = (e, reading_result _ _ e);
+      room = search rules;
       net_after = column-read (λ d. d.segments) (λ s. s.net) segment_of (number_at 4 0) 29 h.segments _ l _ [] _ _ is refl (λ r. refl) c.fill.ensures;
       orientation_after = column-read (λ d. d.segments) (λ s. s.orientation) segment_of (number_at 1 4) 29 h.segments _ l _ [] _ _ is refl (λ r. refl) c.fill-2.ensures;
       fixed_after = column-read (λ d. d.segments) (λ s. s.fixed) segment_of (float_at 5) 29 h.segments _ l _ [] _ _ is refl (λ r. refl) c.fill-3.ensures;
