@@ -5,6 +5,3 @@ use Rattle.density_call.proofs.ranges.fill_ranges.Given as goal
 
 abbrev pub invariant-loop-j : goal.invariant-loop-j
 invariant-loop-j l = Filling l.n l.cutoff l.initial.s l.s l.j l.range
-
-abbrev pub decreases-loop-j : goal.decreases-loop-j
-decreases-loop-j l = l.n - l.j
