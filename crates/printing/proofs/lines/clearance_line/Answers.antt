@@ -8,7 +8,7 @@ use Rattle.printing.proofs.lines.clearance_line.Goals as goal
 
 pub returns-in-Ok : goal.returns-in-Ok
 unfolding clearance_line clearance_label fields
-returns-in-Ok c = put_same (sym (ap clearance_line c.in-Ok.is)) (put_both c.put_word.ensures (put_both c.gap_field.ensures (put_both c.count_field.ensures (put_both c.count_field-2.ensures c.put_byte.ensures))))
+returns-in-Ok c = put_same (sym (ap clearance_line c.in-Ok.is)) (put_both c.put_word.ensures (put_both c.gap_field.ensures (put_both c.count_field.ensures (put_both c.count_field-in-Ok.ensures c.put_byte.ensures))))
 
 pub returns-in-Err : goal.returns-in-Err
 unfolding clearance_line clearance_label refusal

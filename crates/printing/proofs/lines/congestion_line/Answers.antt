@@ -8,7 +8,7 @@ use Rattle.printing.proofs.lines.congestion_line.Goals as goal
 
 pub returns-in-Ok : goal.returns-in-Ok
 unfolding congestion_line congestion_label fields
-returns-in-Ok c = put_same (sym (ap congestion_line c.in-Ok.is)) (put_both c.put_word.ensures (put_both c.float_field.ensures (put_both c.float_field-2.ensures (put_both c.float_field-3.ensures (put_both c.count_field.ensures c.gap_and_visits.ensures)))))
+returns-in-Ok c = put_same (sym (ap congestion_line c.in-Ok.is)) (put_both c.put_word.ensures (put_both c.float_field.ensures (put_both c.float_field-in-Ok.ensures (put_both c.float_field-in-Ok-2.ensures (put_both c.count_field.ensures c.gap_and_visits.ensures)))))
 
 pub returns-in-Err : goal.returns-in-Err
 unfolding congestion_line congestion_label refusal
