@@ -8,7 +8,7 @@ use Rattle.congestion.proofs.report.ParallelCongestion.ratio.Goals as goal
 
 pub returns-then-total : goal.returns-then-total
 unfolding ratio of_bits
-returns-then-total c = let s = c.args.self in c.clamp.ensures ∙ sym (cond_true (lt plus_zero s.total_length) _ plus_zero c.if-total.true)
+returns-then-total c = let s = c.args.self in c.clamp.ensures.value ∙ sym (cond_true (lt plus_zero s.total_length) _ plus_zero c.if-total.true)
 
 pub returns-else-total : goal.returns-else-total
 unfolding ratio of_bits
