@@ -25,8 +25,8 @@ loop-one-preserved c = λ a.
     let ends = c.ends_in_order-ends.ensures ∙ ap₂ ends_in_order (turn.2 nan) (turn.3 nan) in
     rw length-append
     (summed_next _ _ _ _ _ (c.loop-one.invariant a) (omega (arith, a.start, turn.0))
-      (c.canonical_zero-in-loop-one.ensures ∙ ap (λ (z : Ends). canonical_zero z.start) ends)
-      (c.canonical_zero.ensures ∙ ap (λ (z : Ends). canonical_zero z.end) ends))
+    (c.canonical_zero-in-loop-one.ensures ∙ ap (λ (z : Ends). canonical_zero z.start) ends)
+    (c.canonical_zero.ensures ∙ ap (λ (z : Ends). canonical_zero z.end) ends))
 
 pub returns : goal.returns
 returns c = λ a.
