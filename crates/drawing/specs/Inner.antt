@@ -2,3 +2,4 @@
 pub mod Entries
 pub mod Lengths
 pub mod LeastFloats
+pub mod Typed

@@ -5,7 +5,10 @@ use crate::found::Found;
 use crate::report::ParallelSeparation;
 use drawing::{Refusal, visits_used};
 
-pub fn answer_of(swept: Result<Found, Refusal>, allowance: usize) -> Result<ParallelSeparation, Refusal>
+pub fn answer_of(
+    swept: Result<Found, Refusal>,
+    allowance: usize,
+) -> Result<ParallelSeparation, Refusal>
     ensures { Answers swept allowance result }
 {
     let found = swept?;

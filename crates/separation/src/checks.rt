@@ -8,10 +8,7 @@ use drawing::{Refusal, Segments};
 use list_checks::check_segments;
 
 // Separation takes segments, and a scratch whose length is `words`.
-pub fn check_separation(
-    segments: &Segments<'_>,
-    words: usize,
-) -> Result<(), Refusal>
+pub fn check_separation(segments: &Segments<'_>, words: usize) -> Result<(), Refusal>
     ensures { result ≡ first_of (separation_conditions (lent_segments segments.now) words) }
 {
     check_segments(segments, words)

@@ -34,7 +34,11 @@ impl Sweeping {
         ensures remaining { result.remaining ≡ remaining }
     {
         let minimum = if own { 0.0 } else { self.minimum };
-        Sweeping { minimum, remaining, ..self }
+        Sweeping {
+            minimum,
+            remaining,
+            ..self
+        }
     }
 
     // The gap to the line that a search found joins both figures: it is another line than the segment's own, so that the gap is not 0.

@@ -9,12 +9,10 @@ use borrow.Author.Tests.{eqb-true, eq-eqb, ne_eqb, eqb-false, not-true}
 use lib.Dec.{eqb}
 use lib.ListN.{length, get_or, set, drop, length-set}
 use lib.Seq.{get_or-set_same, get_or-set_other, drop-set-lt}
-use borrow.Rule.Slice.PartMut.{mid_of}
 use Rattle.laws.specs.Lists.{Mem, fold, bit, sum, chosen, put, keep}
 use Rattle.laws.specs.Inner.Different.{Different}
 use Rattle.laws.proofs.Tests.{decide, and_left, and_right, and_both, same_or_not}
 use Rattle.laws.proofs.ListLaws.{mem_chosen, chosen_mem}
-use Rattle.laws.proofs.Parts.{tail_lent}
 use Rattle.rows.specs.Rows.{Row}
 use Rattle.separation.specs.declared.summary.NetSummary.{NetSummary}
 use Rattle.separation.specs.declared.summary.NetSummary.TheVariants.{Nothing, One, Two}
@@ -266,9 +264,9 @@ module _ (k n slot line many total : ℕ) (c e : List ℕ) (t : LineChanged k n 
   pub changed-length : length e ≡ length c
   changed-length = elim t [ inl g ↦ rw g.1 (simp length-set) | inr g ↦ ap (λ (z : List ℕ). length z) g.1 ]
 
-  -- then the slot gets its new count, and the words are lent to the next call
-  pub changed-lent : (count : ℕ) → 3 * n ≤ length c → 3 * n ≤ length (mid_of 0 (length (set e slot count) - 0) (set e slot count))
-  changed-lent count h = rw (tail_lent 0 (set e slot count)) (simp length-set (omega (arith, changed-length)))
+  -- then the slot gets its new count
+  pub changed-lent : (count : ℕ) → 3 * n ≤ length c → 3 * n ≤ length (set e slot count)
+  changed-lent count h = simp length-set (omega (arith, changed-length))
 
   pub changed-past : (count : ℕ) → slot < n → line < n → drop (3 * n) (set e slot count) ≡ drop (3 * n) c
   changed-past count s l = drop-set-lt (3 * n) e slot count (omega arith) ∙ elim t [
@@ -277,7 +275,7 @@ module _ (k n slot line many total : ℕ) (c e : List ℕ) (t : LineChanged k n 
   ]
 
   -- the words count the new rows, and the summary read off them decides
-  module _ (count : ℕ) (room : 3 * n ≤ length c) (slot_inside : slot < n) (line-inside : line < n) (r : NetSummary) (told : r ≡ summary_of_line (mid_of 0 (length (set e slot count) - 0) (set e slot count)) n line) where
+  module _ (count : ℕ) (room : 3 * n ≤ length c) (slot_inside : slot < n) (line-inside : line < n) (r : NetSummary) (told : r ≡ summary_of_line (set e slot count) n line) where
     changed-counts : (b : ℕ) (ls : List ℕ) (line_of net_of slot_of : ℕ → ℕ) (old new : List Row) (j net : ℕ)
         → Counted n b ls line_of net_of slot_of old c → Slots n line_of net_of slot_of → j < n → slot_of j ≡ slot → line_of j ≡ line → net_of j ≡ net
         → Elsewhere ls old new line net → net_count ls new line net ≡ count → count ≤ b + 1
@@ -299,12 +297,12 @@ module _ (k n slot line many total : ℕ) (c e : List ℕ) (t : LineChanged k n 
         ]
 
         decides : Decides ls new r line (line + 1)
-        decides = subst (λ (s : NetSummary). Decides ls new s line (line + 1)) (sym (told ∙ ap (λ (z : List ℕ). summary_of_line z n line) (tail_lent 0 d))) (nets_decide ls new (b + 1) line _ _ (counted.lines line line-inside))
+        decides = subst (λ (s : NetSummary). Decides ls new s line (line + 1)) (sym told) (nets_decide ls new (b + 1) line _ _ (counted.lines line line-inside))
 
 module _ (n slot line net : ℕ) (c e : List ℕ) (r : NetSummary) where
   pub starts : Countable n slot line net c → net < 2 ^ 32
       → LineChanged 0 n slot line (get_or c (n + line) 0 + 1) (get_or c (2 * n + line) 0 + net) c e
-      → r ≡ summary_of_line (mid_of 0 (length (set e slot (get_or c slot 0 + 1)) - 0) (set e slot (get_or c slot 0 + 1))) n line
+      → r ≡ summary_of_line (set e slot (get_or c slot 0 + 1)) n line
       → Starts n slot line net c (set e slot (get_or c slot 0 + 1)) r
   starts p small t told b ls line_of net_of slot_of active x j k slots inside of-slot of-line of-net x-line x-net =
       changed-counts 0 n slot line (get_or c (n + line) 0 + 1) (get_or c (2 * n + line) 0 + net) c e t (get_or c slot 0 + 1) p.room p.slot_inside p.line-inside r told
@@ -326,7 +324,7 @@ module _ (n slot line net : ℕ) (c e : List ℕ) (r : NetSummary) where
 
   pub ends : Endable n slot line net c
       → LineChanged 1 n slot line (get_or c (n + line) 0 - 1) (get_or c (2 * n + line) 0 - net) c e
-      → r ≡ summary_of_line (mid_of 0 (length (set e slot (get_or c slot 0 - 1)) - 0) (set e slot (get_or c slot 0 - 1))) n line
+      → r ≡ summary_of_line (set e slot (get_or c slot 0 - 1)) n line
       → Ends n slot line net c (set e slot (get_or c slot 0 - 1)) r
   ends p t told b ls line_of net_of slot_of active x j k slots inside of-slot of-line of-net x-line x-net there =
       changed-counts 1 n slot line (get_or c (n + line) 0 - 1) (get_or c (2 * n + line) 0 - net) c e t (get_or c slot 0 - 1) p.room p.slot_inside p.line-inside r told

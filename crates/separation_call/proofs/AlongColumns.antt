@@ -20,6 +20,7 @@ use Rattle.separation.specs.Lines.{lines}
 use Rattle.separation.specs.Walk.{sweep, along}
 use Rattle.separation.proofs.Allowances.{along-few, along_more}
 use Rattle.separation_call.specs.Inner.Prepared.{Prepared}
+use Rattle.separation.specs.declared.found.Found.{Found}
 use Rattle.separation.specs.Inner.States.{swept_of}
 use Rattle.separation_call.specs.Inner.Sweeping.{Gapped, AtTables, AtRows, AtColumns}
 

@@ -1,5 +1,7 @@
 -- The code's searches over the stored tree, step by step: what each of its returns answers. Assumes nothing.
-use Rattle.std.specs.Prelude.{Option, None, Some}
+use Rattle.drawing.specs.declared.refusal.Refusal.{Refusal}
+use Rattle.drawing.specs.declared.refusal.Refusal.TheVariants.{WorkLimitExceeded}
+use Rattle.std.specs.Prelude.{Option, None, Some, Result, Ok, Err, is_some}
 use mathlib.Core.Path.{◌≡◌, refl, sym, ap, ◌∙◌}
 use mathlib.Core.Logic.{◌⊎◌, inl, inr}
 use mathlib.Core.Bool.{Bool, true, false, ◌&&◌, and-false}
@@ -12,33 +14,23 @@ use lib.Pow.{pow_pos}
 use Rattle.laws.specs.Charged.{Charged, free, visit}
 use Rattle.laws.specs.Inner.Allowance.{Outcome, spent, left, within}
 use Rattle.laws.proofs.Runs.{within-free, visit-spent, visit-paid}
-use Rattle.separation.specs.declared.search.OtherNet.TheVariants.{Known, Spent as Unpaid}
 use Rattle.separation.specs.declared.search.Search.{Search}
-use Rattle.separation.specs.declared.search.Search.TheVariants.{Found, Empty, Spent}
 use Rattle.separation.specs.Searches.{search_leaf, search_node, rightmost, leftmost}
 use Rattle.separation.specs.Inner.Searches.{search_of}
 use Rattle.separation.specs.Inner.Summaries.{summary_has_other}
-use Rattle.separation.proofs.Allowances.{answer-spent, answer-found, answer-empty, leaf-spent, leaf-found, empty-paid, node-spent, first-spent, first_found, first-empty}
+use Rattle.separation.proofs.Allowances.{answer-spent, answer-paid, leaf-spent, leaf-found, empty-paid, node-spent, first-spent, first_found, first-empty}
 use Rattle.separation_call.specs.Inner.ActiveTree.{summary_at, other_net_of}
 
 -- ---- an answer determines the outcome of the run
-pub was_spent : (o : Outcome (Option ℕ)) → Spent ≡ search_of o → o ≡ spent
+pub was_spent : (o : Outcome (Option ℕ)) (x : Refusal) → Err x ≡ search_of o → (x ≡ WorkLimitExceeded) × (o ≡ spent)
 unfolding search_of
-was_spent spent e = refl
-was_spent (left (Some i) m) e = cc
-was_spent (left None m) e = cc
+was_spent spent x e = (cc, refl)
+was_spent (left found m) x e = cc
 
-pub was_found : (o : Outcome (Option ℕ)) (i m : ℕ) → Found i m ≡ search_of o → o ≡ left (Some i) m
+pub was_paid : (o : Outcome (Option ℕ)) (a : Search) → Ok a ≡ search_of o → o ≡ left a.line a.remaining
 unfolding search_of
-was_found spent i m e = cc
-was_found (left (Some j) r) i m e = cc
-was_found (left None r) i m e = cc
-
-pub was_empty : (o : Outcome (Option ℕ)) (m : ℕ) → Empty m ≡ search_of o → o ≡ left None m
-unfolding search_of
-was_empty spent m e = cc
-was_empty (left (Some j) r) m e = cc
-was_empty (left None r) m e = cc
+was_paid spent a e = cc
+was_paid (left found m) a e = let z : a ≡ record { line = found; remaining = m } = cc in sym (ap (λ (k : Search). left k.line k.remaining) z)
 
 -- ---- a visit is paid: the run within m continues within m - 1
 pub paid-before : (m : ℕ) → (m ≡ 0 → ⊥) → m ≡ suc (m - 1)
@@ -46,28 +38,43 @@ paid-before m p = omega arith
 
 -- ---- `has_other_at` costs one visit
 module _ (m : ℕ) (b : Bool) where
-  pub other_unpaid : m ≡ 0 → Unpaid ≡ other_net_of (within m (visit (free b)))
+  pub other_unpaid : m ≡ 0 → Err WorkLimitExceeded ≡ other_net_of (within m (visit (free b)))
   unfolding other_net_of
   other_unpaid e = sym (rw e (ap other_net_of (visit-spent (free b))))
 
-  pub other_known : (m ≡ 0 → ⊥) → (other : Bool) → other ≡ b → Known other (m - 1) ≡ other_net_of (within m (visit (free b)))
+  pub other_known : (m ≡ 0 → ⊥) → (other : Bool) → other ≡ b → Ok (other, m - 1) ≡ other_net_of (within m (visit (free b)))
   unfolding other_net_of
-  other_known p other e = ap (λ (t : Bool). Known t (m - 1)) e ∙ sym (ap other_net_of (ap (λ (z : ℕ). within z (visit (free b))) (paid-before m p) ∙ visit-paid (m - 1) (free b) ∙ within-free (m - 1) b))
+  other_known p other e = ap (λ (t : Bool). Ok (t, m - 1)) e ∙ sym (ap other_net_of (ap (λ (z : ℕ). within z (visit (free b))) (paid-before m p) ∙ visit-paid (m - 1) (free b) ∙ within-free (m - 1) b))
 
 -- ---- a search continues
-paid : (m : ℕ) → (m ≡ 0 → ⊥) → (run : Charged (Option ℕ)) (r : Search) → r ≡ search_of (within (suc (m - 1)) run) → r ≡ search_of (within m run)
+paid : (m : ℕ) → (m ≡ 0 → ⊥) → (run : Charged (Option ℕ)) (r : Result Search Refusal) → r ≡ search_of (within (suc (m - 1)) run) → r ≡ search_of (within m run)
 paid m p run r e = e ∙ ap (λ (z : ℕ). search_of (within z run)) (sym (paid-before m p))
 
+-- whether a line was found
+pub some-line : (v : Option ℕ) → is_some v ≡ true → (i : ℕ) × (v ≡ Some i)
+some-line (Some i) e = (i, refl)
+some-line None e = absurd (let z : ◌≡◌ {A = ℕ} 0 1 = cc in omega arith)
+
+pub no-line : (v : Option ℕ) → is_some v ≡ false → v ≡ None
+no-line None e = refl
+no-line (Some i) e = absurd (let z : ◌≡◌ {A = ℕ} 0 1 = cc in omega arith)
+
 -- ---- a node whose children are searched: the first one's answer is returned, or the second one is searched with the remaining visits
-module _ (one two : Charged (Option ℕ)) (a : Search) (m : ℕ) (p : m ≡ 0 → ⊥) (e : a ≡ search_of (within (m - 1) one)) where
-  hand_spent : a ≡ Spent → Spent ≡ search_of (within m (search_node true one two))
-  hand_spent x = paid m p (search_node true one two) Spent (rw (first-spent one two (m - 1) (was_spent (within (m - 1) one) (sym x ∙ e))) (sym answer-spent))
+module _ (one two : Charged (Option ℕ)) (a : Result Search Refusal) (m : ℕ) (p : m ≡ 0 → ⊥) (e : a ≡ search_of (within (m - 1) one)) where
+  hand_spent : (x : Refusal) → a ≡ Err x → Err x ≡ search_of (within m (search_node true one two))
+  hand_spent x h =
+      let k = was_spent (within (m - 1) one) x (sym h ∙ e) in
+      paid m p (search_node true one two) (Err x) (rw (first-spent one two (m - 1) k.1, k.0) (sym answer-spent))
 
-  hand_found : (i r : ℕ) → a ≡ Found i r → Found i r ≡ search_of (within m (search_node true one two))
-  hand_found i r x = paid m p (search_node true one two) (Found i r) (rw (first_found one two (m - 1) i r (was_found (within (m - 1) one) i r (sym x ∙ e))) (sym (answer-found i r)))
+  hand_found : (s : Search) (i : ℕ) → a ≡ Ok s → s.line ≡ Some i → Ok s ≡ search_of (within m (search_node true one two))
+  hand_found s i h f =
+      let k : within (m - 1) one ≡ left (Some i) s.remaining = was_paid (within (m - 1) one) s (sym h ∙ e) ∙ ap (λ (v : Option ℕ). left v s.remaining) f in
+      paid m p (search_node true one two) (Ok s) (rw (first_found one two (m - 1) i s.remaining k) ((λ j. Ok (record { line = f j; remaining = s.remaining })) ∙ sym (answer-paid (Some i) s.remaining)))
 
-  go_on : (r : ℕ) → a ≡ Empty r → (b : Search) → b ≡ search_of (within r two) → b ≡ search_of (within m (search_node true one two))
-  go_on r x b f = paid m p (search_node true one two) b (rw (first-empty one two (m - 1) r (was_empty (within (m - 1) one) r (sym x ∙ e))) f)
+  go_on : (s : Search) → a ≡ Ok s → s.line ≡ None → (b : Result Search Refusal) → b ≡ search_of (within s.remaining two) → b ≡ search_of (within m (search_node true one two))
+  go_on s h f b g =
+      let k : within (m - 1) one ≡ left None s.remaining = was_paid (within (m - 1) one) s (sym h ∙ e) ∙ ap (λ (v : Option ℕ). left v s.remaining) f in
+      paid m p (search_node true one two) b (rw (first-empty one two (m - 1) s.remaining k) g)
 
 -- ---- both searches by their direction: `rightmost` goes down from the query, `leftmost` up
 pub data Way : Type 0 where
@@ -124,7 +131,7 @@ not_both a b (inr e) = rw (e, and-false a)
 
 -- a node whose children are searched
 pub record Opened (w : Way) (t : List ℕ) (n q k s e m : ℕ) : Type 0 where
-  pub Some : m ≡ 0 → ⊥
+  pub some : m ≡ 0 → ⊥
   pub reached : reaches w q s e ≡ true
   pub active : summary_has_other (summary_at t k) n ≡ true
   pub wide : e - s ≡ 1 → ⊥
@@ -134,23 +141,23 @@ abbrev others : List ℕ → ℕ → ℕ → ℕ → ℕ → Bool
 others t n k a b = summary_has_other (summary_at t k) n
 
 module _ (w : Way) (t : List ℕ) (n q : ℕ) where
-  abbrev pub Searched : ℕ → ℕ → ℕ → ℕ → Search → Type 0
+  abbrev pub Searched : ℕ → ℕ → ℕ → ℕ → Result Search Refusal → Type 0
   Searched k s e m r = (h : ℕ) → e ≡ s + 2 ^ h → r ≡ search_of (within m (search w (others t n) q h k s))
 
   module _ (k s e m : ℕ) where
-    pub search_spent : m ≡ 0 → Searched k s e m Spent
+    pub search_spent : m ≡ 0 → Searched k s e m (Err WorkLimitExceeded)
     search_spent z zero x = rw (z, at_leaf w (others t n) q k s, leaf-spent) (sym answer-spent)
     search_spent z (suc h) x = rw (z, at-node w (others t n) q h k s, node-spent) (sym answer-spent)
 
-    pub search_shut : (m ≡ 0 → ⊥) → (reaches w q s e ≡ false) ⊎ (summary_has_other (summary_at t k) n ≡ false) → Searched k s e m (Empty (m - 1))
-    search_shut p o zero x = paid m p (search w (others t n) q 0 k s) (Empty (m - 1)) (rw (at_leaf w (others t n) q k s, not_both _ _ (rw x at o), empty-paid (m - 1)) (sym (answer-empty (m - 1))))
-    search_shut p o (suc h) x = paid m p (search w (others t n) q (suc h) k s) (Empty (m - 1)) (rw (at-node w (others t n) q h k s, not_both _ _ (rw x at o), empty-paid (m - 1)) (sym (answer-empty (m - 1))))
+    pub search_shut : (m ≡ 0 → ⊥) → (reaches w q s e ≡ false) ⊎ (summary_has_other (summary_at t k) n ≡ false) → Searched k s e m (Ok (record { line = None; remaining = m - 1 }))
+    search_shut p o zero x = paid m p (search w (others t n) q 0 k s) (Ok (record { line = None; remaining = m - 1 })) (rw (at_leaf w (others t n) q k s, not_both _ _ (rw x at o), empty-paid (m - 1)) (sym (answer-paid None (m - 1))))
+    search_shut p o (suc h) x = paid m p (search w (others t n) q (suc h) k s) (Ok (record { line = None; remaining = m - 1 })) (rw (at-node w (others t n) q h k s, not_both _ _ (rw x at o), empty-paid (m - 1)) (sym (answer-paid None (m - 1))))
 
-    pub search-leaf : (m ≡ 0 → ⊥) → reaches w q s e ≡ true → summary_has_other (summary_at t k) n ≡ true → e - s ≡ 1 → Searched k s e m (Found s (m - 1))
-    search-leaf p g o u zero x = paid m p (search w (others t n) q 0 k s) (Found s (m - 1)) (rw (at_leaf w (others t n) q k s, rw x at g, o, leaf-found (m - 1) s) (sym (answer-found s (m - 1))))
+    pub search-leaf : (m ≡ 0 → ⊥) → reaches w q s e ≡ true → summary_has_other (summary_at t k) n ≡ true → e - s ≡ 1 → Searched k s e m (Ok (record { line = Some s; remaining = m - 1 }))
+    search-leaf p g o u zero x = paid m p (search w (others t n) q 0 k s) (Ok (record { line = Some s; remaining = m - 1 })) (rw (at_leaf w (others t n) q k s, rw x at g, o, leaf-found (m - 1) s) (sym (answer-paid (Some s) (m - 1))))
     search-leaf p g o u (suc h) x = absurd (omega (arith, pow-succ' 2 h, pow_pos h))
 
-module _ {w : Way} {t : List ℕ} {n q k s e m : ℕ} (o : Opened w t n q k s e m) {a : Search} (first : Searched w t n q (child w k) (from w s ((s + e) / 2)) (to w ((s + e) / 2) e) (m - 1) a) where
+module _ {w : Way} {t : List ℕ} {n q k s e m : ℕ} (o : Opened w t n q k s e m) {a : Result Search Refusal} (first : Searched w t n q (child w k) (from w s ((s + e) / 2)) (to w ((s + e) / 2) e) (m - 1) a) where
   abbrev one : ℕ → Charged (Option ℕ)
   one h = search w (others t n) q h (child w k) (from w s ((s + e) / 2))
 
@@ -158,15 +165,15 @@ module _ {w : Way} {t : List ℕ} {n q k s e m : ℕ} (o : Opened w t n q k s e 
   two h = search w (others t n) q h (child (other w) k) (from (other w) s ((s + e) / 2))
 
   -- the search from the inner node is that of its children
-  by_children : (b : Search) → ((h : ℕ) → e ≡ s + 2 ^ suc h → b ≡ search_of (within m (search_node true (one h) (two h)))) → Searched w t n q k s e m b
+  by_children : (b : Result Search Refusal) → ((h : ℕ) → e ≡ s + 2 ^ suc h → b ≡ search_of (within m (search_node true (one h) (two h)))) → Searched w t n q k s e m b
   by_children b f zero x = absurd (o.wide (omega arith))
   by_children b f (suc h) x = rw (at-node w (others t n) q h k s, rw x at o.reached, o.active, ← half h s e x) (f h x)
 
-  pub hands_spent : a ≡ Spent → Searched w t n q k s e m Spent
-  hands_spent x = by_children Spent (λ h y. hand_spent (one h) (two h) a m o.some (first h (child_end w h s e y)) x)
+  pub hands_spent : {x : Refusal} → a ≡ Err x → Searched w t n q k s e m (Err x)
+  hands_spent {x} g = by_children (Err x) (λ h y. hand_spent (one h) (two h) a m o.some (first h (child_end w h s e y)) x g)
 
-  pub hands_found : {i r : ℕ} → a ≡ Found i r → Searched w t n q k s e m (Found i r)
-  hands_found {i} {r} x = by_children (Found i r) (λ h y. hand_found (one h) (two h) a m o.some (first h (child_end w h s e y)) i r x)
+  pub hands_found : {r : Search} → a ≡ Ok r → is_some r.line ≡ true → Searched w t n q k s e m (Ok r)
+  hands_found {r} g f = let v = some-line r.line f in by_children (Ok r) (λ h y. hand_found (one h) (two h) a m o.some (first h (child_end w h s e y)) r v.0 g v.1)
 
-  pub goes_on : {r : ℕ} → a ≡ Empty r → {b : Search} → Searched w t n q (child (other w) k) (from (other w) s ((s + e) / 2)) (to (other w) ((s + e) / 2) e) r b → Searched w t n q k s e m b
-  goes_on {r} x {b} second = by_children b (λ h y. go_on (one h) (two h) a m o.some (first h (child_end w h s e y)) r x b (second h (child_end (other w) h s e y)))
+  pub goes_on : {r : Search} → a ≡ Ok r → is_some r.line ≡ false → {b : Result Search Refusal} → Searched w t n q (child (other w) k) (from (other w) s ((s + e) / 2)) (to (other w) ((s + e) / 2) e) r.remaining b → Searched w t n q k s e m b
+  goes_on {r} g f {b} second = by_children b (λ h y. go_on (one h) (two h) a m o.some (first h (child_end w h s e y)) r g (no-line r.line f) b (second h (child_end (other w) h s e y)))

@@ -27,7 +27,7 @@ use Rattle.separation.proofs.Allowances.{sweep-within}
 use Rattle.separation.proofs.Sweeps.{State, begin, after-start, after-end, is-active}
 use Rattle.separation.specs.declared.state.Sweeping.{Sweeping}
 use Rattle.separation.specs.declared.found.Found.{Found}
-use Rattle.separation.specs.Inner.States.{met_by, at_start, outcome_of, found_in, swept_of}
+use Rattle.separation.specs.Inner.States.{met_by, at_start, Gives, found_in, swept_of}
 use Rattle.separation_call.specs.Inner.Sweeping.{Ready, AtStart, AtEnd, AtEvent, AtFirst, figures_of, Begins, Finishes, Handles}
 use Rattle.separation.proofs.States.{went_on, stopped, start-met}
 use Rattle.separation_call.proofs.SweepRun.{front-word, start-active, end-active}
@@ -57,7 +57,7 @@ module _ (s : List ℕ) (n leaves e : ℕ) where
   module _ (t : List ℕ) (st : Sweeping) (r : Result Sweeping Refusal) where
     -- a step that is known by its event
     abbrev Step : List Row → List ℕ → ℕ → ℕ → Charged Sweep → Type 0
-    Step l F H b c = (outcome_of r ≡ figures_of (within st.remaining c)) × ((to : Sweeping) → r ≡ Ok to → Ready l F H (b + 1) c.value.active t)
+    Step l F H b c = Gives r (figures_of (within st.remaining c)) × ((to : Sweeping) → r ≡ Ok to → Ready l F H (b + 1) c.value.active t)
 
     pub handles_end : e < n → Finishes s t n leaves e st r → Handles s t n leaves e st r
     handles_end h f l F H b active size count ready there =
@@ -153,12 +153,13 @@ module _ (l : List Row) (F : List ℕ) (H allowance : ℕ) where
             subst (λ (z : List Row). State l z (drop (q + 1) (events l))) (sym a) (after-start l g.proper g.active j (row_from l j) (drop (q + 1) (events l)) (subst (λ (z : Event). State l g.active (z ∷ drop (q + 1) (events l))) e now_state))
       ]
 
-      module _ (r : Result Sweeping Refusal) (t : List ℕ) (e : outcome_of r ≡ figures_of (within st.remaining c)) (k : (to : Sweeping) → r ≡ Ok to → Ready l F H (q + 1) c.value.active t) where
-        pub going_stops : r ≡ Err WorkLimitExceeded → (Err WorkLimitExceeded) ≡ swept_of all
+      module _ (r : Result Sweeping Refusal) (t : List ℕ) (e : Gives r (figures_of (within st.remaining c))) (k : (to : Sweeping) → r ≡ Ok to → Ready l F H (q + 1) c.value.active t) where
+        pub going_stops : (x : Refusal) → r ≡ Err x → Err x ≡ swept_of all
         unfolding swept_of
-        going_stops x =
-            let z = read-spent (λ (a : Sweep). a.met) st.remaining c (stopped r (figures_of (within st.remaining c)) x e) in
-            sym (ap swept_of (ap figures_of (loop_stops g.onwards next_is z) ∙ onward-spent (λ t m. left t.met m)))
+        going_stops x h =
+            let p = stopped r x (figures_of (within st.remaining c)) h e in
+            let z = read-spent (λ (a : Sweep). a.met) st.remaining c p.1 in
+            ap Err p.0 ∙ sym (ap swept_of (ap figures_of (loop_stops g.onwards next_is z) ∙ onward-spent (λ t m. left t.met m)))
 
         pub going_next : (to : Sweeping) → r ≡ Ok to → Going to t (q + 1)
         going_next to x =
@@ -220,7 +221,7 @@ module _ (n leaves allowance : ℕ) (s₀ : List ℕ) where
       less_rows : q < 2 * length l
       less_rows = omega arith
 
-      handled : let c = step (lines l) H (record { active = o.active; met = met_by st }) (event_from l (get_or s q 0)) in (outcome_of r ≡ figures_of (within st.remaining c)) × ((to : Sweeping) → r ≡ Ok to → Ready l F H (q + 1) c.value.active t)
+      handled : let c = step (lines l) H (record { active = o.active; met = met_by st }) (event_from l (get_or s q 0)) in Gives r (figures_of (within st.remaining c)) × ((to : Sweeping) → r ≡ Ok to → Ready l F H (q + 1) c.value.active t)
       handled = subst (λ (k : ℕ). Handles s t n leaves k st r) read f l F H q o.active size count o.ready (λ k. ends-active l F H allowance st s q o less_rows (omega arith))
 
     pub run_next : (to : Sweeping) → r ≡ Ok to → Runs to t (q + 1)
@@ -229,11 +230,11 @@ module _ (n leaves allowance : ℕ) (s₀ : List ℕ) where
         let k = handled l F H size count o in
         going_next l F H allowance st s q o (less_rows l F H size count o) r t k.0 k.1 to e
 
-    pub run_stops : r ≡ Err WorkLimitExceeded → (l : List Row) (F : List ℕ) (H : ℕ) → length l ≡ n → leaves ≡ 2 ^ H → Ready l F H 0 [] s₀ → ((a : Row) → Mem a l → a.start < a.end) → H ≡ levels (length (lines l)) → (Err WorkLimitExceeded) ≡ swept_of (within allowance (sweep l))
-    run_stops e l F H size count ready proper h =
+    pub run_stops : (x : Refusal) → r ≡ Err x → (l : List Row) (F : List ℕ) (H : ℕ) → length l ≡ n → leaves ≡ 2 ^ H → Ready l F H 0 [] s₀ → ((a : Row) → Mem a l → a.start < a.end) → H ≡ levels (length (lines l)) → Err x ≡ swept_of (within allowance (sweep l))
+    run_stops x e l F H size count ready proper h =
         let o = g l F H size count ready proper in
         let k = handled l F H size count o in
-        going_stops l F H allowance st s q o (less_rows l F H size count o) r t k.0 k.1 e ∙ swept_all l F H allowance h
+        going_stops l F H allowance st s q o (less_rows l F H size count o) r t k.0 k.1 x e ∙ swept_all l F H allowance h
 
   pub run_all : (st : Sweeping) (s : List ℕ) (q : ℕ) → Runs st s q → 2 * n ≤ q → (f : Found) → f ≡ found_in st → (l : List Row) (F : List ℕ) (H : ℕ) → length l ≡ n → leaves ≡ 2 ^ H → Ready l F H 0 [] s₀ → ((a : Row) → Mem a l → a.start < a.end) → H ≡ levels (length (lines l)) → Ok f ≡ swept_of (within allowance (sweep l))
   run_all st s q g less f k l F H size count ready proper h = going_all l F H allowance st s q (g l F H size count ready proper) (omega arith) f k ∙ swept_all l F H allowance h

@@ -28,11 +28,11 @@ use Rattle.separation.proofs.Allowances.{end-within}
 use Rattle.separation.proofs.ActiveRows.{remove_mem}
 use Rattle.separation.specs.declared.state.Sweeping.{Sweeping}
 use Rattle.separation_call.specs.Inner.ActiveTree.{summary_at, Leaves, Covers}
-use Rattle.separation.specs.Inner.States.{met_by, outcome_of}
+use Rattle.separation.specs.Inner.States.{met_by, Gives}
 use Rattle.separation_call.specs.Inner.Sweeping.{Searchable, Lined, WithNearest, Working, At, Enterable, Leavable, Pays, Entered, TakenOut, Ready, AtStart, figures_of, Begins, Finishes}
 use Rattle.separation_call.proofs.ActiveNets.{countable, endable}
 use Rattle.separation_call.proofs.LineNumbering.{lines-few}
-use Rattle.separation.proofs.States.{went_on, stopped, stops}
+use Rattle.separation.proofs.States.{went_on, stopped, gives_on}
 
 -- ---- what the scratch holds
 module _ (l : List Row) (F : List ℕ) (H b : ℕ) (active : List Row) (s : List ℕ) (ready : Ready l F H b active s) where
@@ -187,22 +187,23 @@ module _ (ls : List ℕ) (H : ℕ) (active : List Row) (st : Sweeping) (x : Row)
   unfolding ends_at
   end-active = refl
 
-  module _ (looked-at : Result Sweeping Refusal) (looked : outcome_of looked-at ≡ within st.remaining (with_nearest ls H active (met_by st) x)) where
-    start_stops : looked-at ≡ Err WorkLimitExceeded → outcome_of (Err WorkLimitExceeded) ≡ figures_of (within st.remaining (starts_at ls H here x))
-    start_stops e =
-        let z : onward (within st.remaining (with_nearest ls H active (met_by st) x)) (λ f r. onward (within r (set_run H)) (λ done r. left f r)) ≡ spent = rw (stopped looked-at (within st.remaining (with_nearest ls H active (met_by st) x)) e looked) (onward-spent (λ f r. onward (within r (set_run H)) (λ done r. left f r))) in
-        stops _ (start-figures ∙ z)
+  module _ (looked-at : Result Sweeping Refusal) (looked : Gives looked-at (within st.remaining (with_nearest ls H active (met_by st) x))) where
+    start_stops : (y : Refusal) → looked-at ≡ Err y → Gives (Err y) (figures_of (within st.remaining (starts_at ls H here x)))
+    start_stops y e =
+        let k = stopped looked-at y (within st.remaining (with_nearest ls H active (met_by st) x)) e looked in
+        let z : onward (within st.remaining (with_nearest ls H active (met_by st) x)) (λ f r. onward (within r (set_run H)) (λ done r. left f r)) ≡ spent = rw k.1 (onward-spent (λ f r. onward (within r (set_run H)) (λ done r. left f r))) in
+        (k.0, start-figures ∙ z)
 
-    start_goes : (seen : Sweeping) (r : Result Sweeping Refusal) → looked-at ≡ Ok seen → outcome_of r ≡ onward (within seen.remaining (set_run H)) (λ done m. left (met_by seen) m) → outcome_of r ≡ figures_of (within st.remaining (starts_at ls H here x))
+    start_goes : (seen : Sweeping) (r : Result Sweeping Refusal) → looked-at ≡ Ok seen → Gives r (onward (within seen.remaining (set_run H)) (λ done m. left (met_by seen) m)) → Gives r (figures_of (within st.remaining (starts_at ls H here x)))
     start_goes seen r e g =
         let z : onward (within st.remaining (with_nearest ls H active (met_by st) x)) (λ f r. onward (within r (set_run H)) (λ done r. left f r)) ≡ onward (within seen.remaining (set_run H)) (λ done m. left (met_by seen) m) = rw (went_on looked-at seen (within st.remaining (with_nearest ls H active (met_by st) x)) e looked) (onward-left (met_by seen) seen.remaining (λ f r. onward (within r (set_run H)) (λ done r. left f r))) in
-        g ∙ sym (start-figures ∙ z)
+        gives_on r _ _ (sym (start-figures ∙ z)) g
 
-  end_goes : (r : Result Sweeping Refusal) → outcome_of r ≡ onward (within st.remaining (set_run H)) (λ done m. left (met_by st) m) → outcome_of r ≡ figures_of (within st.remaining (ends_at H here x))
-  end_goes r g = g ∙ sym (ap figures_of (end-within H st.remaining here x) ∙ flatten active st x (within st.remaining (set_run H)))
+  end_goes : (r : Result Sweeping Refusal) → Gives r (onward (within st.remaining (set_run H)) (λ done m. left (met_by st) m)) → Gives r (figures_of (within st.remaining (ends_at H here x)))
+  end_goes r g = gives_on r _ _ (sym (ap figures_of (end-within H st.remaining here x) ∙ flatten active st x (within st.remaining (set_run H)))) g
 
-never : (to : Sweeping) → (Err WorkLimitExceeded) ≡ Ok to → ⊥
-never to e = let z : ◌≡◌ {A = ℕ} 0 1 = cc in omega arith
+never : (x : Refusal) (to : Sweeping) → Err x ≡ Ok to → ⊥
+never x to e = let z : ◌≡◌ {A = ℕ} 0 1 = cc in omega arith
 
 -- ---- the two kinds of event, over the scratch
 -- the parts of the scratch that are lent
@@ -219,7 +220,7 @@ LookedAt n s leaves j st looked-at = WithNearest (tail (12 * n) s) (tail (6 * n)
 
 module _ (s : List ℕ) (leaves j : ℕ) (st : Sweeping) where
   module _ (l : List Row) (F : List ℕ) (H b : ℕ) (active : List Row) (count : leaves ≡ 2 ^ H) (ready : Ready l F H b active s) where
-    look_is : (looked-at : Result Sweeping Refusal) → j < length l → LookedAt (length l) s leaves j st looked-at → outcome_of looked-at ≡ within st.remaining (with_nearest (lines l) H active (met_by st) (row_from l j))
+    look_is : (looked-at : Result Sweeping Refusal) → j < length l → LookedAt (length l) s leaves j st looked-at → Gives looked-at (within st.remaining (with_nearest (lines l) H active (met_by st) (row_from l j)))
     look_is looked-at h f =
         let n = length l in
         f (lines l) H active (row_from l j) count
@@ -231,10 +232,10 @@ module _ (s : List ℕ) (leaves j : ℕ) (st : Sweeping) where
     first_of a h (inr m) = ready.from a m
 
   -- the searches were not paid for
-  pub begins_not : (n : ℕ) (looked-at : Result Sweeping Refusal) (t : List ℕ) → j < n → LookedAt n s leaves j st looked-at → looked-at ≡ Err WorkLimitExceeded → Begins s t n leaves j st (Err WorkLimitExceeded)
-  begins_not n looked-at t h f e l F H b active size count ready =
-      let looked = subst (λ (m : ℕ). j < m → LookedAt m s leaves j st looked-at → outcome_of looked-at ≡ within st.remaining (with_nearest (lines l) H active (met_by st) (row_from l j))) size (look_is l F H b active count ready looked-at) h f in
-      (start_stops (lines l) H active st (row_from l j) looked-at looked e, λ to g. absurd (never to g))
+  pub begins_not : (n : ℕ) (looked-at : Result Sweeping Refusal) (t : List ℕ) → j < n → LookedAt n s leaves j st looked-at → (y : Refusal) → looked-at ≡ Err y → Begins s t n leaves j st (Err y)
+  begins_not n looked-at t h f y e l F H b active size count ready =
+      let looked = subst (λ (m : ℕ). j < m → LookedAt m s leaves j st looked-at → Gives looked-at (within st.remaining (with_nearest (lines l) H active (met_by st) (row_from l j)))) size (look_is l F H b active count ready looked-at) h f in
+      (start_stops (lines l) H active st (row_from l j) looked-at looked y e, λ to g. absurd (never y to g))
 
   pub begins : (n : ℕ) (looked-at r : Result Sweeping Refusal) (seen : Sweeping) (e : List ℕ) → j < n → LookedAt n s leaves j st looked-at → looked-at ≡ Ok seen → Pays leaves seen r
       → Entered n leaves (get_or s (7 * n + j) 0) (get_or s (4 * n + j) 0) (get_or s (5 * n + j) 0) (tail (9 * n) s) e r → length e ≡ length (tail (9 * n) s)
@@ -247,7 +248,7 @@ module _ (s : List ℕ) (leaves j : ℕ) (st : Sweeping) where
     where
       Then : ℕ → Type 0
       Then n = j < n → LookedAt n s leaves j st looked-at → Entered n leaves (get_or s (7 * n + j) 0) (get_or s (4 * n + j) 0) (get_or s (5 * n + j) 0) (tail (9 * n) s) e r → length e ≡ length (tail (9 * n) s)
-          → (outcome_of r ≡ figures_of (within st.remaining (starts_at (lines l) H (record { active = active; met = met_by st }) (row_from l j)))) × ((to : Sweeping) → r ≡ Ok to → Ready l F H (b + 1) (row_from l j ∷ active) (put_mid (9 * n) (length s - 9 * n) s e))
+          → Gives r (figures_of (within st.remaining (starts_at (lines l) H (record { active = active; met = met_by st }) (row_from l j)))) × ((to : Sweeping) → r ≡ Ok to → Ready l F H (b + 1) (row_from l j ∷ active) (put_mid (9 * n) (length s - 9 * n) s e))
 
   pub finishes : (n : ℕ) (r : Result Sweeping Refusal) (e : List ℕ) → j < n → Pays leaves st r
       → TakenOut n leaves (get_or s (7 * n + j) 0) (get_or s (4 * n + j) 0) (get_or s (5 * n + j) 0) (tail (9 * n) s) e r → length e ≡ length (tail (9 * n) s)
@@ -260,7 +261,7 @@ module _ (s : List ℕ) (leaves j : ℕ) (st : Sweeping) where
     where
       Then : ℕ → Type 0
       Then n = j < n → TakenOut n leaves (get_or s (7 * n + j) 0) (get_or s (4 * n + j) 0) (get_or s (5 * n + j) 0) (tail (9 * n) s) e r → length e ≡ length (tail (9 * n) s)
-          → (outcome_of r ≡ figures_of (within st.remaining (ends_at H (record { active = active; met = met_by st }) (row_from l j)))) × ((to : Sweeping) → r ≡ Ok to → Ready l F H (b + 1) (remove (row_from l j) active) (put_mid (9 * n) (length s - 9 * n) s e))
+          → Gives r (figures_of (within st.remaining (ends_at H (record { active = active; met = met_by st }) (row_from l j)))) × ((to : Sweeping) → r ≡ Ok to → Ready l F H (b + 1) (remove (row_from l j) active) (put_mid (9 * n) (length s - 9 * n) s e))
 
 -- ---- what the calls require
 module _ (s : List ℕ) (n leaves j : ℕ) (a : AtStart s n leaves j) where

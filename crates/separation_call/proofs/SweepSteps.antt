@@ -21,7 +21,6 @@ use Rattle.floats.specs.TotalOrder.{float_at}
 use Rattle.drawing.specs.Inner.LeastFloats.{Number}
 use Rattle.rows.specs.Rows.{Row}
 use Rattle.separation.specs.declared.search.Search.{Search}
-use Rattle.separation.specs.declared.search.Search.TheVariants.{Found, Empty, Spent as Over}
 use Rattle.separation.specs.Figures.{Figures}
 use Rattle.separation.specs.Lines.{index}
 use Rattle.separation.specs.Searches.{other_in, search_leaf, search_node, rightmost, leftmost, set_run}
@@ -30,34 +29,36 @@ use Rattle.separation.specs.Inner.Summaries.{summary_has_other}
 use Rattle.separation.specs.Walk.{own_line, other_line, with_nearest}
 use Rattle.separation.proofs.Lines.{other→, other_widen}
 use Rattle.separation.proofs.Searches.{Best, In, Below, From, right_best, left_best}
-use Rattle.separation.proofs.States.{went_on, stopped, stops, goes, gap_joins}
-use Rattle.separation.specs.declared.search.OtherNet.{OtherNet}
-use Rattle.separation.specs.declared.search.OtherNet.TheVariants.{Known, Spent as Unpaid}
+use Rattle.separation.proofs.States.{went_on, stopped, gives_on, gap_joins}
 use Rattle.separation.specs.declared.state.Sweeping.{Sweeping}
 use Rattle.separation_call.specs.Inner.ActiveTree.{summary_at, other_net_of, charge_of, Covers}
-use Rattle.separation.specs.Inner.States.{met_by, outcome_of, with_gap, charged_to, gap_met}
+use Rattle.separation.specs.Inner.States.{met_by, Gives, with_gap, gap_met}
 use Rattle.separation_call.specs.Inner.Sweeping.{WithinLines, Gapped, joined, Lined}
-use Rattle.separation_call.proofs.StoredSearches.{was_spent, was_found, was_empty}
+use Rattle.separation_call.proofs.StoredSearches.{was_spent, was_paid}
 use Rattle.separation_call.proofs.Trees.{stored-right, stored-left}
 
 -- ---- a search's answer joined to the figures
-module _ (ls : List ℕ) (line : ℕ) (st : Sweeping) (o : Outcome (Option ℕ)) (search : Search) (e : search ≡ search_of o) where
-  pub joined-spent : search ≡ Over → outcome_of (Err WorkLimitExceeded) ≡ joined ls (get_or ls line 0) (met_by st) o
-  joined-spent h = stops _ (rw (was_spent o (sym h ∙ e)) (onward-spent _))
+module _ (ls : List ℕ) (line : ℕ) (st : Sweeping) (o : Outcome (Option ℕ)) (search : Result Search Refusal) (e : search ≡ search_of o) where
+  pub joined-spent : (x : Refusal) → search ≡ Err x → Gives (Err WorkLimitExceeded) (joined ls (get_or ls line 0) (met_by st) o)
+  joined-spent x h = (refl, rw (was_spent o x (sym h ∙ e)).1 (onward-spent _))
 
-  pub joined-empty : (m : ℕ) → search ≡ Empty m → outcome_of (Ok (record { minimum = st.minimum; minimum_positive = st.minimum_positive; remaining = m })) ≡ joined ls (get_or ls line 0) (met_by st) o
-  joined-empty m h = goes _ _ (rw (was_empty o m (sym h ∙ e)) (onward-left None m _))
+  module _ (a : Search) (h : search ≡ Ok a) where
+    answered : (v : Option ℕ) → a.line ≡ v → o ≡ left v a.remaining
+    answered v f = was_paid o a (sym h ∙ e) ∙ ap (λ (z : Option ℕ). left z a.remaining) f
 
-  pub joined-found : (fixed : List ℕ) (i m : ℕ) (there here : Float) (t : Sweeping) → search ≡ Found i m → take (length ls) fixed ≡ ls → WithinLines search line (length ls) → Gapped ls
-      → there ≡ float_at (get_or fixed i 0) → here ≡ float_at (get_or fixed line 0) → t ≡ gap_met (gap_of there here) m st
-      → outcome_of (Ok t) ≡ joined ls (get_or ls line 0) (met_by st) o
-  joined-found fixed i m there here t h f w gaps p q g =
-      let at : (k : ℕ) → k < length ls → get_or fixed k 0 ≡ get_or ls k 0 = λ k b. sym (get_or-take (length ls) fixed k 0 b) ∙ ap (λ (l : List ℕ). get_or l k 0) f in
-      let far : there ≡ float_at (get_or ls i 0) = p ∙ ap float_at (at i (w.found i m h)) in
-      let near : here ≡ float_at (get_or ls line 0) = q ∙ ap float_at (at line w.own) in
-      let number : Number (gap_of there here) = rw (far, near) (gaps (get_or ls i 0) (get_or ls line 0) (at_mem ls i 0 (w.found i m h)) (at_mem ls line 0 w.own)) in
-      let met : met_by t ≡ with_gap (gap_of (float_at (get_or ls i 0)) (float_at (get_or ls line 0))) (met_by st) = ap met_by g ∙ gap_joins st m (gap_of there here) number ∙ (λ j. with_gap (gap_of (far j) (near j)) (met_by st)) in
-      goes t _ (rw (was_found o i m (sym h ∙ e)) (onward-left (Some i) m _) ∙ (λ j. left (sym met j) (sym (ap (λ (z : Sweeping). z.remaining) g) j)))
+    pub joined-empty : a.line ≡ None → Gives (Ok (record { minimum = st.minimum; minimum_positive = st.minimum_positive; remaining = a.remaining })) (joined ls (get_or ls line 0) (met_by st) o)
+    joined-empty f = rw (answered None f) (onward-left None a.remaining _)
+
+    pub joined-found : (fixed : List ℕ) (i : ℕ) (there here : Float) (t : Sweeping) → a.line ≡ Some i → take (length ls) fixed ≡ ls → WithinLines search line (length ls) → Gapped ls
+        → there ≡ float_at (get_or fixed i 0) → here ≡ float_at (get_or fixed line 0) → t ≡ gap_met (gap_of there here) a.remaining st
+        → Gives (Ok t) (joined ls (get_or ls line 0) (met_by st) o)
+    joined-found fixed i there here t k f w gaps p q g =
+        let at : (k : ℕ) → k < length ls → get_or fixed k 0 ≡ get_or ls k 0 = λ k b. sym (get_or-take (length ls) fixed k 0 b) ∙ ap (λ (l : List ℕ). get_or l k 0) f in
+        let far : there ≡ float_at (get_or ls i 0) = p ∙ ap float_at (at i (w.found a i h k)) in
+        let near : here ≡ float_at (get_or ls line 0) = q ∙ ap float_at (at line w.own) in
+        let number : Number (gap_of there here) = rw (far, near) (gaps (get_or ls i 0) (get_or ls line 0) (at_mem ls i 0 (w.found a i h k)) (at_mem ls line 0 w.own)) in
+        let met : met_by t ≡ with_gap (gap_of (float_at (get_or ls i 0)) (float_at (get_or ls line 0))) (met_by st) = ap met_by g ∙ gap_joins st a.remaining (gap_of there here) number ∙ (λ j. with_gap (gap_of (far j) (near j)) (met_by st)) in
+        rw (answered (Some i) k) (onward-left (Some i) a.remaining _) ∙ (λ j. left (sym met j) (sym (ap (λ (z : Sweeping). z.remaining) g) j))
 
 -- ---- where a search finds something
 found-leaf : (t : Bool) (s i : ℕ) → (search_leaf t s).value ≡ Some i → i ≡ s
@@ -89,27 +90,27 @@ module _ (has : ℕ → ℕ → ℕ → Bool) (q : ℕ) where
       found-node (ltb q (s + 2 ^ suc h) && has k s (s + 2 ^ suc h)) (leftmost has q h (2 * k) s) (leftmost has q h (2 * k + 1) (s + 2 ^ h)) (λ j. j < s + 2 ^ suc h) i
       (λ g. omega (arith, left-inside h (2 * k) s i g)) (λ g. omega (arith, left-inside h (2 * k + 1) (s + 2 ^ h) i g)) e
 
-found-value : (m i r : ℕ) (c : Charged (Option ℕ)) (search : Search) → search ≡ search_of (within m c) → search ≡ Found i r → c.value ≡ Some i
-found-value m i r c search e h = (within-left m c (Some i) r (was_found (within m c) i r (sym h ∙ e))).1
+found-value : (m i : ℕ) (a : Search) (c : Charged (Option ℕ)) (search : Result Search Refusal) → search ≡ search_of (within m c) → search ≡ Ok a → a.line ≡ Some i → c.value ≡ Some i
+found-value m i a c search e h f = (within-left m c (Some i) a.remaining (was_paid (within m c) a (sym h ∙ e) ∙ ap (λ (v : Option ℕ). left v a.remaining) f)).1
 
 -- the line and what a search found are within the leaves
-module _ (leaves line n left : ℕ) (search : Search) (has : ℕ → ℕ → ℕ → Bool) (q H : ℕ) (count : leaves ≡ 2 ^ H) (own : line < leaves) (room : leaves ≤ n) where
+module _ (leaves line n left : ℕ) (search : Result Search Refusal) (has : ℕ → ℕ → ℕ → Bool) (q H : ℕ) (count : leaves ≡ 2 ^ H) (own : line < leaves) (room : leaves ≤ n) where
   pub right-within : search ≡ search_of (within left (rightmost has q H 1 0)) → WithinLines search line n
-  right-within e = record { own = omega arith; found = λ i m h. omega (arith, right-inside has q H 1 0 i (found-value left i m (rightmost has q H 1 0) search e h)) }
+  right-within e = record { own = omega arith; found = λ a i h f. omega (arith, right-inside has q H 1 0 i (found-value left i a (rightmost has q H 1 0) search e h f)) }
 
   pub left-within : search ≡ search_of (within left (leftmost has q H 1 0)) → WithinLines search line n
-  left-within e = record { own = omega arith; found = λ i m h. omega (arith, left-inside has q H 1 0 i (found-value left i m (leftmost has q H 1 0) search e h)) }
+  left-within e = record { own = omega arith; found = λ a i h f. omega (arith, left-inside has q H 1 0 i (found-value left i a (leftmost has q H 1 0) search e h f)) }
 
 -- ---- what `has_other_at` answers
-was_unpaid : (o : Outcome Bool) → Unpaid ≡ other_net_of o → o ≡ spent
+was_unpaid : (o : Outcome Bool) (x : Refusal) → Err x ≡ other_net_of o → (x ≡ WorkLimitExceeded) × (o ≡ spent)
 unfolding other_net_of
-was_unpaid spent e = refl
-was_unpaid (left b m) e = cc
+was_unpaid spent x e = (cc, refl)
+was_unpaid (left b m) x e = cc
 
-was_known : (o : Outcome Bool) (b : Bool) (m : ℕ) → Known b m ≡ other_net_of o → o ≡ left b m
+was_known : (o : Outcome Bool) (b : Bool) (m : ℕ) → Ok (b, m) ≡ other_net_of o → o ≡ left b m
 unfolding other_net_of
 was_known spent b m e = cc
-was_known (left c n) b m e = cc
+was_known (left c n) b m e = let z : (c, n) ≡ (b, m) = cc in ap (λ (p : Bool × ℕ). left p.0 p.1) z
 
 -- ---- what a start searches, within an allowance
 module _ (ls : List ℕ) (h : ℕ) (active : List Row) (f : Figures) (x : Row) where
@@ -188,33 +189,33 @@ module _ (tree fixed : List ℕ) (leaves line net : ℕ) (st : Sweeping) (ls : L
   left-line None i b e = absurd (let z : ◌≡◌ {A = ℕ} 0 1 = cc in omega arith)
   left-line (Some j) i b e = let k : j ≡ i = cc in omega (arith, a-line j b.1.1)
 
-  right-lines : (m : ℕ) (search : Search) → search ≡ search_of (within m (rightmost stored line H 1 0)) → WithinLines search line (length ls)
+  right-lines : (m : ℕ) (search : Result Search Refusal) → search ≡ search_of (within m (rightmost stored line H 1 0)) → WithinLines search line (length ls)
   right-lines m search e = record {
     own = lined.there;
-    found = λ i r h. right-line _ i (right_best (other_in ls active x.net) (other_widen ls active x.net) (index ls x.line) H 1 0)
-        (ap (λ (c : Charged (Option ℕ)). c.value) (sym right-stored) ∙ found-value m i r (rightmost stored line H 1 0) search e h);
+    found = λ a i h f. right-line _ i (right_best (other_in ls active x.net) (other_widen ls active x.net) (index ls x.line) H 1 0)
+        (ap (λ (c : Charged (Option ℕ)). c.value) (sym right-stored) ∙ found-value m i a (rightmost stored line H 1 0) search e h f);
   }
 
-  left-lines : (m : ℕ) (search : Search) → search ≡ search_of (within m (leftmost stored (line + 1) H 1 0)) → WithinLines search line (length ls)
+  left-lines : (m : ℕ) (search : Result Search Refusal) → search ≡ search_of (within m (leftmost stored (line + 1) H 1 0)) → WithinLines search line (length ls)
   left-lines m search e = record {
     own = lined.there;
-    found = λ i r h. left-line _ i (left_best (other_in ls active x.net) (other_widen ls active x.net) (suc (index ls x.line)) H 1 0)
-        (ap (λ (c : Charged (Option ℕ)). c.value) (sym left-stored) ∙ found-value m i r (leftmost stored (line + 1) H 1 0) search e h);
+    found = λ a i h f. left-line _ i (left_best (other_in ls active x.net) (other_widen ls active x.net) (suc (index ls x.line)) H 1 0)
+        (ap (λ (c : Charged (Option ℕ)). c.value) (sym left-stored) ∙ found-value m i a (leftmost stored (line + 1) H 1 0) search e h f);
   }
 
   -- the answer of `with_search`, for a search's answer
-  abbrev Joins : Sweeping → Search → Result Sweeping Refusal → Type 0
-  Joins t search r = (ls : List ℕ) (o : Outcome (Option ℕ)) → search ≡ search_of o → take (length ls) fixed ≡ ls → WithinLines search line (length ls) → Gapped ls → outcome_of r ≡ joined ls (get_or ls line 0) (met_by t) o
+  abbrev Joins : Sweeping → Result Search Refusal → Result Sweeping Refusal → Type 0
+  Joins t search r = (ls : List ℕ) (o : Outcome (Option ℕ)) → search ≡ search_of o → take (length ls) fixed ≡ ls → WithinLines search line (length ls) → Gapped ls → Gives r (joined ls (get_or ls line 0) (met_by t) o)
 
   -- `has_other_at` was answered
-  module _ (at : OtherNet) (told : at ≡ other_net_of (within st.remaining (visit (free (summary_has_other (summary_at tree (leaves + line)) net))))) where
+  module _ (at : Result (Bool × ℕ) Refusal) (told : at ≡ other_net_of (within st.remaining (visit (free (summary_has_other (summary_at tree (leaves + line)) net))))) where
     own_run : within st.remaining (visit (free (summary_has_other (summary_at tree (leaves + line)) net))) ≡ within st.remaining (visit (free (other_in ls active x.net (index ls x.line) (suc (index ls x.line)))))
     own_run = ap (λ (b : Bool). within st.remaining (visit (free b))) own-stored
 
-    pub look_none : at ≡ Unpaid → outcome_of (Err WorkLimitExceeded) ≡ within st.remaining (with_nearest ls H active (met_by st) x)
-    look_none e = stops _ (nearest_spent ls H active (met_by st) x st.remaining (sym own_run ∙ was_unpaid _ (sym e ∙ told)))
+    pub look_none : (y : Refusal) → at ≡ Err y → Gives (Err y) (within st.remaining (with_nearest ls H active (met_by st) x))
+    look_none y e = let k = was_unpaid _ y (sym e ∙ told) in (k.0, nearest_spent ls H active (met_by st) x st.remaining (sym own_run ∙ k.1))
 
-    module _ (own : Bool) (begun : Sweeping) (rest : ℕ) (known : at ≡ Known own rest) (search : Search) (handled : Result Sweeping Refusal) (b : met_by begun ≡ own_line own (met_by st)) (d : begun.remaining ≡ rest)
+    module _ (own : Bool) (begun : Sweeping) (rest : ℕ) (known : at ≡ Ok (own, rest)) (search : Result Search Refusal) (handled : Result Sweeping Refusal) (b : met_by begun ≡ own_line own (met_by st)) (d : begun.remaining ≡ rest)
         (s : (K : ℕ) → leaves ≡ 2 ^ K → search ≡ search_of (within begun.remaining (rightmost stored line K 1 0))) (j : Joins begun search handled) where
       abbrev first : Outcome Figures
       first = joined ls x.line (own_line own (met_by st)) (within begun.remaining (rightmost others (index ls x.line) H 1 0))
@@ -222,33 +223,36 @@ module _ (tree fixed : List ℕ) (leaves line net : ℕ) (st : Sweeping) (ls : L
       abbrev second : Figures → ℕ → Outcome Figures
       second g r = joined ls x.line g (within r (leftmost others (suc (index ls x.line)) H 1 0))
 
-      first-is : outcome_of handled ≡ first
-      first-is =
-          j ls (within begun.remaining (rightmost stored line H 1 0)) (s H count) values (right-lines begun.remaining search (s H count)) lined.gaps
-          ∙ (λ i. joined ls (lined.value i) (b i) (within begun.remaining (right-stored i)))
+      first-is : Gives handled first
+      first-is = gives_on handled _ _ (λ i. joined ls (lined.value i) (b i) (within begun.remaining (right-stored i)))
+          (j ls (within begun.remaining (rightmost stored line H 1 0)) (s H count) values (right-lines begun.remaining search (s H count)) lined.gaps)
 
       whole : within st.remaining (with_nearest ls H active (met_by st) x) ≡ onward first second
       whole = nearest_paid ls H active (met_by st) x st.remaining begun.remaining own (sym own_run ∙ was_known _ own rest (sym known ∙ told) ∙ ap (left own) (sym d))
 
-      pub look_stops : handled ≡ Err WorkLimitExceeded → outcome_of (Err WorkLimitExceeded) ≡ within st.remaining (with_nearest ls H active (met_by st) x)
-      look_stops e = stops _ (whole ∙ rw (stopped handled first e first-is) (onward-spent second))
+      pub look_stops : (y : Refusal) → handled ≡ Err y → Gives (Err y) (within st.remaining (with_nearest ls H active (met_by st) x))
+      look_stops y e = let k = stopped handled y first e first-is in (k.0, whole ∙ rw k.1 (onward-spent second))
 
-      pub look_on : (half : Sweeping) (above : Search) (r : Result Sweeping Refusal) → handled ≡ Ok half → ((K : ℕ) → leaves ≡ 2 ^ K → above ≡ search_of (within half.remaining (leftmost stored (line + 1) K 1 0))) → Joins half above r
-          → outcome_of r ≡ within st.remaining (with_nearest ls H active (met_by st) x)
+      pub look_on : (half : Sweeping) (above : Result Search Refusal) (r : Result Sweeping Refusal) → handled ≡ Ok half → ((K : ℕ) → leaves ≡ 2 ^ K → above ≡ search_of (within half.remaining (leftmost stored (line + 1) K 1 0))) → Joins half above r
+          → Gives r (within st.remaining (with_nearest ls H active (met_by st) x))
       look_on half above r e t k =
-          k ls (within half.remaining (leftmost stored (line + 1) H 1 0)) (t H count) values (left-lines half.remaining above (t H count)) lined.gaps
-          ∙ (λ i. joined ls (lined.value i) (met_by half) (within half.remaining (left-stored i)))
-          ∙ sym (whole ∙ rw (went_on handled half first e first-is) (onward-left (met_by half) half.remaining second))
+          let then : joined ls (get_or ls line 0) (met_by half) (within half.remaining (leftmost stored (line + 1) H 1 0)) ≡ within st.remaining (with_nearest ls H active (met_by st) x) = (λ i. joined ls (lined.value i) (met_by half) (within half.remaining (left-stored i))) ∙ sym (whole ∙ rw (went_on handled half first e first-is) (onward-left (met_by half) half.remaining second)) in
+          gives_on r _ _ then (k ls (within half.remaining (leftmost stored (line + 1) H 1 0)) (t H count) values (left-lines half.remaining above (t H count)) lined.gaps)
 
--- ---- a `set` that was charged
-charged_of : (st : Sweeping) (o : Outcome (Unit {0})) → outcome_of (charged_to st (charge_of o)) ≡ onward o (λ done m. left (met_by st) m)
-unfolding charge_of onward outcome_of
-charged_of st spent = refl
-charged_of st (left u m) = refl
+-- ---- a `set` that was charged, and one that was not
+was_refused : (o : Outcome (Unit {0})) (x : Refusal) → Err x ≡ charge_of o → (x ≡ WorkLimitExceeded) × (o ≡ spent)
+unfolding charge_of
+was_refused spent x e = (cc, refl)
+was_refused (left u m) x e = cc
 
-pub charge_pays : (st : Sweeping) (H : ℕ) (charge : (Result ℕ Refusal)) → charge ≡ charge_of (within st.remaining (set_run H)) → outcome_of (charged_to st charge) ≡ onward (within st.remaining (set_run H)) (λ done m. left (met_by st) m)
-charge_pays st H charge e = ap (λ (c : (Result ℕ Refusal)). outcome_of (charged_to st c)) e ∙ charged_of st (within st.remaining (set_run H))
+was_charged : (o : Outcome (Unit {0})) (m : ℕ) → Ok m ≡ charge_of o → o ≡ left tt m
+unfolding charge_of
+was_charged spent m e = cc
+was_charged (left u n) m e = let z : n ≡ m = cc in ap (left tt) z
 
-pub charge_paid : (st to : Sweeping) (charge : (Result ℕ Refusal)) → Ok to ≡ charged_to st charge → (m : ℕ) × (charge ≡ Ok m)
-charge_paid st to (Ok m) e = (m, refl)
-charge_paid st to (Err WorkLimitExceeded) e = absurd (let z : ◌≡◌ {A = ℕ} 0 1 = cc in omega arith)
+module _ (st : Sweeping) (H : ℕ) (charge : Result ℕ Refusal) (told : charge ≡ charge_of (within st.remaining (set_run H))) where
+  pub charge_stops : (x : Refusal) → charge ≡ Err x → Gives (Err x) (onward (within st.remaining (set_run H)) (λ done m. left (met_by st) m))
+  charge_stops x e = let k = was_refused (within st.remaining (set_run H)) x (sym e ∙ told) in (k.0, rw k.1 (onward-spent _))
+
+  pub charge_pays : (m : ℕ) → charge ≡ Ok m → Gives (Ok (record { minimum = st.minimum; minimum_positive = st.minimum_positive; remaining = m })) (onward (within st.remaining (set_run H)) (λ done m. left (met_by st) m))
+  charge_pays m e = rw (was_charged (within st.remaining (set_run H)) m (sym e ∙ told)) (onward-left tt m _)

@@ -29,6 +29,7 @@ use Rattle.separation.proofs.Lines.{levels-enough, levels-least}
 use Rattle.separation_call.specs.Inner.ActiveTree.{summary_at}
 use Rattle.separation_call.specs.Inner.Prepared.{Prepared}
 use Rattle.separation_call.specs.Inner.Numbered.{Numbered, LinesNumbered, Slottable, SlotsAssigned}
+use Rattle.separation.specs.declared.found.Found.{Found}
 use Rattle.separation.specs.Inner.States.{swept_of}
 use Rattle.separation_call.specs.Inner.Sweeping.{Gapped, Ready, AtFirst, AtTables, AtRows}
 use Rattle.separation_call.proofs.Trees.{nothing_covers}

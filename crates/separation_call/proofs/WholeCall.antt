@@ -32,6 +32,7 @@ use Rattle.separation.proofs.Costs.{walk-least}
 use Rattle.separation.proofs.Allowances.{walk-within}
 use Rattle.separation.proofs.Answers.{passed_fit, walk_settles}
 use Rattle.separation.specs.declared.found.Found.{Found}
+use Rattle.separation.specs.declared.report.ParallelSeparation.{ParallelSeparation}
 use Rattle.separation.specs.Inner.States.{found_by, swept_of, Answers, too_few}
 use Rattle.separation_call.specs.Inner.Sweeping.{Gapped, AtColumns}
 use Rattle.separation.proofs.States.{went-is, spent-is, too_few_means}
@@ -73,21 +74,23 @@ module _ (l : List Segment) (m : ℕ) (first : Result Found Refusal) (one : firs
   abbrev second : Figures → ℕ → Outcome Figures
   second f r = onward (within r (along (oriented 0 l))) (λ g r. left (lesser_figures f g) r)
 
-  pub walk_stops : first ≡ Err WorkLimitExceeded → (Err WorkLimitExceeded) ≡ swept_of (within m (walk_all l))
+  pub walk_stops : (x : Refusal) → first ≡ Err x → Err x ≡ swept_of (within m (walk_all l))
   unfolding swept_of
-  walk_stops e =
-      let z : onward (within m (along (oriented 1 l))) second ≡ spent = rw (spent-is (within m (along (oriented 1 l))) (sym e ∙ one)) (onward-spent second) in
-      sym (ap swept_of (walk-within m l ∙ z))
+  walk_stops x e =
+      let k = spent-is (within m (along (oriented 1 l))) x (sym e ∙ one) in
+      let z : onward (within m (along (oriented 1 l))) second ≡ spent = rw k.1 (onward-spent second) in
+      ap Err k.0 ∙ sym (ap swept_of (walk-within m l ∙ z))
 
   module _ (across : Found) (went : first ≡ Ok across) (next : Result Found Refusal) (other : next ≡ swept_of (within across.remaining (along (oriented 0 l)))) where
     on : within m (walk_all l) ≡ second (found_by across) across.remaining
     on = walk-within m l ∙ rw (went-is (within m (along (oriented 1 l))) across (sym went ∙ one)) (onward-left (found_by across) across.remaining second)
 
-    pub walk_stops_later : next ≡ Err WorkLimitExceeded → (Err WorkLimitExceeded) ≡ swept_of (within m (walk_all l))
+    pub walk_stops_later : (x : Refusal) → next ≡ Err x → Err x ≡ swept_of (within m (walk_all l))
     unfolding swept_of
-    walk_stops_later e =
-        let z : second (found_by across) across.remaining ≡ spent = rw (spent-is (within across.remaining (along (oriented 0 l))) (sym e ∙ other)) (onward-spent (λ g r. left (lesser_figures (found_by across) g) r)) in
-        sym (ap swept_of (on ∙ z))
+    walk_stops_later x e =
+        let k = spent-is (within across.remaining (along (oriented 0 l))) x (sym e ∙ other) in
+        let z : second (found_by across) across.remaining ≡ spent = rw k.1 (onward-spent (λ g r. left (lesser_figures (found_by across) g) r)) in
+        ap Err k.0 ∙ sym (ap swept_of (on ∙ z))
 
     pub walk_both : (down r : Found) → next ≡ Ok down → found_by r ≡ lesser_figures (found_by across) (found_by down) → r.remaining ≡ down.remaining → Ok r ≡ swept_of (within m (walk_all l))
     unfolding swept_of

@@ -17,7 +17,7 @@ use crate::line_numbers::number_lines;
 use crate::run::run_events;
 use crate::slots::assign_slots;
 use crate::tree::leaf_count;
-use drawing::{Segments, clear};
+use drawing::{Refusal, Segments, clear};
 use rows::{order_events, order_rows, spread_rows};
 use separation::Found;
 

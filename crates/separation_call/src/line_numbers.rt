@@ -20,8 +20,7 @@ pub(crate) fn number_lines(s: &mut [u64], n: usize) -> usize
 {
     let mut m = 0;
     let mut last = 0;
-    let mut j = 0;
-    while j < n {
+    for j in 0..n {
         let at = 4 * n + j;
         let key = s[at];
         let line = line_of(m, last, key);
@@ -30,7 +29,6 @@ pub(crate) fn number_lines(s: &mut [u64], n: usize) -> usize
         s[at] = line as u64;
         m = line + 1;
         last = key;
-        j += 1;
     }
     m
 }

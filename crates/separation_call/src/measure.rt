@@ -9,11 +9,17 @@ ghost use Rattle.separation.specs.Conditions.{separation_conditions};
 ghost use Rattle.separation.specs.Walk.{walk_all};
 ghost use Rattle.separation.specs.Answer.{separation_answer};
 ghost use Rattle.separation.specs.Inner.States.{swept_of};
+ghost use Rattle.separation_call.specs.Inner.Sweeping.{Typed};
 
 use crate::along::sweep_along;
-use drawing::{Segments, clear};
+use drawing::{Refusal, Segments, clear};
 use rows::segments_to_sweep;
-use separation::{answer_of, check_separation, combined, too_few};
+use separation::{Found, ParallelSeparation, answer_of, check_separation, combined, too_few};
+
+// What the types of the columns say of their entries: nets have 32 bits, and floats are values of binary64. Only proofs use it: they know it of a slice that is passed by itself, and not of one in a struct.
+fn columns_typed(net: &[u32], fixed: &[f64], start: &[f64], end: &[f64])
+    ensures { Typed net.now fixed.now start.now end.now }
+{}
 
 // The walk over a fit drawing: horizontal segments first, then vertical ones with the remaining visits.
 // Where the allowance is below the least that the segments cost, it counts as spent before any table is made.
@@ -22,25 +28,15 @@ fn walk_segments(
     allowance: usize,
     scratch: &mut [u64],
 ) -> Result<Found, Refusal>
-    requires { first_of (separation_conditions (lent_segments segments.now) (length scratch.old)) ≡ (Ok tt) }
+    requires passed { first_of (separation_conditions (lent_segments segments.now) (length scratch.old)) ≡ Ok tt }
+    requires typed { let lent = lent_segments segments.now in Typed lent.net lent.fixed lent.start lent.end }
     ensures { result ≡ swept_of (within allowance (walk_all (Entries.segments (lent_segments segments.now)))) }
 {
     if too_few(allowance, segments_to_sweep(segments.orientation)) {
         return Err(Refusal::WorkLimitExceeded);
     }
-    let first = sweep_along(scratch, 1, segments, allowance);
-    let Ok(across) = first else {
-        return Err(Refusal::WorkLimitExceeded);
-    };
-    let second = sweep_along(
-        scratch,
-        0,
-        segments,
-        across.remaining,
-    );
-    let Ok(down) = second else {
-        return Err(Refusal::WorkLimitExceeded);
-    };
+    let across = sweep_along(scratch, 1, segments, allowance)?;
+    let down = sweep_along(scratch, 0, segments, across.remaining)?;
     Ok(combined(across, down))
 }
 
@@ -56,11 +52,8 @@ pub fn measure_parallel_separation_bounded(
         × (scratch.new ≡ scratch_after refusal scratch.old)
         × (refusal ≡ Ok tt → SegmentsHeld lent) }
 {
-    let words = scratch.len();
-    let check = check_separation(segments, words);
-    if let Err(why) = check {
-        return Err(why);
-    }
+    check_separation(segments, scratch.len())?;
+    columns_typed(segments.net, segments.fixed, segments.start, segments.end);
     let swept = walk_segments(segments, allowance, scratch);
     clear(scratch);
     answer_of(swept, allowance)

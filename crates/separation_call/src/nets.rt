@@ -34,7 +34,7 @@ pub(crate) fn start_net(c: &mut [u64], n: usize, slot: usize, line: usize, net: 
         c[2 * n + line] = total + net as u64;
     }
     c[slot] = count + 1;
-    line_summary(&c[0..], n, line)
+    line_summary(c, n, line)
 }
 
 // A segment ends: the last of its slot removes its net from the line.
@@ -51,5 +51,5 @@ pub(crate) fn end_net(c: &mut [u64], n: usize, slot: usize, line: usize, net: u3
         c[2 * n + line] = total - net as u64;
     }
     c[slot] = count - 1;
-    line_summary(&c[0..], n, line)
+    line_summary(c, n, line)
 }

@@ -16,14 +16,12 @@ fn fill_words(s: &mut [u64], n: usize)
     requires { Slottable n s.old }
     ensures { WordsFilled n s.old s.new }
 {
-    let mut j = 0;
-    while j < n {
+    for j in 0..n {
         let line = s[4 * n + j];
         let net = s[5 * n + j];
         let word = line * LINE + net * NET + j as u64;
         let at = 8 * n + j;
         s[at] = word;
-        j += 1;
     }
 }
 
@@ -41,8 +39,7 @@ fn put_slots(s: &mut [u64], n: usize)
 {
     let mut slot = 0;
     let mut last = 0;
-    let mut k = 0;
-    while k < n {
+    for k in 0..n {
         let word = s[8 * n + k];
         let group = word / NET;
         let place = (word % NET) as usize;
@@ -50,7 +47,6 @@ fn put_slots(s: &mut [u64], n: usize)
         let at = 7 * n + place;
         s[at] = slot as u64;
         last = group;
-        k += 1;
     }
 }
 

@@ -1,5 +1,5 @@
 // The tree of the active nets, a word for each node: node k's summary is word k, its children are 2 k and 2 k + 1, the root is node 1.
-ghost use Rattle.std.specs.Prelude.{◌≡◌, ℕ, ◌+◌, ◌*◌, ◌^◌, ◌≤◌, ◌<◌, length};
+ghost use Rattle.std.specs.Prelude.{◌≡◌, ℕ, ◌+◌, ◌*◌, ◌^◌, ◌≤◌, ◌<◌, length, Ok};
 ghost use Rattle.laws.specs.Charged.{free, visit};
 ghost use Rattle.laws.specs.Inner.Allowance.{within};
 ghost use Rattle.separation.specs.Lines.{levels};
@@ -8,7 +8,8 @@ ghost use Rattle.separation.specs.Inner.Searches.{search_of};
 ghost use Rattle.separation.specs.Inner.Summaries.{summary_has_other};
 ghost use Rattle.separation_call.specs.Inner.ActiveTree.{summary_at, other_net_of, charge_of, Leaves, Below, Renewed};
 
-use separation::{NetSummary, OtherNet, Search, merged_word, summary_of_word, word_of};
+use drawing::Refusal;
+use separation::{NetSummary, Search, merged_word};
 
 // The least power of two that is not below the count: its exponent, the levels of the tree, is the number of binary digits of the count minus one (SCOPE 15.4).
 pub(crate) fn leaf_count(coordinate_count: usize) -> usize
@@ -26,7 +27,7 @@ fn other_below(tree: &[u64], node: usize, excluded: u32) -> bool
     requires { node < length tree.now }
     ensures { result ≡ summary_has_other (summary_at tree.now node) excluded }
 {
-    let summary = summary_of_word(tree[node]);
+    let summary = NetSummary::from(tree[node]);
     summary.has_other(excluded)
 }
 
@@ -37,16 +38,16 @@ pub(crate) fn has_other_at(
     index: usize,
     excluded: u32,
     remaining: usize,
-) -> OtherNet
+) -> Result<(bool, usize), Refusal>
     requires leaves { Leaves tree.now leaves }
     requires index_lt_leaves { index < leaves }
     ensures { result ≡ other_net_of (within remaining (visit (free (summary_has_other (summary_at tree.now (leaves + index)) excluded)))) }
 {
     if remaining == 0 {
-        return OtherNet::Spent;
+        return Err(Refusal::WorkLimitExceeded);
     }
     let other = other_below(tree, leaves + index, excluded);
-    OtherNet::Known(other, remaining - 1)
+    Ok((other, remaining - 1))
 }
 
 // The last line below `query_end` with another active net, among those from `start` on, before `end`, which are the leaves below the node.
@@ -58,33 +59,47 @@ fn search_rightmost(
     query_end: usize,
     excluded: u32,
     remaining: usize,
-) -> Search
+) -> Result<Search, Refusal>
     requires { Below tree.now node start end }
     ensures { (h : ℕ) → end ≡ start + 2 ^ h → result ≡ search_of (within remaining (rightmost (λ k a b. summary_has_other (summary_at tree.now k) excluded) query_end h node start)) }
 {
     if remaining == 0 {
-        return Search::Spent;
+        return Err(Refusal::WorkLimitExceeded);
     }
     let rest = remaining - 1;
     if start >= query_end {
-        return Search::Empty(rest);
+        return Ok(Search {
+            line: None,
+            remaining: rest,
+        });
     }
     if !other_below(tree, node, excluded) {
-        return Search::Empty(rest);
+        return Ok(Search {
+            line: None,
+            remaining: rest,
+        });
     }
     if end - start == 1 {
-        return Search::Found(start, rest);
+        return Ok(Search {
+            line: Some(start),
+            remaining: rest,
+        });
     }
     let middle = (start + end) / 2;
     let low = 2 * node;
-    let first = search_rightmost(tree, low + 1, middle, end, query_end, excluded, rest);
-    match first {
-        Search::Found(place, more) => Search::Found(place, more),
-        Search::Empty(more) => {
-            search_rightmost(tree, low, start, middle, query_end, excluded, more)
-        }
-        Search::Spent => Search::Spent,
+    let first = search_rightmost(tree, low + 1, middle, end, query_end, excluded, rest)?;
+    if first.line.is_some() {
+        return Ok(first);
     }
+    search_rightmost(
+        tree,
+        low,
+        start,
+        middle,
+        query_end,
+        excluded,
+        first.remaining,
+    )
 }
 
 // The first line from `query_start` on with another active net, likewise.
@@ -96,33 +111,47 @@ fn search_leftmost(
     query_start: usize,
     excluded: u32,
     remaining: usize,
-) -> Search
+) -> Result<Search, Refusal>
     requires { Below tree.now node start end }
     ensures { (h : ℕ) → end ≡ start + 2 ^ h → result ≡ search_of (within remaining (leftmost (λ k a b. summary_has_other (summary_at tree.now k) excluded) query_start h node start)) }
 {
     if remaining == 0 {
-        return Search::Spent;
+        return Err(Refusal::WorkLimitExceeded);
     }
     let rest = remaining - 1;
     if end <= query_start {
-        return Search::Empty(rest);
+        return Ok(Search {
+            line: None,
+            remaining: rest,
+        });
     }
     if !other_below(tree, node, excluded) {
-        return Search::Empty(rest);
+        return Ok(Search {
+            line: None,
+            remaining: rest,
+        });
     }
     if end - start == 1 {
-        return Search::Found(start, rest);
+        return Ok(Search {
+            line: Some(start),
+            remaining: rest,
+        });
     }
     let middle = (start + end) / 2;
     let low = 2 * node;
-    let first = search_leftmost(tree, low, start, middle, query_start, excluded, rest);
-    match first {
-        Search::Found(place, more) => Search::Found(place, more),
-        Search::Empty(more) => {
-            search_leftmost(tree, low + 1, middle, end, query_start, excluded, more)
-        }
-        Search::Spent => Search::Spent,
+    let first = search_leftmost(tree, low, start, middle, query_start, excluded, rest)?;
+    if first.line.is_some() {
+        return Ok(first);
     }
+    search_leftmost(
+        tree,
+        low + 1,
+        middle,
+        end,
+        query_start,
+        excluded,
+        first.remaining,
+    )
 }
 
 pub(crate) fn rightmost_other(
@@ -131,7 +160,7 @@ pub(crate) fn rightmost_other(
     end: usize,
     excluded: u32,
     remaining: usize,
-) -> Search
+) -> Result<Search, Refusal>
     requires { Leaves tree.now leaves }
     ensures { (H : ℕ) → leaves ≡ 2 ^ H → result ≡ search_of (within remaining (rightmost (λ k a b. summary_has_other (summary_at tree.now k) excluded) end H 1 0)) }
 {
@@ -144,7 +173,7 @@ pub(crate) fn leftmost_other(
     start: usize,
     excluded: u32,
     remaining: usize,
-) -> Search
+) -> Result<Search, Refusal>
     requires { Leaves tree.now leaves }
     ensures { (H : ℕ) → leaves ≡ 2 ^ H → result ≡ search_of (within remaining (leftmost (λ k a b. summary_has_other (summary_at tree.now k) excluded) start H 1 0)) }
 {
@@ -162,14 +191,14 @@ pub(crate) fn set(
     requires leaves { Leaves tree.old leaves }
     requires index_lt_leaves { index < leaves }
     ensures charged { (H : ℕ) → leaves ≡ 2 ^ H → result ≡ charge_of (within remaining (set_run H)) }
-    ensures renewed { (H m : ℕ) → leaves ≡ 2 ^ H → result ≡ Charge.Paid m → Renewed tree.old tree.new H index summary }
+    ensures renewed { (H m : ℕ) → leaves ≡ 2 ^ H → result ≡ Ok m → Renewed tree.old tree.new H index summary }
 {
     if remaining == 0 {
         return Err(Refusal::WorkLimitExceeded);
     }
     let mut rest = remaining - 1;
     let leaf = leaves + index;
-    tree[leaf] = word_of(summary);
+    tree[leaf] = u64::from(summary);
     let mut cursor = leaf / 2;
     while cursor != 0 {
         if rest == 0 {
@@ -177,7 +206,7 @@ pub(crate) fn set(
         }
         rest -= 1;
         tree[cursor] = merged_word(tree[2 * cursor], tree[2 * cursor + 1]);
-        cursor = cursor / 2;
+        cursor /= 2;
     }
     Ok(rest)
 }

@@ -8,20 +8,18 @@ use Rattle.rows.specs.Rows.{Row}
 use Rattle.separation.specs.declared.summary.NetSummary.{NetSummary}
 use Rattle.separation.specs.Searches.{other_in}
 use Rattle.separation.specs.Inner.Summaries.{summary_has_other, summary_of_word}
-use Rattle.separation.specs.declared.search.OtherNet.{OtherNet}
-use Rattle.separation.specs.declared.search.OtherNet.TheVariants.{Known, Spent}
 
 -- node k's summary
 abbrev pub summary_at : List ℕ → ℕ → NetSummary
 summary_at t k = summary_of_word (get_or t k 0)
 
 -- the answer of `has_other_at`, by the outcome of its run within an allowance
-unfoldable pub other_net_of : Outcome Bool → OtherNet
-other_net_of spent = Spent
-other_net_of (left b m) = Known b m
+unfoldable pub other_net_of : Outcome Bool → Result (Bool × ℕ) Refusal
+other_net_of spent = Err WorkLimitExceeded
+other_net_of (left b m) = Ok (b, m)
 
 -- the answer of a `set`, by the outcome of its run within an allowance
-unfoldable pub charge_of : Outcome (Unit {0}) → (Result ℕ Refusal)
+unfoldable pub charge_of : Outcome (Unit {0}) → Result ℕ Refusal
 charge_of spent = Err WorkLimitExceeded
 charge_of (left u m) = Ok m
 

@@ -1,21 +1,22 @@
 -- What only inner contracts cite: the state of the sweep, and what each of its steps makes of it.
 -- After the tables of one orientation's n segments (9 n words) come the words that the sweep changes: 3 n that count the active nets, and the tree.
 use Rattle.drawing.specs.declared.refusal.Refusal.{Refusal}
-use Rattle.std.specs.Prelude.{◌≡◌, List, [], ◌∷◌, ℕ, ◌+◌, ◌*◌, ◌^◌, ◌≤◌, ◌<◌, length, get_or, take, drop, Option, Result, Ok}
+use Rattle.std.specs.Prelude.{◌≡◌, List, [], ◌∷◌, ℕ, ◌+◌, ◌*◌, ◌^◌, ◌≤◌, ◌<◌, length, get_or, take, drop, Float, Option, Some, Result, Ok}
+use Rattle.std.specs.Float.{nan}
 use Rattle.laws.specs.Lists.{Mem}
 use Rattle.laws.specs.Inner.Sort.{Sorted}
 use Rattle.laws.specs.Inner.Allowance.{Outcome, left, within, onward}
 use Rattle.floats.specs.Values.{gap_of}
 use Rattle.floats.specs.TotalOrder.{float_at}
 use Rattle.drawing.specs.Entries.{SegmentColumns, segments}
+use Rattle.drawing.specs.Held.{Binary64}
 use Rattle.drawing.specs.Inner.Lengths.{SegmentsAgree}
 use Rattle.drawing.specs.Inner.LeastFloats.{Number}
 use Rattle.rows.specs.Rows.{Row, rows_in_order, oriented}
 use Rattle.rows.specs.Inner.Tables.{row_from, event_from, RowsOrdered}
 use Rattle.separation.specs.declared.search.Search.{Search}
-use Rattle.separation.specs.declared.search.Search.TheVariants.{Found}
 use Rattle.separation.specs.Figures.{Figures}
-use Rattle.separation.specs.Inner.States.{met_by, outcome_of}
+use Rattle.separation.specs.Inner.States.{met_by, Gives}
 use Rattle.separation.specs.Lines.{lines, index}
 use Rattle.separation.specs.Searches.{set_run}
 use Rattle.separation.specs.Walk.{Sweep, remove, other_line, with_nearest, starts_at, ends_at, step}
@@ -30,9 +31,9 @@ Gapped ls = (p q : ℕ) → Mem p ls → Mem q ls → Number (gap_of (float_at p
 
 -- ---- a search's answer
 -- the line, and the one that a search found, are below n
-pub record WithinLines (search : Search) (line n : ℕ) : Type 0 where
+pub record WithinLines (search : Result Search Refusal) (line n : ℕ) : Type 0 where
   pub own : line < n
-  pub found : (i m : ℕ) → search ≡ Found i m → i < n
+  pub found : (answer : Search) (i : ℕ) → search ≡ Ok answer → answer.line ≡ Some i → i < n
 
 -- the outcome of a search, joined to the figures
 abbrev pub joined : List ℕ → ℕ → Figures → Outcome (Option ℕ) → Outcome Figures
@@ -58,7 +59,7 @@ pub record Lined (ls : List ℕ) (H : ℕ) (active : List Row) (x : Row) (line n
 abbrev pub WithNearest : List ℕ → List ℕ → ℕ → ℕ → ℕ → Sweeping → Result Sweeping Refusal → Type 0
 WithNearest tree fixed leaves line net state r =
     (ls : List ℕ) (H : ℕ) (active : List Row) (x : Row) → leaves ≡ 2 ^ H → Covers ls active (summary_at tree) H → take (length ls) fixed ≡ ls → Lined ls H active x line net
-    → outcome_of r ≡ within state.remaining (with_nearest ls H active (met_by state) x)
+    → Gives r (within state.remaining (with_nearest ls H active (met_by state) x))
 
 -- ---- the words that the sweep changes
 pub record Working (n b : ℕ) (ls : List ℕ) (H : ℕ) (line_of net_of slot_of : ℕ → ℕ) (active : List Row) (w : List ℕ) : Type 0 where
@@ -87,7 +88,7 @@ pub record Leavable (n leaves slot line net : ℕ) (w : List ℕ) : Type 0 where
 
 -- a `set` is paid from the remaining visits, and the figures stay
 abbrev pub Pays : ℕ → Sweeping → Result Sweeping Refusal → Type 0
-Pays leaves state r = (H : ℕ) → leaves ≡ 2 ^ H → outcome_of r ≡ onward (within state.remaining (set_run H)) (λ done m. left (met_by state) m)
+Pays leaves state r = (H : ℕ) → leaves ≡ 2 ^ H → Gives r (onward (within state.remaining (set_run H)) (λ done m. left (met_by state) m))
 
 -- a segment is entered, or taken out: where the `set` was paid the words w became v
 abbrev pub Entered : ℕ → ℕ → ℕ → ℕ → ℕ → List ℕ → List ℕ → Result Sweeping Refusal → Type 0
@@ -139,13 +140,13 @@ figures_of o = onward o (λ t m. left t.met m)
 abbrev pub Begins : List ℕ → List ℕ → ℕ → ℕ → ℕ → Sweeping → Result Sweeping Refusal → Type 0
 Begins s t n leaves j state r =
     (l : List Row) (F : List ℕ) (H b : ℕ) (active : List Row) → length l ≡ n → leaves ≡ 2 ^ H → Ready l F H b active s
-    → (outcome_of r ≡ figures_of (within state.remaining (starts_at (lines l) H (record { active = active; met = met_by state }) (row_from l j))))
+    → Gives r (figures_of (within state.remaining (starts_at (lines l) H (record { active = active; met = met_by state }) (row_from l j))))
     × ((to : Sweeping) → r ≡ Ok to → Ready l F H (b + 1) (row_from l j ∷ active) t)
 
 abbrev pub Finishes : List ℕ → List ℕ → ℕ → ℕ → ℕ → Sweeping → Result Sweeping Refusal → Type 0
 Finishes s t n leaves j state r =
     (l : List Row) (F : List ℕ) (H b : ℕ) (active : List Row) → length l ≡ n → leaves ≡ 2 ^ H → Ready l F H b active s → Mem (row_from l j) active
-    → (outcome_of r ≡ figures_of (within state.remaining (ends_at H (record { active = active; met = met_by state }) (row_from l j))))
+    → Gives r (figures_of (within state.remaining (ends_at H (record { active = active; met = met_by state }) (row_from l j))))
     × ((to : Sweeping) → r ≡ Ok to → Ready l F H (b + 1) (remove (row_from l j) active) t)
 
 -- an event whose number is below 2 n; a segment that ends is active
@@ -166,7 +167,7 @@ abbrev pub Handles : List ℕ → List ℕ → ℕ → ℕ → ℕ → Sweeping 
 Handles s t n leaves e state r =
     (l : List Row) (F : List ℕ) (H b : ℕ) (active : List Row) → length l ≡ n → leaves ≡ 2 ^ H → Ready l F H b active s → (e < n → Mem (row_from l e) active)
     → let c = step (lines l) H (record { active = active; met = met_by state }) (event_from l e) in
-    (outcome_of r ≡ figures_of (within state.remaining c)) × ((to : Sweeping) → r ≡ Ok to → Ready l F H (b + 1) c.value.active t)
+    Gives r (figures_of (within state.remaining c)) × ((to : Sweeping) → r ≡ Ok to → Ready l F H (b + 1) c.value.active t)
 
 -- the sweep may begin: no event is handled yet
 pub record AtFirst (s : List ℕ) (n leaves : ℕ) : Type 0 where
@@ -210,3 +211,10 @@ pub record AtColumns (words wanted : ℕ) (c : SegmentColumns) : Type 0 where
   pub room : 32 * length c.net + 64 ≤ words
   pub proper : (r : Row) → Mem r (oriented wanted (segments c)) → (r.net < 2 ^ 32) × (r.start < r.end)
   pub gaps : Gapped (lines (oriented wanted (segments c)))
+
+-- what the types of the columns say of their entries
+pub record Typed (ns : List ℕ) (fs ss es : List Float) : Type 0 where
+  pub net : (i : ℕ) → get_or ns i 0 < 2 ^ 32
+  pub fixed : (i : ℕ) → Binary64 (get_or fs i nan)
+  pub start : (i : ℕ) → Binary64 (get_or ss i nan)
+  pub end : (i : ℕ) → Binary64 (get_or es i nan)

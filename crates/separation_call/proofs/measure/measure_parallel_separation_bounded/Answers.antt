@@ -3,28 +3,30 @@ use Rattle.separation_call.proofs.WholeCall.{refused-answer, passed_answer}
 use Rattle.drawing.proofs.ListOrders.{segments-held}
 use Rattle.separation.proofs.Checked.{separation-passes}
 use Rattle.drawing.proofs.FirstRefusal.{not_passed, refused-scratch, passed_scratch}
-use Rattle.drawing.specs.Entries.{segment_columns}
+use Rattle.drawing.specs.Entries.{lent_segments}
+use Rattle.std.proofs.lemmas.Result.{err_from_is_err_and}
 use lib.ListN.{replicate}
 use Prim.Native.Nat.{ℕ}
 use mathlib.Core.Path.{sym, ap, ◌∙◌}
 use Rattle.separation_call.proofs.measure.measure_parallel_separation_bounded.Goals as goal
 
-pub returns-in-Refused : goal.returns-in-Refused
-returns-in-Refused c =
-    let check = c.check_separation-check.ensures in
-    let told = c.in-Refused.is in
-    (refused-answer (segment_columns _ _ _ _ _) _ _ _ _ check told, refused-scratch _ _ _ _ check told, not_passed _ _ _ check told)
+pub returns-in_err-check_separation : goal.returns-in_err-check_separation
+returns-in_err-check_separation c =
+    let p = err_from_is_err_and c.from_residual.result c.from_residual.ensures.1 in
+    let check = c.check_separation.ensures in
+    let told = c.in_err-check_separation.was in
+    rw (p.1, p.2) (refused-answer _ _ _ _ _ check told, refused-scratch _ _ _ _ check told, not_passed _ _ _ check told)
 
 pub walk_segments-swept-requires : goal.walk_segments-swept-requires
-walk_segments-swept-requires c = sym c.check_separation-check.ensures ∙ c.in_default.is
+walk_segments-swept-requires c = record { passed = sym c.check_separation.ensures ∙ c.in_ok-check_separation.was; typed = c.columns_typed.ensures }
 
 pub returns : goal.returns
 returns c =
-    let s = segment_columns c.args.net.now c.args.orientation.now c.args.fixed.now c.args.start.now c.args.end.now in
-    let told = c.in_default.is in
-    let check = c.check_separation-check.ensures in
+    let s = lent_segments c.args.segments.now in
+    let told = c.in_ok-check_separation.was in
+    let check = c.check_separation.ensures in
     let passed = sym check ∙ told in
-    let held = segments-held s (separation-passes s _ passed).agree c.type_inv.fixed c.type_inv.start c.type_inv.end in
+    let held = segments-held s (separation-passes s _ passed).agree c.columns_typed.ensures.fixed c.columns_typed.ensures.start c.columns_typed.ensures.end in
     let kept = ap (λ (k : ℕ). replicate {A = ℕ} k 0) c.walk_segments-swept.auto.scratch in
     let cleared = c.clear.ensures ∙ kept in (
       passed_answer s _ _ passed held _ c.walk_segments-swept.ensures _ c.answer_of.ensures,

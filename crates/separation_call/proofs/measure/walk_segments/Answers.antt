@@ -2,7 +2,8 @@
 use mathlib.Core.Path.{sym, subst}
 use Prim.Native.Nat.{ℕ, ◌<◌, ◌^◌}
 use lib.ListN.{length}
-use Rattle.drawing.specs.Entries.{Segment, segment_columns}
+use Rattle.std.proofs.lemmas.Result.{err_from_is_err_and}
+use Rattle.drawing.specs.Entries.{Segment, lent_segments}
 use Rattle.drawing.proofs.ListOrders.{segments-all, segments-held}
 use Rattle.separation.proofs.Checked.{separation-passes}
 use Rattle.separation_call.specs.Inner.Sweeping.{AtColumns}
@@ -12,33 +13,33 @@ use Rattle.separation_call.proofs.measure.walk_segments.Goals as goal
 pub returns-then-too_few : goal.returns-then-too_few
 returns-then-too_few c =
     let a = c.args in
-    let columns = segment_columns a.net.now a.orientation.now a.fixed.now a.start.now a.end.now in
-    let agree = (separation-passes columns (length a.scratch.now) c.requires).agree in
+    let columns = lent_segments a.segments.now in
+    let agree = (separation-passes columns (length a.scratch.now) c.requires.passed).agree in
     too_few_visits columns agree _ _ _ c.segments_to_sweep.ensures c.too_few.ensures c.if-too_few.true
 
-pub sweep_along-first-requires : goal.sweep_along-first-requires
-sweep_along-first-requires c =
+pub sweep_along-requires : goal.sweep_along-requires
+sweep_along-requires c =
     let a = c.args in
-    let columns = segment_columns a.net.now a.orientation.now a.fixed.now a.start.now a.end.now in
-    let agree = (separation-passes columns (length a.scratch.now) c.requires).agree in
-    let held = segments-held columns agree c.type_inv.fixed c.type_inv.start c.type_inv.end in
-    let nets = segments-all (λ (x : Segment). x.net < 2 ^ 32) columns agree (λ i. (c.type_inv.net i).fits) in
-    at_columns columns (length a.scratch.now) c.requires held nets 1
+    let columns = lent_segments a.segments.now in
+    let agree = (separation-passes columns (length a.scratch.now) c.requires.passed).agree in
+    let held = segments-held columns agree c.requires.typed.fixed c.requires.typed.start c.requires.typed.end in
+    let nets = segments-all (λ (x : Segment). x.net < 2 ^ 32) columns agree c.requires.typed.net in
+    at_columns columns (length a.scratch.now) c.requires.passed held nets 1
 
-pub returns-in_default : goal.returns-in_default
-returns-in_default c = walk_stops _ _ _ c.sweep_along-first.ensures c.in_default.is
+pub returns-in_err-across : goal.returns-in_err-across
+returns-in_err-across c = let p = err_from_is_err_and c.from_residual.result c.from_residual.ensures.1 in rw (p.1, p.2) (walk_stops _ _ _ c.sweep_along.ensures _ c.in_err-across.was)
 
-pub sweep_along-second-requires : goal.sweep_along-second-requires
-sweep_along-second-requires c =
+pub sweep_along-requires-2 : goal.sweep_along-requires-2
+sweep_along-requires-2 c =
     let a = c.args in
-    let columns = segment_columns a.net.now a.orientation.now a.fixed.now a.start.now a.end.now in
-    let agree = (separation-passes columns (length a.scratch.now) c.requires).agree in
-    let held = segments-held columns agree c.type_inv.fixed c.type_inv.start c.type_inv.end in
-    let nets = segments-all (λ (x : Segment). x.net < 2 ^ 32) columns agree (λ i. (c.type_inv.net i).fits) in
-    subst (λ (n : ℕ). AtColumns n 0 columns) (sym c.sweep_along-first.auto.s) (at_columns columns (length a.scratch.now) c.requires held nets 0)
+    let columns = lent_segments a.segments.now in
+    let agree = (separation-passes columns (length a.scratch.now) c.requires.passed).agree in
+    let held = segments-held columns agree c.requires.typed.fixed c.requires.typed.start c.requires.typed.end in
+    let nets = segments-all (λ (x : Segment). x.net < 2 ^ 32) columns agree c.requires.typed.net in
+    subst (λ (n : ℕ). AtColumns n 0 columns) (sym c.sweep_along.auto.s) (at_columns columns (length a.scratch.now) c.requires.passed held nets 0)
 
-pub returns-in_default-second : goal.returns-in_default-second
-returns-in_default-second c = walk_stops_later _ _ _ c.sweep_along-first.ensures _ c.in-Went.is _ c.sweep_along-second.ensures c.in_default-second.is
+pub returns-in_err-down : goal.returns-in_err-down
+returns-in_err-down c = let p = err_from_is_err_and c.from_residual-in_err-down.result c.from_residual-in_err-down.ensures.1 in rw (p.1, p.2) (walk_stops_later _ _ _ c.sweep_along.ensures _ c.in_ok-across.was _ c.sweep_along-2.ensures _ c.in_err-down.was)
 
 pub returns : goal.returns
-returns c = walk_both _ _ _ c.sweep_along-first.ensures _ c.in-Went.is _ c.sweep_along-second.ensures _ _ c.in-Went-second.is c.combined.ensures.figures c.combined.ensures.remaining
+returns c = walk_both _ _ _ c.sweep_along.ensures _ c.in_ok-across.was _ c.sweep_along-2.ensures _ _ c.in_ok-down.was c.combined.ensures.figures c.combined.ensures.remaining

@@ -7,6 +7,3 @@ use Rattle.separation_call.proofs.run.run_events.Given as goal
 
 abbrev pub invariant-loop-q : goal.invariant-loop-q
 invariant-loop-q l = (length l.s ≡ length l.initial.s) × Runs l.n l.leaves l.allowance l.initial.s l.state l.s l.q
-
-abbrev pub decreases-loop-q : goal.decreases-loop-q
-decreases-loop-q l = 2 * l.n - l.q

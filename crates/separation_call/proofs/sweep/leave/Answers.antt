@@ -1,10 +1,29 @@
 -- `separation_call::sweep::leave` meets its contract: the net is counted once less and then its line's summary is set. Assumes nothing.
-use Rattle.separation_call.proofs.SweepWork.{leaves-behind, pays, taken_out}
+use Rattle.std.proofs.lemmas.Result.{err_from_is_err_and}
+use Rattle.separation_call.proofs.SweepWork.{leaves-behind, pays_not, pays, taken_not, taken_out}
 use mathlib.Core.Path.{refl}
 use Rattle.separation_call.proofs.sweep.leave.Goals as goal
 
-pub set-charge-requires : goal.set-charge-requires
-set-charge-requires c = let a = c.args in let p = c.requires in record { leaves = leaves-behind a.n _ a.work.now c.end_net-summary.new.c c.end_net-summary.ensures.rest p.tree; index_lt_leaves = p.inside }
+pub set-requires : goal.set-requires
+set-requires c = let a = c.args in let p = c.requires in record { leaves = leaves-behind a.n _ a.work.now c.end_net-summary.new.c c.end_net-summary.ensures.rest p.tree; index_lt_leaves = p.inside }
+
+pub returns-in_err-remaining : goal.returns-in_err-remaining
+returns-in_err-remaining c =
+    let a = c.args in
+    let set = c.set in
+    let net = c.end_net-summary in
+    let p = err_from_is_err_and c.from_residual.result c.from_residual.ensures.1 in
+    rw (p.1, p.2) (record {
+      pays = pays_not _ a.state _ set.ensures.charged _ c.in_err-remaining.was;
+      taken_out = taken_not a.n _ _ _ _ a.work.now _ _;
+    })
 
 pub returns : goal.returns
-returns c = let a = c.args in let set = c.set-charge in let end-net = c.end_net-summary in record { pays = pays a.n _ _ a.work.now end-net.new.c set.new.tree _ _ end-net.ensures.rest end-net.auto.c c.requires.endable.room refl a.state _ _ c.after_charge.ensures set.ensures.renewed set.ensures.charged; taken_out = taken_out a.n _ _ a.work.now end-net.new.c set.new.tree _ _ end-net.ensures.rest end-net.auto.c c.requires.endable.room refl a.state _ _ c.after_charge.ensures set.ensures.renewed _ _ end-net.ensures.counted }
+returns c =
+    let a = c.args in
+    let set = c.set in
+    let net = c.end_net-summary in
+    record {
+      pays = pays _ a.state _ set.ensures.charged _ c.in_ok-remaining.was;
+      taken_out = taken_out a.n _ _ a.work.now net.new.c set.new.tree _ _ net.ensures.rest net.auto.c c.requires.endable.room refl (λ H k. set.ensures.renewed H _ k c.in_ok-remaining.was) _ _ _ net.ensures.counted;
+    }

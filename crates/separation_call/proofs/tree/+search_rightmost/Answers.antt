@@ -4,6 +4,7 @@ use mathlib.Core.Logic.{inl, inr}
 use native.Mathlib.Omega.{arith}
 use borrow.Author.Rules.{rules}
 use borrow.Author.Tests.{lt-ltb, le-ltb}
+use Rattle.std.proofs.lemmas.Result.{err_from_is_err_and}
 use Rattle.separation_call.proofs.StoredTree.{below-inside, below-some, below_end, children_inside, below-low, below-high}
 use Rattle.separation_call.proofs.StoredSearches.{down, Opened, search_spent, search_shut, search-leaf, hands_spent, hands_found, goes_on}
 use Rattle.separation_call.proofs.tree.+search_rightmost.Goals as goal
@@ -35,17 +36,17 @@ overflow_mul-low t c = let h = children_inside c.requires c.if-end-start-eq1.fal
 pub overflow_add-low : goal.overflow_add-low
 overflow_add-low t c = let h = children_inside c.requires c.if-end-start-eq1.false in search (rules, h)
 
-pub search_rightmost-first-requires : goal.search_rightmost-first-requires
-search_rightmost-first-requires t c = (omega (arith, below-some c.requires, c.if-end-start-eq1.false), below-high c.requires c.if-end-start-eq1.false)
-
 pub search_rightmost-requires : goal.search_rightmost-requires
-search_rightmost-requires t c = (omega (arith, below-some c.requires, c.if-end-start-eq1.false), below-low c.requires c.if-end-start-eq1.false)
+search_rightmost-requires t c = (omega (arith, below-some c.requires, c.if-end-start-eq1.false), below-high c.requires c.if-end-start-eq1.false)
 
-pub returns-in-Found : goal.returns-in-Found
-returns-in-Found t c = let a = c.args in let o : Opened down a.tree.now a.excluded a.query_end a.node a.start a.end a.remaining = record { some = c.if-remaining-eq0.false; reached = lt-ltb _ _ c.if-start-query_end.false; active = sym c.other_below.ensures ∙ c.if-not-other_below.false; wide = c.if-end-start-eq1.false } in hands_found o c.search_rightmost-first.ensures c.in-Found.is
+pub search_rightmost-requires-2 : goal.search_rightmost-requires-2
+search_rightmost-requires-2 t c = (omega (arith, below-some c.requires, c.if-end-start-eq1.false), below-low c.requires c.if-end-start-eq1.false)
 
-pub returns-in-Empty : goal.returns-in-Empty
-returns-in-Empty t c = let a = c.args in let o : Opened down a.tree.now a.excluded a.query_end a.node a.start a.end a.remaining = record { some = c.if-remaining-eq0.false; reached = lt-ltb _ _ c.if-start-query_end.false; active = sym c.other_below.ensures ∙ c.if-not-other_below.false; wide = c.if-end-start-eq1.false } in goes_on o c.search_rightmost-first.ensures c.in-Empty.is c.search_rightmost.ensures
+pub returns-in_err-first : goal.returns-in_err-first
+returns-in_err-first t c = let a = c.args in let o : Opened down a.tree.now a.excluded a.query_end a.node a.start a.end a.remaining = record { some = c.if-remaining-eq0.false; reached = lt-ltb _ _ c.if-start-query_end.false; active = sym c.other_below.ensures ∙ c.if-not-other_below.false; wide = c.if-end-start-eq1.false } in let p = err_from_is_err_and c.from_residual.result c.from_residual.ensures.1 in rw (p.1, p.2) (hands_spent o c.search_rightmost.ensures c.in_err-first.was)
 
-pub returns-in-Spent : goal.returns-in-Spent
-returns-in-Spent t c = let a = c.args in let o : Opened down a.tree.now a.excluded a.query_end a.node a.start a.end a.remaining = record { some = c.if-remaining-eq0.false; reached = lt-ltb _ _ c.if-start-query_end.false; active = sym c.other_below.ensures ∙ c.if-not-other_below.false; wide = c.if-end-start-eq1.false } in hands_spent o c.search_rightmost-first.ensures c.in-Spent.is
+pub returns-then-is_some : goal.returns-then-is_some
+returns-then-is_some t c = let a = c.args in let o : Opened down a.tree.now a.excluded a.query_end a.node a.start a.end a.remaining = record { some = c.if-remaining-eq0.false; reached = lt-ltb _ _ c.if-start-query_end.false; active = sym c.other_below.ensures ∙ c.if-not-other_below.false; wide = c.if-end-start-eq1.false } in hands_found o c.search_rightmost.ensures c.in_ok-first.was (sym c.is_some.ensures ∙ c.if-is_some.true)
+
+pub returns : goal.returns
+returns t c = let a = c.args in let o : Opened down a.tree.now a.excluded a.query_end a.node a.start a.end a.remaining = record { some = c.if-remaining-eq0.false; reached = lt-ltb _ _ c.if-start-query_end.false; active = sym c.other_below.ensures ∙ c.if-not-other_below.false; wide = c.if-end-start-eq1.false } in goes_on o c.search_rightmost.ensures c.in_ok-first.was (sym c.is_some.ensures ∙ c.if-is_some.false) c.search_rightmost-2.ensures

@@ -5,4 +5,4 @@ use Rattle.separation.specs.Inner.Summaries.{summary_has_other}
 use Rattle.separation_call.proofs.tree.other_below.Goals as goal
 
 pub returns : goal.returns
-returns c = c.has_other.ensures ∙ ap (λ (s : NetSummary). summary_has_other s c.args.excluded) c.summary_of_word-summary.ensures
+returns c = c.has_other.ensures ∙ ap (λ (s : NetSummary). summary_has_other s c.args.excluded) c.from-summary.ensures

@@ -23,4 +23,4 @@ pub shape_of-tree : goal.shape_of-tree
 shape_of-tree c = c.loop-cursor.invariant.kept ∙ simp length-set
 
 pub returns : goal.returns
-returns c = record { charged = λ H e. setting_pays c.loop-cursor.invariant c.loop-cursor-test.false H e; renewed = λ H m e x. setting_renews _ _ _ _ _ _ c.word_of.ensures c.requires.leaves c.requires.index_lt_leaves _ _ _ c.loop-cursor.invariant c.loop-cursor-test.false H e }
+returns c = record { charged = λ H e. setting_pays c.loop-cursor.invariant c.loop-cursor-test.false H e; renewed = λ H m e x. setting_renews _ _ _ _ _ _ c.from.ensures c.requires.leaves c.requires.index_lt_leaves _ _ _ c.loop-cursor.invariant c.loop-cursor-test.false H e }
