@@ -3,17 +3,16 @@ use Rattle.std.specs.Prelude.{Ok}
 use mathlib.Core.Path.{◌≡◌, sym, ◌∙◌, subst}
 use mathlib.Core.Bool.{Bool, false}
 use mathlib.Core.List.{List, [], ◌∷◌, ◌++◌}
-use Prim.Native.Nat.{ℕ, ◌≤◌}
+use Prim.Native.Nat.{◌≤◌}
 use native.Mathlib.Omega.{arith}
-use lib.Dec.{T}
-use lib.Ieee.{Float, binary64, nan, fits}
-use lib.ListN.{length, get_or}
+use lib.ListN.{length}
 use Rattle.laws.specs.Lists.{All, some_of}
 use Rattle.laws.proofs.ListLaws.{all_mem, mem_all, none-all}
 use Rattle.laws.proofs.Places.{at_all}
 use Rattle.drawing.specs.declared.refusal.Refusal.{Refusal}
 use Rattle.drawing.specs.Entries.{Node, SegmentColumns, NodeColumns, ExemptionColumns, segments, nodes}
 use Rattle.drawing.specs.Inner.Entries.{node_at}
+use Rattle.drawing.specs.Inner.Typed.{SegmentsTyped, NodesTyped}
 use Rattle.drawing.specs.Inner.Lengths.{SegmentsAgree, NodesAgree, ExemptionsAgree}
 use Rattle.drawing.specs.Refusals.{first_of}
 use Rattle.drawing.specs.Conditions.{unfit_node}
@@ -35,23 +34,9 @@ passed_both (c ∷ l) m e =
     let r = passed_both l m h.1 in
     (first_no c.0 c.1 l h.0 ∙ r.0, r.1)
 
--- the floats of a column are values of binary64
-abbrev Floats : List Float → Type 0
-Floats l = (i : ℕ) → T (fits binary64 (get_or l i nan))
-
-pub record FloatsLent (s : SegmentColumns) (n : NodeColumns) : Type 0 where
-  pub fixed : Floats s.fixed
-  pub start : Floats s.start
-  pub end : Floats s.end
-  pub x : Floats n.x
-  pub y : Floats n.y
-  pub width : Floats n.width
-  pub height : Floats n.height
-
-module _ (s : SegmentColumns) (n : NodeColumns) (l : FloatsLent s n) where
-  nodes-held : NodesAgree n → All NodeHeld (nodes n)
-  nodes-held a = at_all NodeHeld (node_at n 0) (nodes n) (λ i b.
-      subst NodeHeld (sym (nodes-at n a (node_at n 0) i (omega (arith, length-nodes n a)))) (record { x = l.x i; y = l.y i; width = l.width i; height = l.height i }))
+nodes-held : (n : NodeColumns) → NodesTyped n → NodesAgree n → All NodeHeld (nodes n)
+nodes-held n l a = at_all NodeHeld (node_at n 0) (nodes n) (λ i b.
+    subst NodeHeld (sym (nodes-at n a (node_at n 0) i (omega (arith, length-nodes n a)))) (record { x = l.x i; y = l.y i; width = l.width i; height = l.height i }))
 
 -- entries of which none is unfit
 fit-nodes : (l : List Node) → All NodeHeld l → some_of unfit_node l ≡ false → All FitNode l
@@ -74,10 +59,10 @@ module _ (s : SegmentColumns) (n : NodeColumns) (e : ExemptionColumns) (p : firs
   pub pair_columns : SegmentsAgree s × NodesAgree n
   pair_columns = (lists.segments, lists.nodes)
 
-  pub pair-segments : FloatsLent s n → All FitSegment (segments s)
+  pub pair-segments : SegmentsTyped s → All FitSegment (segments s)
   unfolding entry_conditions
   pair-segments l = fit-segments (segments s) (segments-held s lists.segments l.fixed l.start l.end) (passed_head _ _ _ parts.1).0
 
-  pub pair-nodes : FloatsLent s n → All FitNode (nodes n)
+  pub pair-nodes : NodesTyped n → All FitNode (nodes n)
   unfolding entry_conditions
-  pair-nodes l = fit-nodes (nodes n) (nodes-held s n l lists.nodes) (passed_head _ _ _ (passed_head _ _ _ parts.1).1).0
+  pair-nodes l = fit-nodes (nodes n) (nodes-held n l lists.nodes) (passed_head _ _ _ (passed_head _ _ _ parts.1).1).0

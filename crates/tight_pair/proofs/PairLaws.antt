@@ -22,6 +22,7 @@ use Rattle.drawing.specs.declared.refusal.Refusal.{Refusal}
 use Rattle.drawing.specs.Entries.{Segment, Node, Exemption, SegmentColumns, NodeColumns, ExemptionColumns, segments, nodes, exemptions}
 use Rattle.drawing.specs.Inner.Entries.{segment_at, node_at}
 use Rattle.drawing.specs.Refusals.{first_of}
+use Rattle.drawing.specs.Inner.Typed.{SegmentsTyped, NodesTyped}
 use Rattle.drawing.specs.Inner.Lengths.{SegmentsAgree, NodesAgree}
 use Rattle.drawing.specs.Gaps.{least_gap, lesser_gap}
 use Rattle.drawing.proofs.GapLaws.{least-none, least-one, least_join}
@@ -43,7 +44,7 @@ use Rattle.boxes.proofs.BoxLaws.{fit-node, fit-segment, distance_good}
 use Rattle.boxes.proofs.AnyBoxes.{any_distance_good}
 use Rattle.clearance.proofs.TreeLaws.{indexed-fit}
 use Rattle.clearance.proofs.Distances.{distances_of, good_distances, distances_all, distances-all}
-use Rattle.tight_pair.proofs.PairInput.{FloatsLent, pair-segments, pair-nodes}
+use Rattle.tight_pair.proofs.PairInput.{pair-segments, pair-nodes}
 
 -- ---- one pair
 module _ (d : Float) (pair : TightPair) (b : Option Best) where
@@ -276,7 +277,7 @@ module _ (s : SegmentColumns) (n : NodeColumns) (e : ExemptionColumns) where
   unfolding tight_pair_answer
   answer-refused why h = record { choice = record { segment = 0; node = 0 }; is = rw h; tight = λ pair g. let z : ◌≡◌ {A = ℕ} 0 1 = cc in absurd (omega arith) }
 
-  module _ (passed : first_of (tight_pair_conditions s n e) ≡ Ok tt) (held : FloatsLent s n) (before words : List ℕ) (gathered : Gathered e before words)
+  module _ (passed : first_of (tight_pair_conditions s n e) ≡ Ok tt) (typed_segments : SegmentsTyped s) (typed-nodes : NodesTyped n) (before words : List ℕ) (gathered : Gathered e before words)
       (b : Option Best) (looked : (ex : List Exemption) → Holds words ex → length e.net ≡ length ex → b ≡ look_segments ex (segments s) (nodes n)) where
     abbrev LookedAtAll : Option Best → Type 0
     LookedAtAll c = Looked (exemptions e) (segments s) (nodes n) (distances (exemptions e) (segments s) (nodes n)) c
@@ -284,7 +285,7 @@ module _ (s : SegmentColumns) (n : NodeColumns) (e : ExemptionColumns) where
     best : LookedAtAll b
     best =
         subst LookedAtAll (sym (looked (exemptions e) gathered.holds (sym gathered.count)))
-        (all_looked (exemptions e) (segments s) (nodes n) (pair-segments s n e passed held) (pair-nodes s n e passed held))
+        (all_looked (exemptions e) (segments s) (nodes n) (pair-segments s n e passed typed_segments) (pair-nodes s n e passed typed-nodes))
 
     -- what the conditions leave is the pair, where there is a least clearance
     is-answer : (pair : TightPair) (g : Option Float) → g ≡ least_gap (distances (exemptions e) (segments s) (nodes n)) → Ok (pair_if_any g pair) ≡ tight_pair_answer s n e pair

@@ -133,8 +133,8 @@ pub fn tight_pair(
     ensures { Answered (lent_segments segments.now) (lent_nodes nodes.now) (lent_exemptions exemptions.now) result }
 {
     check_tight_pair(segments, nodes, exemptions)?;
-    let fixed = segments.fixed;
-    let _floats = fixed.len();
+    segments.typed();
+    nodes.typed();
     let mut words = [0; 4096];
     gather(&mut words, exemptions);
     let best = look_at_segments(&words, exemptions.net.len(), segments, nodes);

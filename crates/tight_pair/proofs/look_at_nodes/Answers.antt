@@ -1,6 +1,5 @@
 -- `tight_pair::look_at_nodes` meets its contract: after j iterations the first j nodes have been compared. Assumes nothing.
 use mathlib.Core.Path.{ap, ◌∙◌}
-use native.Mathlib.Omega.{arith}
 use Rattle.drawing.specs.Entries.{lent_nodes}
 use Rattle.boxes.specs.Boxes.{node_box, distance}
 use Rattle.tight_pair.proofs.PairLaws.{nodes-start, nodes_next, nodes-end}

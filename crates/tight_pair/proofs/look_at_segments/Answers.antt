@@ -1,6 +1,5 @@
 -- `tight_pair::look_at_segments` meets its contract: after i iterations the first i segments have been compared. Assumes nothing.
 use mathlib.Core.Path.{sym, ◌∙◌}
-use native.Mathlib.Omega.{arith}
 use lib.Ieee.{of_bits}
 use Rattle.drawing.specs.Entries.{lent_segments, lent_nodes, nodes}
 use Rattle.boxes.specs.Boxes.{segment_box}

@@ -2,7 +2,7 @@
 use Rattle.std.specs.Prelude.{Ok, option_map}
 use Rattle.std.proofs.Common.{rules}
 use Rattle.std.proofs.lemmas.Result.{err_from_is_err_and}
-use mathlib.Core.Path.{◌≡◌, refl, sym, ap, ◌∙◌}
+use mathlib.Core.Path.{◌≡◌, sym, ap, ◌∙◌}
 use Rattle.drawing.specs.Entries.{lent_segments, lent_nodes, lent_exemptions}
 use Rattle.tight_pair.specs.declared.Best.{Best}
 use Rattle.tight_pair.proofs.PairInput.{pair-exemptions, pair_columns}
@@ -23,4 +23,4 @@ returns c =
     let passed = sym c.check_tight_pair.ensures ∙ c.in_ok-check_tight_pair.was in
     let agree = pair-exemptions s n e passed in
     let pair : c.map.result ≡ option_map (λ (b : Best). b.pair) c.look_at_segments-best.result = search rules in
-    answered s n e passed (?) _ _ (c.gather.ensures agree.0 agree.1) _ c.look_at_segments-best.ensures _ (ap Ok pair)
+    answered s n e passed c.typed.ensures c.typed-2.ensures _ _ (c.gather.ensures agree.0 agree.1) _ c.look_at_segments-best.ensures _ (ap Ok pair)
