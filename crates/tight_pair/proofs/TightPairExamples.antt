@@ -42,7 +42,7 @@ d-exemptions = exemption_columns (2 ∷ []) (7 ∷ [])
 abbrev no_nodes : NodeColumns
 no_nodes = node_columns [] [] [] [] []
 
-abbrev refusal : ℕ → ℕ × Option (ℕ × ℕ)
+abbrev refusal : ℕ → ℕ × Option TightPair
 refusal n = (n, None)
 
 abbrev pair_at : ℕ → ℕ → TightPair

@@ -35,7 +35,6 @@ pub record Answered (s : SegmentColumns) (n : NodeColumns) (e : ExemptionColumns
   pub tight : (pair : TightPair) → r ≡ Ok (Some pair) → Tight (exemptions e) (segments s) (nodes n) pair.segment pair.node
 
 -- SCOPE 6.3, 12.1, 12.2: "A refusal returns its number and ..; for the tight pair, an absent pair.": each case by its number, 0 where nothing was refused, and its pair
-unfoldable pub result_of : Result (Option TightPair) Refusal → ℕ × Option (ℕ × ℕ)
-result_of (Ok (Some pair)) = (0, Some (pair.segment, pair.node))
-result_of (Ok None) = (0, None)
+unfoldable pub result_of : Result (Option TightPair) Refusal → ℕ × Option TightPair
+result_of (Ok pair) = (0, pair)
 result_of (Err w) = (number_of w, None)
