@@ -3,8 +3,7 @@ use Rattle.std.specs.Prelude.{Ok}
 use mathlib.Core.Path.{◌≡◌, sym, ◌∙◌, subst}
 use mathlib.Core.Bool.{false}
 use Prim.Native.Nat.{ℕ}
-use lib.Ieee.{Float, nan, of_bits, le}
-use lib.ListN.{get_or}
+use lib.Ieee.{Float, of_bits, le}
 use Rattle.std.proofs.lemmas.Result.{err_from_is_err_and}
 use Rattle.laws.specs.Lists.{All}
 use Rattle.floats.specs.Values.{plus_zero}
