@@ -8,8 +8,5 @@ end_event-requires c = event_ends _ _ _ _ c.requires c.if-e-n.true
 pub returns-then-e-n : goal.returns-then-e-n
 returns-then-e-n c = handles_end c.args.s.now _ _ _ _ c.args.state _ c.if-e-n.true c.end_event.ensures
 
-pub start_event-requires : goal.start_event-requires
-start_event-requires c = event_starts _ _ _ _ c.requires c.if-e-n.false
-
 pub returns : goal.returns
 returns c = handles_start c.args.s.now _ _ _ _ c.args.state _ c.if-e-n.false c.start_event.ensures
