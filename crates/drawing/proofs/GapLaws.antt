@@ -1,6 +1,6 @@
 -- The least of a list of gaps does not depend on the list's order, and a running least is the least of the whole. Assumes nothing.
 use Rattle.std.specs.Prelude.{Option, Some, None}
-use mathlib.Core.Path.{◌≡◌, refl, sym, ap, ◌∙◌}
+use mathlib.Core.Path.{◌≡◌, refl, sym, ◌∙◌}
 use mathlib.Core.List.{List, [], ◌∷◌, ◌++◌}
 use lib.Ieee.{Float, binary64, lt}
 use Rattle.laws.specs.Lists.{All}

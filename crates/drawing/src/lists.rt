@@ -1,9 +1,16 @@
 // The lists of a drawing as columns, as they are lent: a slice for each field of the entries. SCOPE 2.1 to 2.3, 2.5.
 // The columns of one list may differ in length. A call then refuses them (SCOPE 7.2).
-ghost use Rattle.std.specs.Prelude.{◌≡◌, ◌<◌, length};
+ghost use Rattle.std.specs.Prelude.{◌≡◌, ℕ, ◌<◌, get_or, length};
+ghost use Rattle.std.specs.Float.{nan};
 ghost use Rattle.drawing.specs.Entries.{lent_segments, lent_nodes};
 ghost use Rattle.drawing.specs.Inner.Entries.{lent_at, node_at};
 ghost use Rattle.drawing.specs.Inner.Lengths.{SegmentsAgree, NodesAgree};
+ghost use Rattle.drawing.specs.Held.{Binary64, SegmentsHeld, NodesHeld};
+
+// The type of a column says that its floats are values of binary64, but a proof is told so only of a function's own slices. These two functions, and `held` of the lists, hand it on to where a list came as a struct. They do nothing.
+fn floats_held(column: &[f64])
+    ensures { (i : ℕ) → Binary64 (get_or column.now i nan) }
+{}
 
 // A segment as an entry of these columns: the orientation byte is 1 where it is horizontal and 0 where it is vertical.
 #[derive(Clone, Copy)]
@@ -48,6 +55,15 @@ impl Segments<'_> {
             end: self.end[i],
         }
     }
+
+    // The floats of the segments, as they are taken, are values of binary64.
+    pub fn held(&self)
+        ensures { SegmentsAgree (lent_segments self.now) → SegmentsHeld (lent_segments self.now) }
+    {
+        floats_held(self.fixed);
+        floats_held(self.start);
+        floats_held(self.end);
+    }
 }
 
 #[derive(Clone, Copy)]
@@ -73,6 +89,16 @@ impl Nodes<'_> {
             width: self.width[i],
             height: self.height[i],
         }
+    }
+
+    // The floats of the nodes are values of binary64.
+    pub fn held(&self)
+        ensures { NodesAgree (lent_nodes self.now) → NodesHeld (lent_nodes self.now) }
+    {
+        floats_held(self.x);
+        floats_held(self.y);
+        floats_held(self.width);
+        floats_held(self.height);
     }
 }
 
