@@ -17,6 +17,9 @@ returns-in_err-check_separation c =
     let told = c.in_err-check_separation.was in
     rw (p.1, p.2) (refused-answer _ _ _ _ _ check told, refused-scratch _ _ _ _ check told, not_passed _ _ _ check told)
 
+pub walk_segments-swept-requires : goal.walk_segments-swept-requires
+walk_segments-swept-requires c = record { passed = sym c.check_separation.ensures ∙ c.in_ok-check_separation.was; typed = c.columns_typed.ensures }
+
 pub returns : goal.returns
 returns c =
     let s = lent_segments c.args.segments.now in
