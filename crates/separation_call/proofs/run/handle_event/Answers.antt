@@ -1,5 +1,5 @@
 -- `separation_call::run::handle_event` meets its contract: by the event's number. Assumes nothing.
-use Rattle.separation_call.proofs.SweepLoop.{event_ends, event_starts, handles_end, handles_start}
+use Rattle.separation_call.proofs.SweepLoop.{event_ends, handles_end, handles_start}
 use Rattle.separation_call.proofs.run.handle_event.Goals as goal
 
 pub end_event-requires : goal.end_event-requires
