@@ -1,5 +1,4 @@
 -- The events of one orientation, one after another, over the scratch that holds its tables: what an event reads there, what it makes of the scratch, and the outcome of all events. Assumes nothing.
-use Rattle.drawing.specs.declared.refusal.Refusal.TheVariants.{WorkLimitExceeded}
 use Rattle.drawing.specs.declared.refusal.Refusal.{Refusal}
 use Rattle.std.specs.Prelude.{Result, Ok, Err}
 use mathlib.Core.Path.{◌≡◌, refl, sym, ap, ◌∙◌, subst}

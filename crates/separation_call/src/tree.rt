@@ -11,7 +11,7 @@ ghost use Rattle.separation_call.specs.Inner.ActiveTree.{summary_at, other_net_o
 use drawing::Refusal;
 use separation::{NetSummary, Search, merged_word};
 
-// The least power of two that is not below the count: its exponent, the levels of the tree, is the number of binary digits of the count minus one (SCOPE 15.4).
+// The least power of two that is not below the count: its exponent, the levels of the tree, is the number of binary digits of the count minus one. By the leading zeros, and not by `next_power_of_two`: SCOPE 15.4 says so.
 pub(crate) fn leaf_count(coordinate_count: usize) -> usize
     requires at_least_one { 1 ≤ coordinate_count }
     requires at_most_4096 { coordinate_count ≤ 4096 }

@@ -1,6 +1,5 @@
 -- `separation_call::line_numbers::number_lines` meets its contract: after j iterations the first j keys have their numbers. Assumes nothing.
 use borrow.Author.Rules.{rules}
-use lib.ListN.{length-set}
 use Rattle.separation_call.proofs.LineNumbering.{numbering_start, line_low, numbering_next, numbering_end}
 use Rattle.separation_call.proofs.line_numbers.number_lines.Goals as goal
 

@@ -1,9 +1,8 @@
 -- `separation_call::nets::end_net` meets its contract. Assumes nothing.
 use mathlib.Core.Logic.{inl, inr}
 use Prim.Native.Nat.{◌+◌, ◌-◌, ◌*◌}
-use native.Mathlib.Omega.{arith}
-use lib.ListN.{get_or, length-set}
-use Rattle.separation_call.proofs.ActiveNets.{LineChanged, changed-length, changed-lent, changed-past, ends}
+use lib.ListN.{get_or}
+use Rattle.separation_call.proofs.ActiveNets.{LineChanged, changed-past, ends}
 use Rattle.separation_call.proofs.nets.end_net.Goals as goal
 use Rattle.separation_call.proofs.nets.end_net.Goals.{then-count-eq1, else-count-eq1}
 

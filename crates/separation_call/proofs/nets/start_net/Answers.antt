@@ -1,10 +1,9 @@
 -- `separation_call::nets::start_net` meets its contract. Assumes nothing.
 use mathlib.Core.Logic.{inl, inr}
 use Prim.Native.Nat.{◌+◌, ◌*◌}
-use native.Mathlib.Omega.{arith}
 use borrow.Author.Rules.{rules}
-use lib.ListN.{get_or, length-set}
-use Rattle.separation_call.proofs.ActiveNets.{LineChanged, changed-length, changed-lent, changed-past, starts}
+use lib.ListN.{get_or}
+use Rattle.separation_call.proofs.ActiveNets.{LineChanged, changed-past, starts}
 use Rattle.separation_call.proofs.nets.start_net.Goals as goal
 use Rattle.separation_call.proofs.nets.start_net.Goals.{then-count-eq0, else-count-eq0}
 

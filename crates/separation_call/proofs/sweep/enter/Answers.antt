@@ -1,6 +1,6 @@
 -- `separation_call::sweep::enter` meets its contract: the net is counted and then its line's summary is set. Assumes nothing.
 use Rattle.std.proofs.lemmas.Result.{err_from_is_err_and}
-use Rattle.separation_call.proofs.SweepWork.{leaves-behind, pays_not, pays, entered_not, entered}
+use Rattle.separation_call.proofs.SweepWork.{pays_not, pays, entered_not, entered}
 use mathlib.Core.Path.{refl}
 use Rattle.separation_call.proofs.sweep.enter.Goals as goal
 

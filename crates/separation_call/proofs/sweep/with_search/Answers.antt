@@ -1,5 +1,4 @@
 -- `separation_call::sweep::with_search` meets its contract: by cases of the search's answer. Assumes nothing.
-use borrow.Author.Rules.{rules}
 use Rattle.separation_call.proofs.SweepSteps.{joined-spent, joined-empty, joined-found}
 use Rattle.separation_call.proofs.sweep.with_search.Goals as goal
 

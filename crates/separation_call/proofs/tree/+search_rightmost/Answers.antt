@@ -2,10 +2,9 @@
 use mathlib.Core.Path.{sym, ◌∙◌}
 use mathlib.Core.Logic.{inl, inr}
 use native.Mathlib.Omega.{arith}
-use borrow.Author.Rules.{rules}
 use borrow.Author.Tests.{lt-ltb, le-ltb}
 use Rattle.std.proofs.lemmas.Result.{err_from_is_err_and}
-use Rattle.separation_call.proofs.StoredTree.{below-inside, below-some, below_end, children_inside, below-low, below-high}
+use Rattle.separation_call.proofs.StoredTree.{below-some, below-low, below-high}
 use Rattle.separation_call.proofs.StoredSearches.{down, Opened, search_spent, search_shut, search-leaf, hands_spent, hands_found, goes_on}
 use Rattle.separation_call.proofs.tree.+search_rightmost.Goals as goal
 

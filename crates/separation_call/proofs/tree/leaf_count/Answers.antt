@@ -1,5 +1,4 @@
 -- `separation_call::tree::leaf_count` meets its contract. Assumes nothing.
-use lib.Count.{leading_le}
 use Rattle.separation_call.proofs.StoredTree.{shift_few, leaf_power}
 use Rattle.separation_call.proofs.tree.leaf_count.Goals as goal
 

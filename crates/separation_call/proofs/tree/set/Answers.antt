@@ -1,7 +1,5 @@
 -- `separation_call::tree::set` meets its contract. The loop's invariant: the nodes from the cursor up to the root are still to be merged anew, and the visits so far are paid. The measure is the cursor. Assumes nothing.
-use mathlib.Core.Path.{◌∙◌}
-use lib.ListN.{length-set}
-use Rattle.separation_call.proofs.StoredSets.{spent_not_paid, set_stops, setting_begins, setting_stops, setting_goes_on, setting_pays, setting_renews}
+use Rattle.separation_call.proofs.StoredSets.{spent_not_paid, set_stops, setting_stops, setting_goes_on, setting_pays, setting_renews}
 use Rattle.separation_call.proofs.tree.set.Goals as goal
 
 pub returns-then-remaining-eq0 : goal.returns-then-remaining-eq0
