@@ -1,6 +1,6 @@
 -- `density_call::measure::walk_segments` meets its contract: a cutoff of 0 or less; too few visits for the segments; else horizontal segments, then vertical ones with the remaining visits. Assumes nothing.
 use Rattle.std.specs.Prelude.{Ok}
-use mathlib.Core.Path.{◌≡◌, sym, ◌∙◌, subst}
+use mathlib.Core.Path.{◌≡◌, sym, ap, ◌∙◌, subst}
 use mathlib.Core.Bool.{false}
 use Prim.Native.Nat.{ℕ}
 use lib.Ieee.{Float, of_bits, le}
@@ -38,7 +38,7 @@ ready s cutoff words passed above known =
 
 pub returns-then-cutoff : goal.returns-then-cutoff
 unfolding of_bits
-returns-then-cutoff c = nothing_swept _ _ _ c.requires c.if-cutoff.true _
+returns-then-cutoff c = ap Ok c.nothing_found.ensures ∙ nothing_swept _ _ _ c.requires c.if-cutoff.true _
 
 pub returns-then-allowance-segments_to_sweep : goal.returns-then-allowance-segments_to_sweep
 unfolding of_bits
