@@ -7,8 +7,7 @@ use Prim.Native.Nat.{ℕ, ◌+◌, ◌-◌, ◌*◌, ◌≤◌, ◌<◌}
 use native.Mathlib.Omega.{arith}
 use borrow.Author.Tests.{ltb-false}
 use borrow.Rule.Slice.PartMut.{mid_of, put_mid, post_of, same_len_mid, mid_len, take_put}
-use lib.Dec.{T}
-use lib.Ieee.{Float, binary64, fits}
+use lib.Ieee.{Float}
 use lib.ListN.{length, get_or, take, drop, length-drop}
 use lib.Seq.{get_or-take, take_at, drop_at, take_all, length-take-le, drop-drop, take-take}
 use Rattle.laws.specs.Lists.{All}
@@ -33,7 +32,7 @@ use Rattle.drawing.specs.Checks.{list_conditions}
 use Rattle.drawing.specs.Orders.{segments_in_order, nodes_in_order}
 use Rattle.drawing.proofs.EntryLaws.{length-segments, length-nodes, segments-at, nodes-at}
 use Rattle.drawing.proofs.FirstRefusal.{passed_head, few, segments-agree, nodes-agree}
-use Rattle.drawing.specs.Held.{NodeHeld, FitSegment}
+use Rattle.drawing.specs.Held.{FitSegment}
 use Rattle.clearance.specs.declared.visit.Walking.{Walking}
 use Rattle.clearance.specs.Conditions.{clearance_conditions}
 use Rattle.clearance.specs.Figures.{Figures}
@@ -62,7 +61,7 @@ use Rattle.clearance.proofs.UnionTrees.{rejoined, walk-all_rejoined}
 use Rattle.clearance_call.proofs.LeafTrees.{build_over}
 use Rattle.clearance.proofs.NodeOrder.{tree_any_nodes}
 use Rattle.clearance_call.proofs.NestedTrees.{nested-tree}
-use Rattle.clearance_call.proofs.TableLaws.{all-places, all_placed}
+use Rattle.clearance_call.proofs.TableLaws.{all-places}
 
 -- ---- what holds of the lists after the checks
 pub record Sizes (s : SegmentColumns) (n : NodeColumns) (e : ExemptionColumns) (words : ℕ) : Type 0 where

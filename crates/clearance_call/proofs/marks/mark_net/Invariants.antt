@@ -1,5 +1,4 @@
 -- `clearance_call::marks::mark_net` meets its contract: at index i the groups are marked whose ids the net's exemptions before it name. Assumes nothing.
-use Prim.Native.Nat.{◌-◌}
 use lib.ListN.{length}
 use Rattle.clearance_call.proofs.MarkLaws.{NetMarking}
 use Rattle.clearance_call.proofs.marks.mark_net.Given as goal

@@ -5,7 +5,6 @@ use native.Mathlib.Omega.{arith}
 use lib.ListN.{length}
 use borrow.Author.Rules.{rules}
 use Rattle.drawing.specs.Entries.{lent_segments, lent_nodes}
-use Rattle.drawing.proofs.ListOrders.{segments-held}
 use Rattle.clearance_call.specs.Inner.Marks.{Grouped}
 use Rattle.clearance_call.specs.Inner.Nested.{Nested}
 use Rattle.clearance_call.specs.Inner.Stored.{stored_tree}

@@ -3,7 +3,6 @@ use mathlib.Core.Path.{◌≡◌, refl, sym, ap, subst, ◌∙◌}
 use Rattle.std.proofs.lemmas.Result.{err_from_is_err_and}
 use native.Mathlib.Omega.{arith}
 use lib.ListN.{length}
-use borrow.Author.Rules.{rules}
 use Rattle.laws.specs.Inner.Allowance.{within}
 use Rattle.drawing.specs.Entries.{Segment, as_taken, lent_segments}
 use Rattle.boxes.specs.Boxes.{segment_box}

@@ -1,5 +1,4 @@
 -- `clearance_call::walk_all::walk_all` meets its contract: after q segments the walks of the others, from the state, have the outcome of all walks, and the marks are those of the last segment's net. Assumes nothing.
-use Prim.Native.Nat.{◌-◌}
 use lib.ListN.{length}
 use Rattle.drawing.specs.Entries.{lent_segments}
 use Rattle.clearance_call.proofs.WalkRuns.{Turned}
