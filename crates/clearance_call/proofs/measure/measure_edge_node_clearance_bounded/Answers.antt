@@ -5,7 +5,6 @@ use lib.ListN.{length, replicate}
 use Rattle.drawing.specs.Entries.{lent_segments, lent_nodes, lent_exemptions}
 use Rattle.clearance.proofs.Answers.{Lent, passes}
 use Rattle.drawing.proofs.FirstRefusal.{not_passed, refused-scratch, passed_scratch}
-use Rattle.drawing.proofs.ListOrders.{segments-held}
 use Rattle.clearance_call.proofs.WholeCall.{sizes, refused-answer, passed_answer}
 use borrow.Author.Rules.{rules}
 use Rattle.clearance_call.proofs.measure.measure_edge_node_clearance_bounded.Goals as goal
