@@ -1,5 +1,5 @@
 -- A call whose checks have passed: what is known of its lists, what the scratch holds, and that the walks in it are the definition's. Assumes nothing.
-use Rattle.std.specs.Prelude.{Result, Ok, Err}
+use Rattle.std.specs.Prelude.{Result, Ok, Err, IfErr}
 use mathlib.Core.Path.{◌≡◌, refl, sym, ap, subst, ◌∙◌}
 use mathlib.Core.Bool.{false}
 use mathlib.Core.List.{List, [], ◌∷◌, ◌++◌, map, map-map}
@@ -50,6 +50,8 @@ use Rattle.clearance.specs.Answer.{accepted, clearance_answer}
 use Rattle.drawing.proofs.Fit.{FitNode}
 use Rattle.drawing.specs.Inner.LeastFloats.{gap_of_float}
 use Rattle.boxes.proofs.BoxLaws.{fit-segment}
+use Rattle.clearance.proofs.StateLaws.{answers-reply}
+use Rattle.clearance.specs.declared.report.EdgeNodeClearance.{EdgeNodeClearance}
 use Rattle.clearance.proofs.Answers.{Lent, passes, fit_call}
 use Rattle.clearance.proofs.WithinAllowance.{reply-within}
 use Rattle.clearance.proofs.TreeLaws.{FitIndexed, indexed-fit}
@@ -86,9 +88,6 @@ sizes s n e t words h =
     let g = passed_head _ _ _ f.1 in
     let w = passed_head _ _ _ g.1 in
     record { segments = segments-agree s a.0; nodes = nodes-agree n b.0; exemptions = exemptions-agree e c.0; few-segments = few _ d.0; few-nodes = few _ f.0; few-exemptions = few _ g.0; room = long-scratch words _ _ w.0 }
-
-pub nodes-held : (c : NodeColumns) → NodesAgree c → ((i : ℕ) → T (fits binary64 (node_at c i).x)) → ((i : ℕ) → T (fits binary64 (node_at c i).y)) → ((i : ℕ) → T (fits binary64 (node_at c i).width)) → ((i : ℕ) → T (fits binary64 (node_at c i).height)) → All NodeHeld (nodes c)
-nodes-held c a x y w h = all_placed (nodes c) (node_at c) (length c.id) (length-nodes c a) (nodes-at c a (node_at c 0)) NodeHeld (λ i. record { x = x i; y = y i; width = w i; height = h i })
 
 -- ---- no nodes: no tree to walk
 runs-empty : (ex : List Exemption) (t : ℕ → Float) (g : Figures) (ss : List Segment) → runs (λ h s. walk ex (t s.net) s empty h) g ss ≡ free g
@@ -236,9 +235,9 @@ pub refused-answer : (s : SegmentColumns) (n : NodeColumns) (e : ExemptionColumn
 unfolding clearance_answer
 refused-answer s n e t allowance words c r h g = sym (rw (sym h ∙ g))
 
-pub passed_answer : (s : SegmentColumns) (n : NodeColumns) (e : ExemptionColumns) (t : Float) (allowance words : ℕ) → passes s n e t words → Lent s n t → (w : Result Walking Refusal) → outcome_of w ≡ within allowance (walk_all (exemptions e) (λ net. t) (segments s) (nodes n))
+pub passed_answer : (s : SegmentColumns) (n : NodeColumns) (e : ExemptionColumns) (t : Float) (allowance words : ℕ) → passes s n e t words → Lent s n t → (w : Result Walking Refusal) → outcome_of w ≡ within allowance (walk_all (exemptions e) (λ net. t) (segments s) (nodes n)) → IfErr w (λ r. r ≡ WorkLimitExceeded)
     → (a : Result EdgeNodeClearance Refusal) → Answers w allowance a → a ≡ clearance_answer s n e t allowance words
 unfolding clearance_answer
-passed_answer s n e t allowance words p lent w h a k =
+passed_answer s n e t allowance words p lent w h spent a k =
     let f = fit_call s n e t words lent p in
-    rw p (k ∙ ap (reply accepted (Err WorkLimitExceeded) allowance) h ∙ reply-within (exemptions e) (λ net. t) (segments s) (nodes n) (λ net. f.threshold-fit) f.segments-fit f.nodes-fit allowance)
+    rw p (answers-reply w allowance a spent k ∙ ap (reply accepted (Err WorkLimitExceeded) allowance) h ∙ reply-within (exemptions e) (λ net. t) (segments s) (nodes n) (λ net. f.threshold-fit) f.segments-fit f.nodes-fit allowance)

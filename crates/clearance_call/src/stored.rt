@@ -5,9 +5,9 @@ ghost use Rattle.boxes.specs.Inner.Fitting.{FitBox};
 ghost use Rattle.clearance_call.specs.Inner.LeafOrder.{Places};
 ghost use Rattle.clearance_call.specs.Inner.Stored.{box_at, BoxPut, LeafPut, LeavesPut, SplitsPut};
 
-use drawing::Nodes;
 use crate::order::box_at;
 use boxes::Aabb;
+use drawing::Nodes;
 use floats::{bits_of, float_of_bits};
 
 // The box whose edges are stored from word p on.
@@ -65,19 +65,14 @@ fn put_leaf(words: &mut [u64], p: usize, id: u32, bounds: Aabb)
 }
 
 // Stores the nodes as leaves from word r on, in the order of their indices in the first words.
-pub(crate) fn put_leaves(
-    words: &mut [u64],
-    r: usize,
-    nodes: &Nodes<'_>,
-)
+pub(crate) fn put_leaves(words: &mut [u64], r: usize, nodes: &Nodes<'_>)
     requires { Places words.old (length nodes.now.id.now) (lent_nodes nodes.now) × (length nodes.now.id.now ≤ r) × (r + 9 * length nodes.now.id.now ≤ length words.old) }
     ensures { LeavesPut words.old words.new r (length nodes.now.id.now) (lent_nodes nodes.now) }
 {
-    let mut k = 0;
-    while k < nodes.id.len() {
+    // By an index: the slice is written while its first words are read.
+    for k in 0..nodes.id.len() {
         let i = words[k] as usize;
         put_leaf(words, r + 9 * k, nodes.id[i], box_at(i, nodes));
-        k += 1;
     }
 }
 

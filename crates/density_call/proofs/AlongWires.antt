@@ -35,6 +35,7 @@ use Rattle.rows.proofs.Oriented.{oriented-sorted}
 use Rattle.rows.proofs.LentRows.{rows-count, rows_few, rows_behind, rows-kept}
 use Rattle.rows.proofs.SpreadTables.{Spread, rows-spread}
 use Rattle.rows.proofs.EventTables.{EventsOrdered, later_column, events-placed}
+use Rattle.congestion.specs.declared.found.Found.{Found}
 use Rattle.congestion.specs.Wires.{Wire, cutoff_of}
 use Rattle.congestion.specs.Walk.{begin, sweep, along}
 use Rattle.congestion.specs.Inner.Keys.{Key}

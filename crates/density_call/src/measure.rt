@@ -48,6 +48,7 @@ fn walk_segments(
             remaining: allowance,
         });
     }
+    segments.held();
     if allowance < segments_to_sweep(segments.orientation) {
         return Err(Refusal::WorkLimitExceeded);
     }
@@ -70,6 +71,7 @@ pub fn measure_parallel_density_profile_bounded(
         × (refusal ≡ Ok tt → SegmentsHeld lent × Binary64 cutoff) }
 {
     check_congestion(segments, cutoff, scratch.len())?;
+    segments.held();
     let total = total_length(segments);
     let swept = walk_segments(segments, cutoff, allowance, scratch);
     clear(scratch);

@@ -45,7 +45,11 @@ fn lower(starts: bool, count: u64, after: u64) -> u64
 fn highest_after(starts: bool, highest: usize, after: u64) -> usize
     ensures { result ≡ cond starts (max highest after) highest }
 {
-    if starts { highest.max(after as usize) } else { highest }
+    if starts {
+        highest.max(after as usize)
+    } else {
+        highest
+    }
 }
 
 // A neighbor, whose count is in word `at`.
@@ -68,6 +72,7 @@ fn meet_neighbor(s: &mut [u64], at: usize, starts: bool, gap: f64, meeting: Meet
 }
 
 // One visit, that of wire i: it is paid, and if the wire is of another net it is a neighbor.
+#[tactic(auto, unfolding(floats::specs::Values::gap_of))]
 fn visit(
     s: &mut [u64],
     n: usize,

@@ -48,7 +48,9 @@ fn with_start(state: Sweeping, meeting: Meeting) -> Sweeping
     Sweeping {
         congested_active: state.congested_active + usize::from(neighbors != 0) + meeting.changed,
         close_pairs: state.close_pairs + neighbors,
-        peak_close_neighbors: state.peak_close_neighbors.max(meeting.highest.max(neighbors)),
+        peak_close_neighbors: state
+            .peak_close_neighbors
+            .max(meeting.highest.max(neighbors)),
         minimum_positive: meeting.least,
         remaining: meeting.remaining,
         ..state
@@ -93,7 +95,12 @@ fn deactivate(s: &mut [u64], n: usize, j: usize)
 }
 
 // Wire j starts: event n + j.
-pub(crate) fn start_event(s: &mut [u64], n: usize, j: usize, state: Sweeping) -> Result<Sweeping, Refusal>
+pub(crate) fn start_event(
+    s: &mut [u64],
+    n: usize,
+    j: usize,
+    state: Sweeping,
+) -> Result<Sweeping, Refusal>
     requires { AtEvent s.old n (n + j) state }
     ensures { Handles s.old s.new n (n + j) state result }
 {
@@ -105,7 +112,12 @@ pub(crate) fn start_event(s: &mut [u64], n: usize, j: usize, state: Sweeping) ->
 }
 
 // Wire j ends: event j.
-pub(crate) fn end_event(s: &mut [u64], n: usize, j: usize, state: Sweeping) -> Result<Sweeping, Refusal>
+pub(crate) fn end_event(
+    s: &mut [u64],
+    n: usize,
+    j: usize,
+    state: Sweeping,
+) -> Result<Sweeping, Refusal>
     requires at_event { AtEvent s.old n j state }
     requires j_lt_n { j < n }
     ensures { Handles s.old s.new n j state result }

@@ -65,7 +65,7 @@ pub record AtColumns (words wanted : ℕ) (c : SegmentColumns) : Type 0 where
   pub proper : (r : Row) → Mem r (oriented wanted (segments c)) → Proper r
 
 -- the code's answer for the outcome of figures within an allowance
-unfoldable pub found_of : Outcome (ParallelCongestion × (Option Float)) → Result Found Refusal
+unfoldable pub found_of : Outcome (ParallelCongestion × Option Float) → Result Found Refusal
 found_of spent = Err WorkLimitExceeded
 found_of (left p m) = Ok (record {
   congested_length = p.0.congested_length;

@@ -5,6 +5,3 @@ use Rattle.clearance_call.proofs.marks.group_leaves.Given as goal
 
 abbrev pub invariant-loop-j : goal.invariant-loop-j
 invariant-loop-j l = Grouping l.initial.s l.m l.s l.j
-
-abbrev pub decreases-loop-j : goal.decreases-loop-j
-decreases-loop-j l = l.m - l.j

@@ -5,6 +5,3 @@ use Rattle.clearance_call.proofs.marks.mark_net.Given as goal
 
 abbrev pub invariant-loop-i : goal.invariant-loop-i
 invariant-loop-i l = NetMarking l.packed l.ids l.m l.from l.to l.marks l.i
-
-abbrev pub decreases-loop-i : goal.decreases-loop-i
-decreases-loop-i l = l.to - l.i

@@ -5,6 +5,3 @@ use Rattle.clearance_call.proofs.marks.sort_ids.Given as goal
 
 abbrev pub invariant-loop-j : goal.invariant-loop-j
 invariant-loop-j l = Copying l.initial.s l.m l.s l.j
-
-abbrev pub decreases-loop-j : goal.decreases-loop-j
-decreases-loop-j l = l.m - l.j
