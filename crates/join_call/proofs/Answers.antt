@@ -1,5 +1,5 @@
 -- What the call returns and what the lent columns hold then, from what its checks returned. Assumes nothing.
-use Rattle.std.specs.Prelude.{Result, Ok}
+use Rattle.std.specs.Prelude.{Result, Ok, Err}
 use mathlib.Core.Path.{◌≡◌, refl, sym, ap, ◌∙◌}
 use mathlib.Core.Logic.{inl, inr}
 use mathlib.Core.Bool.{Bool, true, false, not}
@@ -7,8 +7,8 @@ use mathlib.Core.List.{List, [], ◌∷◌, ◌++◌, map}
 use Prim.Native.Nat.{ℕ, zero, suc, ◌+◌, ◌-◌, ◌*◌, ◌/◌, ◌%◌, ◌≤◌, ◌<◌}
 use native.Mathlib.Omega.{arith}
 use lib.Dec.{ltb}
-use lib.Ieee.{nan}
-use lib.ListN.{length, get_or, drop, length-map}
+use lib.Ieee.{Float}
+use lib.ListN.{length, drop, length-map}
 use borrow.Author.Tests.{ltb-false, le-ltb}
 use Rattle.laws.specs.Lists.{Mem, All, put}
 use Rattle.laws.specs.Sort.{sort_by}
@@ -18,21 +18,20 @@ use Rattle.floats.specs.TotalOrder.{float_at}
 use Rattle.floats.proofs.NumberKeys.{float_back}
 use Rattle.drawing.specs.declared.refusal.Refusal.{Refusal}
 use Rattle.drawing.specs.declared.refusal.Refusal.TheVariants.{ShortOutput}
-use Rattle.drawing.specs.declared.refusal.Check.TheVariants as checks
 use Rattle.drawing.specs.Refusals.{first_of, checked}
-use Rattle.drawing.specs.Entries.{Segment, SegmentColumns, segments}
-use Rattle.drawing.specs.Inner.Entries.{segment_at}
+use Rattle.drawing.specs.declared.lists.Segment.{Segment}
+use Rattle.drawing.specs.Entries.{SegmentColumns, segment_columns, segments}
 use Rattle.drawing.specs.Conditions.{short_output}
 use Rattle.drawing.specs.Checks.{segment_list_conditions}
-use Rattle.drawing.specs.Held.{Binary64, SegmentsHeld}
+use Rattle.drawing.specs.Held.{SegmentsHeld}
 use Rattle.drawing.specs.Inner.Lengths.{SegmentsAgree}
+use Rattle.drawing.specs.Inner.Typed.{SegmentsTyped}
 use Rattle.drawing.specs.Outputs.{written_over}
 use Rattle.drawing.proofs.EntryLaws.{length-segments}
 use Rattle.drawing.proofs.ListOrders.{segments-all, segments-held}
 use Rattle.drawing.proofs.Fit.{fit-segments}
 use Rattle.drawing.proofs.FirstRefusal.{first_yes, first_no, first-none, first_stop, first_go_on, segment_list_passes, not_passed}
-use Rattle.joining.specs.declared.answer.JoinAnswer.{JoinAnswer}
-use Rattle.joining.specs.declared.answer.JoinAnswer.TheVariants.{Joined, Refused}
+use Rattle.joining.specs.declared.answer.Joined.{Joined}
 use Rattle.joining.specs.Joined.{canonical_zeros, extended, is_in_order, joined}
 use Rattle.joining.specs.Conditions.{output_lengths, join_conditions}
 use Rattle.joining.specs.Answer.{joined_of, join_answer, written, output_after}
@@ -40,7 +39,9 @@ use Rattle.joining.proofs.Canonical.{Canonical}
 use Rattle.joining.proofs.JoinedLists.{joined_canonical, joined-all, no_more}
 use Rattle.joining.specs.declared.piece.Piece.{Piece}
 use Rattle.joining.specs.Inner.Pieces.{piece_of, touches_piece, next_piece, join_pieces_from, joined_pieces}
-use Rattle.join_call.specs.Inner.Table.{entries_from, net_of, orientation_of, written_pieces, Room, Lists, TableInOrder}
+use Rattle.join_call.specs.Inner.Table.{entries_from, Lists, TableInOrder}
+use Rattle.join_call.specs.declared.output.Output.{Output}
+use Rattle.join_call.specs.Inner.Output.{held, net_of, orientation_of, written_pieces, Room}
 use Rattle.join_call.specs.Inner.Rest.{rest_answer, rest_output}
 use Rattle.joining.proofs.PieceLaws.{words_join}
 
@@ -150,56 +151,60 @@ has_room n c e =
 
 -- ---- what is returned and written once the checks of the segments have passed
 module _ (c out : SegmentColumns) where
-  abbrev Ended : JoinAnswer → SegmentColumns → Type 0
+  abbrev Ended : Result Joined Refusal → SegmentColumns → Type 0
   Ended r new = (r ≡ rest_answer c out) × (new ≡ rest_output c out)
 
-  pub no_room : short_output (length (joined (segments c))) (output_lengths out) ≡ true → Ended (Refused ShortOutput) out
+  pub no_room : short_output (length (joined (segments c))) (output_lengths out) ≡ true → Ended (Err ShortOutput) out
   unfolding rest_answer rest_output
-  no_room s = (sym (cond_true _ (Refused ShortOutput) (joined_of (segments c)) s), sym (cond_true _ out (written (joined (segments c)) out) s))
+  no_room s = (sym (cond_true _ (Err ShortOutput) (joined_of (segments c)) s), sym (cond_true _ out (written (joined (segments c)) out) s))
 
   all-written : short_output (length (joined (segments c))) (output_lengths out) ≡ false → Ended (joined_of (segments c)) (written (joined (segments c)) out)
   unfolding rest_answer rest_output
-  all-written s = (sym (cond_false _ (Refused ShortOutput) (joined_of (segments c)) s), sym (cond_false _ out (written (joined (segments c)) out) s))
+  all-written s = (sym (cond_false _ (Err ShortOutput) (joined_of (segments c)) s), sym (cond_false _ out (written (joined (segments c)) out) s))
 
-  pub finished : (new : SegmentColumns) (a : List ℕ) (count m : ℕ) → Lists c m → ((i : ℕ) → (segment_at c i).net < 4294967296) → TableInOrder c a
+  pub finished : (new : SegmentColumns) (a : List ℕ) (count m : ℕ) → Lists c m → TableInOrder c a
       → count ≡ length (joined_pieces (entries_from (length c.net) a 0 (length c.net))) → short_output (length (joined_pieces (entries_from (length c.net) a 0 (length c.net)))) (output_lengths out) ≡ false → new ≡ written_pieces (joined_pieces (entries_from (length c.net) a 0 (length c.net))) out
-      → Ended (Joined count (length c.net - count)) new
-  finished new a count m l nets o n s w =
+      → Ended (Ok (record { pieces = count; gone = length c.net - count })) new
+  finished new a count m l o n s w =
       let j = n ∙ joined-count c a o in
       let r = all-written (ap (λ (z : ℕ). short_output z (output_lengths out)) (sym (joined-count c a o)) ∙ s) in
-      let small = segments-all Small c l.agree nets in
+      let small = segments-all Small c l.agree l.typed.net in
       let back = ap (λ (z : List Piece). written_pieces z out) (joined_words c a o) ∙ written_back (joined (segments c)) out (joined_canonical (segments c) l.fit) (joined_small (segments c) small) in
-      ((λ i. Joined (j i) (sym (length-segments c l.agree) i - j i)) ∙ r.0, w ∙ back ∙ r.1)
+      ((λ i. Ok (record { pieces = j i; gone = sym (length-segments c l.agree) i - j i })) ∙ r.0, w ∙ back ∙ r.1)
 
 -- ---- the whole call: what its checks returned decides
 module _ (c out : SegmentColumns) where
-  by_check : (k : Result Unit Refusal) → first_of (join_conditions c out) ≡ k → (join_answer c out ≡ checked Refused k (joined_of (segments c))) × (output_after c out ≡ checked (λ r. out) k (written (joined (segments c)) out))
+  by_check : (k : Result Unit Refusal) → first_of (join_conditions c out) ≡ k → (join_answer c out ≡ checked Err k (joined_of (segments c))) × (output_after c out ≡ checked (λ r. out) k (written (joined (segments c)) out))
   unfolding join_answer output_after
-  by_check k e = (ap (λ (z : Result Unit Refusal). checked Refused z (joined_of (segments c))) e, ap (λ (z : Result Unit Refusal). checked (λ r. out) z (written (joined (segments c)) out)) e)
+  by_check k e = (ap (λ (z : Result Unit Refusal). checked Err z (joined_of (segments c))) e, ap (λ (z : Result Unit Refusal). checked (λ r. out) z (written (joined (segments c)) out)) e)
 
-  abbrev Called : JoinAnswer → SegmentColumns → Type 0
+  abbrev Called : Result Joined Refusal → SegmentColumns → Type 0
   Called r new = (r ≡ join_answer c out) × (new ≡ output_after c out) × (first_of (segment_list_conditions c) ≡ Ok tt → SegmentsHeld c)
 
-  pub refused : (k : Result Unit Refusal) (r : Refusal) → k ≡ first_of (segment_list_conditions c) → k ≡ checks.Refused r → Called (Refused r) out
+  pub refused : (k : Result Unit Refusal) (r : Refusal) → k ≡ first_of (segment_list_conditions c) → k ≡ Err r → Called (Err r) out
   unfolding join_conditions
-  refused k r e f = let b = by_check (checks.Refused r) (sym (first_stop (segment_list_conditions c) _ k r e f) ∙ f) in (sym b.0, sym b.1, not_passed (first_of (segment_list_conditions c)) k r e f)
+  refused k r e f = let b = by_check (Err r) (sym (first_stop (segment_list_conditions c) _ k r e f) ∙ f) in (sym b.0, sym b.1, not_passed (first_of (segment_list_conditions c)) k r e f)
 
   rest-is : first_of (segment_list_conditions c) ≡ Ok tt → (rest_answer c out ≡ join_answer c out) × (rest_output c out ≡ output_after c out)
   unfolding join_conditions rest_answer rest_output
   rest-is p = elim (decide (short_output (length (joined (segments c))) (output_lengths out))) [
-    | inl t ↦ let b = by_check (checks.Refused ShortOutput) (first_go_on (segment_list_conditions c) _ (Ok tt) (sym p) refl ∙ first_yes _ _ _ t) in (cond_true _ (Refused ShortOutput) (joined_of (segments c)) t ∙ sym b.0, cond_true _ out (written (joined (segments c)) out) t ∙ sym b.1)
-    | inr f ↦ let b = by_check (Ok tt) (first_go_on (segment_list_conditions c) _ (Ok tt) (sym p) refl ∙ first_no _ _ _ f ∙ first-none) in (cond_false _ (Refused ShortOutput) (joined_of (segments c)) f ∙ sym b.0, cond_false _ out (written (joined (segments c)) out) f ∙ sym b.1)
+    | inl t ↦ let b = by_check (Err ShortOutput) (first_go_on (segment_list_conditions c) _ (Ok tt) (sym p) refl ∙ first_yes _ _ _ t) in (cond_true _ (Err ShortOutput) (joined_of (segments c)) t ∙ sym b.0, cond_true _ out (written (joined (segments c)) out) t ∙ sym b.1)
+    | inr f ↦ let b = by_check (Ok tt) (first_go_on (segment_list_conditions c) _ (Ok tt) (sym p) refl ∙ first_no _ _ _ f ∙ first-none) in (cond_false _ (Err ShortOutput) (joined_of (segments c)) f ∙ sym b.0, cond_false _ out (written (joined (segments c)) out) f ∙ sym b.1)
   ]
 
-  pub passed : (r : JoinAnswer) (new : SegmentColumns) → first_of (segment_list_conditions c) ≡ Ok tt → SegmentsHeld c → (r ≡ rest_answer c out) × (new ≡ rest_output c out) → Called r new
+  pub passed : (r : Result Joined Refusal) (new : SegmentColumns) → first_of (segment_list_conditions c) ≡ Ok tt → SegmentsHeld c → (r ≡ rest_answer c out) × (new ≡ rest_output c out) → Called r new
   passed r new p h e = let q = rest-is p in (e.0 ∙ q.0, e.1 ∙ q.1, λ z. h)
 
 -- ---- what the checks leave known
-pub held_of : (c : SegmentColumns) → first_of (segment_list_conditions c) ≡ Ok tt → ((i : ℕ) → Binary64 (get_or c.fixed i nan)) → ((i : ℕ) → Binary64 (get_or c.start i nan)) → ((i : ℕ) → Binary64 (get_or c.end i nan)) → SegmentsHeld c
-held_of c e f s t = segments-held c (segment_list_passes c e).agree f s t
+pub held_of : (c : SegmentColumns) → first_of (segment_list_conditions c) ≡ Ok tt → SegmentsTyped c → SegmentsHeld c
+held_of c e t = segments-held c (segment_list_passes c e).agree t.fixed t.start t.end
 
-pub lists_of : (c : SegmentColumns) (m : ℕ) → first_of (segment_list_conditions c) ≡ Ok tt → SegmentsHeld c → 5 * length c.net ≤ m → Lists c m
-lists_of c m e h r = let p = segment_list_passes c e in record { agree = p.agree; few = p.few-segments; fit = fit-segments (segments c) h p.fit; room = r }
+pub lists_of : (c : SegmentColumns) (m : ℕ) → first_of (segment_list_conditions c) ≡ Ok tt → SegmentsTyped c → 5 * length c.net ≤ m → Lists c m
+lists_of c m e t r = let p = segment_list_passes c e in record { agree = p.agree; few = p.few-segments; fit = fit-segments (segments c) (held_of c e t) p.fit; typed = t; room = r }
 
 pub passes-few : (c : SegmentColumns) → first_of (segment_list_conditions c) ≡ Ok tt → length c.net ≤ 4096
 passes-few c e = (segment_list_passes c e).few-segments
+
+-- ---- what the columns hold at the end, by the struct that referred to them
+pub left_in : (c : SegmentColumns) (x : Output) (nets os : List ℕ) (fs ss es : List Float) → held x ≡ c → nets ≡ x.net.now → os ≡ x.orientation.now → fs ≡ x.fixed.now → ss ≡ x.start.now → es ≡ x.end.now → segment_columns nets os fs ss es ≡ c
+left_in c x nets os fs ss es h p q r s t = (λ i. segment_columns (p i) (q i) (r i) (s i) (t i)) ∙ h

@@ -38,14 +38,14 @@ pub whole-first : (a : List ℕ) (n : ℕ) → (n ≡ 0 → ⊥) → joined_piec
 unfolding joined_pieces entries_from
 whole-first a n h = let e : n ≡ suc (n - 1) = omega arith in ap (λ (m : ℕ). joined_pieces (entries_from n a 0 m)) e
 
--- ---- counting
+-- ---- counting, the piece that extends included
 pub record Counting (a : List ℕ) (n : ℕ) (c : Piece) (count k : ℕ) : Type 0 where
   pub small : k ≤ n
-  pub fewer : count < k
-  pub total : length (joined_pieces (entries_from n a 0 n)) ≡ count + length (left a n k c)
+  pub fewer : count ≤ k
+  pub total : length (joined_pieces (entries_from n a 0 n)) + 1 ≡ count + length (left a n k c)
 
-pub count-start : (a : List ℕ) (n : ℕ) (c : Piece) → (n ≡ 0 → ⊥) → c ≡ placed n a 0 → Counting a n c 0 1
-count-start a n c h e = record { small = omega arith; fewer = omega arith; total = ap length (whole-first a n h ∙ ap (left a n 1) (sym e)) ∙ omega arith }
+pub count-start : (a : List ℕ) (n : ℕ) (c : Piece) → (n ≡ 0 → ⊥) → c ≡ placed n a 0 → Counting a n c 1 1
+count-start a n c h e = record { small = omega arith; fewer = omega arith; total = let t = ap length (whole-first a n h ∙ ap (left a n 1) (sym e)) in omega arith }
 
 pub put-length : (b : Bool) (c : Piece) (l : List Piece) → length (put b c l) ≡ bit b + length l
 put-length true c l = omega arith
@@ -64,5 +64,5 @@ count_next a n c d x count m k i h e f g =
     few true = omega arith
     few false = omega arith
 
-pub count-end : (a : List ℕ) (n : ℕ) (c : Piece) (count k : ℕ) → Counting a n c count k → n ≤ k → count + 1 ≡ length (joined_pieces (entries_from n a 0 n))
+pub count-end : (a : List ℕ) (n : ℕ) (c : Piece) (count k : ℕ) → Counting a n c count k → n ≤ k → count ≡ length (joined_pieces (entries_from n a 0 n))
 count-end a n c count k i h = let e = ap length (left-last a n k c h) in omega (arith, i.total)

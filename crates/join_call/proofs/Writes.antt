@@ -15,7 +15,9 @@ use Rattle.drawing.specs.Entries.{SegmentColumns}
 use Rattle.drawing.specs.Outputs.{written_over}
 use Rattle.joining.specs.declared.piece.Piece.{Piece}
 use Rattle.joining.specs.Inner.Pieces.{touches_piece, next_piece, begun, join_pieces_from, joined_pieces}
-use Rattle.join_call.specs.Inner.Table.{placed, entries_from, net_of, orientation_of, written_pieces, put_piece, Room}
+use Rattle.join_call.specs.declared.output.Output.{Output}
+use Rattle.join_call.specs.Inner.Table.{placed, entries_from}
+use Rattle.join_call.specs.Inner.Output.{net_of, orientation_of, written_pieces, put_piece, Room, SameColumns}
 use Rattle.join_call.proofs.Runs.{left, left_next, left-last, whole-none, whole-first, put-length}
 
 -- ---- a column with its first entries written
@@ -43,24 +45,6 @@ room-written l old k h r = record {
   fixed = omega (arith, r.fixed, col_length (λ (p : Piece). float_at p.fixed) l old.fixed (omega (arith, r.fixed)));
   start = omega (arith, r.start, col_length (λ (p : Piece). float_at p.start) l old.start (omega (arith, r.start)));
   end = omega (arith, r.end, col_length (λ (p : Piece). float_at p.end) l old.end (omega (arith, r.end)));
-}
-
--- and each column is as long as it was
-pub record Lengths (old out : SegmentColumns) : Type 0 where
-  pub net : length out.net ≡ length old.net
-  pub orientation : length out.orientation ≡ length old.orientation
-  pub fixed : length out.fixed ≡ length old.fixed
-  pub start : length out.start ≡ length old.start
-  pub end : length out.end ≡ length old.end
-
-lengths-written : (l : List Piece) (old : SegmentColumns) → Room (length l) old → Lengths old (written_pieces l old)
-unfolding written_pieces
-lengths-written l old r = record {
-  net = col_length net_of l old.net r.net;
-  orientation = col_length orientation_of l old.orientation r.orientation;
-  fixed = col_length (λ (p : Piece). float_at p.fixed) l old.fixed r.fixed;
-  start = col_length (λ (p : Piece). float_at p.start) l old.start r.start;
-  end = col_length (λ (p : Piece). float_at p.end) l old.end r.end;
 }
 
 put_more : (l : List Piece) (p : Piece) (old : SegmentColumns) → Room (length l + 1) old → put_piece (written_pieces l old) (length l) p ≡ written_pieces (l ++ (p ∷ [])) old
@@ -96,13 +80,12 @@ pub record Writing (a : List ℕ) (n : ℕ) (old out : SegmentColumns) (c : Piec
   pub whole : joined_pieces (entries_from n a 0 n) ≡ done ++ left a n k c
   pub count : at ≡ length done
   pub is : out ≡ written_pieces done old
-  pub same : Lengths old out
 
 pub write_none : (a : List ℕ) (n : ℕ) (old : SegmentColumns) → n ≡ 0 → old ≡ written_pieces (joined_pieces (entries_from n a 0 n)) old
 write_none a n old e = none_written old ∙ ap (λ (l : List Piece). written_pieces l old) (sym (whole-none a n e))
 
 pub write_start : (a : List ℕ) (n : ℕ) (old : SegmentColumns) (c : Piece) → (n ≡ 0 → ⊥) → c ≡ placed n a 0 → Writing a n old old c 0 1
-write_start a n old c h e = record { small = omega arith; fewer = omega arith; done = []; whole = whole-first a n h ∙ ap (left a n 1) (sym e); count = refl; is = none_written old; same = record { net = refl; orientation = refl; fixed = refl; start = refl; end = refl } }
+write_start a n old c h e = record { small = omega arith; fewer = omega arith; done = []; whole = whole-first a n h ∙ ap (left a n 1) (sym e); count = refl; is = none_written old }
 
 module _ (a : List ℕ) (n : ℕ) (old : SegmentColumns) (room : Room (length (joined_pieces (entries_from n a 0 n))) old) where
   write_fits : (out : SegmentColumns) (c : Piece) (at k : ℕ) (w : Writing a n old out c at k) → length w.done + 1 ≤ length (joined_pieces (entries_from n a 0 n))
@@ -113,9 +96,6 @@ module _ (a : List ℕ) (n : ℕ) (old : SegmentColumns) (room : Room (length (j
       let h = write_fits out c at k w in
       let r : Room (at + 1) old = room_less (at + 1) (length (joined_pieces (entries_from n a 0 n))) old (omega (arith, w.count)) room in
       subst (Room (at + 1)) (sym w.is) (room-written w.done old (at + 1) (omega (arith, w.count)) r)
-
-  kept : (out : SegmentColumns) (l : List Piece) → length l ≤ length (joined_pieces (entries_from n a 0 n)) → out ≡ written_pieces l old → Lengths old out
-  kept out l h e = subst (Lengths old) (sym e) (lengths-written l old (room_less (length l) (length (joined_pieces (entries_from n a 0 n))) old h room))
 
   -- the columns once c is written too
   more : (out : SegmentColumns) (c : Piece) (at k : ℕ) (w : Writing a n old out c at k) → put_piece out at c ≡ written_pieces (w.done ++ (c ∷ [])) old
@@ -137,7 +117,6 @@ module _ (a : List ℕ) (n : ℕ) (old : SegmentColumns) (room : Room (length (j
         whole = w.whole ∙ ap (λ (l : List Piece). w.done ++ l) (split ∙ ap (λ (b : Bool). put (not b) c (left a n (k + 1) d)) t);
         count = let z : begun c x ≡ 0 = ap (λ (b : Bool). bit (not b)) t in omega (arith, w.count);
         is = g ∙ cond_true (touches_piece c x) out (put_piece out at c) t ∙ w.is;
-        same = kept new w.done (let f = write_fits out c at k w in omega arith) (g ∙ cond_true (touches_piece c x) out (put_piece out at c) t ∙ w.is);
       }
       go (inr t) = record {
         small = omega arith;
@@ -146,7 +125,6 @@ module _ (a : List ℕ) (n : ℕ) (old : SegmentColumns) (room : Room (length (j
         whole = w.whole ∙ ap (λ (l : List Piece). w.done ++ l) (split ∙ ap (λ (b : Bool). put (not b) c (left a n (k + 1) d)) t) ∙ sym (append_snoc w.done c (left a n (k + 1) d));
         count = let z : begun c x ≡ 1 = ap (λ (b : Bool). bit (not b)) t in omega (arith, w.count, length-append w.done (c ∷ []));
         is = g ∙ cond_false (touches_piece c x) out (put_piece out at c) t ∙ more out c at k w;
-        same = kept new (w.done ++ (c ∷ [])) (let f = write_fits out c at k w in omega (arith, length-append w.done (c ∷ []))) (g ∙ cond_false (touches_piece c x) out (put_piece out at c) t ∙ more out c at k w);
       }
 
   pub write_end : (out new : SegmentColumns) (c : Piece) (at k : ℕ) → Writing a n old out c at k → n ≤ k → new ≡ put_piece out at c → new ≡ written_pieces (joined_pieces (entries_from n a 0 n)) old
@@ -154,3 +132,7 @@ module _ (a : List ℕ) (n : ℕ) (old : SegmentColumns) (room : Room (length (j
 
   pub write_count : (out : SegmentColumns) (c : Piece) (at k : ℕ) → Writing a n old out c at k → n ≤ k → at + 1 ≡ length (joined_pieces (entries_from n a 0 n))
   write_count out c at k w h = omega (arith, w.count, ap length (w.whole ∙ ap (λ (l : List Piece). w.done ++ l) (left-last a n k c h)), length-append w.done (c ∷ []))
+
+-- ---- the columns stay the caller's
+pub columns-trans : (x y z : Output) → SameColumns x y → SameColumns y z → SameColumns x z
+columns-trans x y z p q = record { net = q.net ∙ p.net; orientation = q.orientation ∙ p.orientation; fixed = q.fixed ∙ p.fixed; start = q.start ∙ p.start; end = q.end ∙ p.end }

@@ -1,75 +1,56 @@
 // The joiner by columns.
-ghost use Rattle.std.specs.Prelude.{[], ◌∷◌, ◌≡◌, length, Ok};
+ghost use Rattle.std.specs.Prelude.{◌≡◌, length, Ok};
 ghost use Rattle.drawing.specs.Refusals.{first_of};
 ghost use Rattle.drawing.specs.Entries.{lent_segments, segment_columns};
 ghost use Rattle.drawing.specs.Conditions.{short_output};
 ghost use Rattle.drawing.specs.Checks.{segment_list_conditions};
 ghost use Rattle.drawing.specs.Held.{SegmentsHeld};
 ghost use Rattle.joining.specs.Answer.{join_answer, output_after};
-ghost use Rattle.join_call.specs.Inner.Rest.{rest_answer, rest_output};
 ghost use Rattle.joining.specs.Inner.Pieces.{joined_pieces};
+ghost use Rattle.join_call.specs.Inner.Rest.{rest_answer, rest_output};
+ghost use Rattle.join_call.specs.Inner.Output.{held, SameColumns};
 ghost use Rattle.join_call.specs.Inner.Table.{entries_from, Lists, Tabled};
 
+use crate::output::Output;
 use crate::table::{count_pieces, order_pieces};
 use crate::write::write_pieces;
 use drawing::{Refusal, Segments};
-use joining::{JoinAnswer, short_output};
+use joining::{Joined, short_output};
 use list_checks::check_segment_list;
 
 // Whether some output column, of these lengths, has fewer entries than there are pieces. There are no more pieces than segments, so they are counted only where a column is shorter than the list.
-fn lacks_room(
-    a: &[u64],
-    n: usize,
-    net: usize,
-    orientation: usize,
-    fixed: usize,
-    start: usize,
-    end: usize,
-) -> bool
+fn lacks_room(a: &[u64], n: usize, lengths: &[usize]) -> bool
     requires { Tabled n a.now }
-    ensures { result ≡ short_output (length (joined_pieces (entries_from n a.now 0 n))) (net ∷ orientation ∷ fixed ∷ start ∷ end ∷ []) }
+    ensures { result ≡ short_output (length (joined_pieces (entries_from n a.now 0 n))) lengths.now }
 {
-    if !short_output(n, net, orientation, fixed, start, end) {
-        return false;
-    }
-    let count = count_pieces(a, n);
-    short_output(count, net, orientation, fixed, start, end)
+    short_output(n, lengths) && short_output(count_pieces(a, n), lengths)
 }
 
 // Joins segments that passed the checks, by a table that has five words for each. Nothing is written before it is known that there is room.
 fn join_by_table(
     table: &mut [u64],
     segments: &Segments<'_>,
-    to_net: &mut [u32],
-    to_orientation: &mut [u8],
-    to_fixed: &mut [f64],
-    to_start: &mut [f64],
-    to_end: &mut [f64],
-) -> JoinAnswer
+    output: &mut Output<'_>,
+) -> Result<Joined, Refusal>
     requires { Lists (lent_segments segments.now) (length table.old) }
-    ensures { let lent = lent_segments segments.now in
-        let out = segment_columns to_net.old to_orientation.old to_fixed.old to_start.old to_end.old in
-        (result ≡ rest_answer lent out)
-        × (segment_columns to_net.new to_orientation.new to_fixed.new to_start.new to_end.new ≡ rest_output lent out) }
+    ensures value { result ≡ rest_answer (lent_segments segments.now) (held output.old) }
+    ensures same_columns { SameColumns output.old output.new }
+    ensures columns_after { held output.new ≡ rest_output (lent_segments segments.now) (held output.old) }
 {
     let n = segments.net.len();
     order_pieces(table, segments);
-    if lacks_room(
-        table,
-        n,
-        to_net.len(),
-        to_orientation.len(),
-        to_fixed.len(),
-        to_start.len(),
-        to_end.len(),
-    ) {
-        return JoinAnswer::Refused(Refusal::ShortOutput);
+    if lacks_room(table, n, &output.lengths()) {
+        return Err(Refusal::ShortOutput);
     }
-    let count = write_pieces(table, n, to_net, to_orientation, to_fixed, to_start, to_end);
-    JoinAnswer::Joined(count, n - count)
+    let pieces = write_pieces(table, n, output);
+    Ok(Joined {
+        pieces,
+        gone: n - pieces,
+    })
 }
 
 // SCOPE 16: the fewest pieces that cover what the segments cover, in order, are written to the columns to_net to to_end. Nothing is written where the call is refused.
+// Five parameters and no struct of them: a struct that is passed by `&mut` could come back with other columns in it, so the contract would have to say of each that it is the one that was lent, and of a struct by value the check does not prove what its columns hold at the end.
 pub fn join(
     segments: &Segments<'_>,
     to_net: &mut [u32],
@@ -77,38 +58,27 @@ pub fn join(
     to_fixed: &mut [f64],
     to_start: &mut [f64],
     to_end: &mut [f64],
-) -> JoinAnswer
+) -> Result<Joined, Refusal>
     ensures { let lent = lent_segments segments.now in
         let out = segment_columns to_net.old to_orientation.old to_fixed.old to_start.old to_end.old in
         (result ≡ join_answer lent out)
         × (segment_columns to_net.new to_orientation.new to_fixed.new to_start.new to_end.new ≡ output_after lent out)
         × (first_of (segment_list_conditions lent) ≡ Ok tt → SegmentsHeld lent) }
 {
-    let check = check_segment_list(segments);
-    if let Err(why) = check {
-        return JoinAnswer::Refused(why);
-    }
+    check_segment_list(segments)?;
+    segments.typed();
+    let mut output = Output {
+        net: to_net,
+        orientation: to_orientation,
+        fixed: to_fixed,
+        start: to_start,
+        end: to_end,
+    };
     // A short list needs no long table, whose clearing would take longer than the rest.
     if segments.net.len() <= 128 {
         let mut small = [0u64; 640];
-        return join_by_table(
-            &mut small,
-            segments,
-            to_net,
-            to_orientation,
-            to_fixed,
-            to_start,
-            to_end,
-        );
+        return join_by_table(&mut small, segments, &mut output);
     }
     let mut table = [0u64; 20480];
-    join_by_table(
-        &mut table,
-        segments,
-        to_net,
-        to_orientation,
-        to_fixed,
-        to_start,
-        to_end,
-    )
+    join_by_table(&mut table, segments, &mut output)
 }

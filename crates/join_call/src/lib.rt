@@ -2,6 +2,7 @@
 #![tactic(auto)]
 
 pub mod columns;
+mod output;
 mod table;
 mod write;
 

@@ -2,7 +2,7 @@
 ghost use Rattle.std.specs.Prelude.{◌≡◌, ◌+◌, ◌≤◌, ◌<◌, length};
 ghost use Rattle.std.proofs.Math.Seq.{paste};
 ghost use Rattle.drawing.specs.Entries.{lent_segments};
-ghost use Rattle.joining.specs.Inner.Pieces.{begun, joined_pieces};
+ghost use Rattle.joining.specs.Inner.Pieces.{joined_pieces};
 ghost use Rattle.join_call.specs.Inner.Table.{piece_words, placed, entries_from, Lists, Gathered, Tabled, TableInOrder};
 
 use drawing::Segments;
@@ -13,10 +13,7 @@ fn put_row(a: &mut [u64], at: usize, p: Piece)
     requires { at + 4 ≤ length a.old }
     ensures { a.new ≡ paste a.old at (piece_words p) 4 }
 {
-    a[at] = p.net_and_orientation;
-    a[at + 1] = p.fixed;
-    a[at + 2] = p.start;
-    a[at + 3] = p.end;
+    a[at..at + 4].copy_from_slice(&[p.net_and_orientation, p.fixed, p.start, p.end]);
 }
 
 // A row for each segment.
@@ -24,19 +21,14 @@ fn gather(a: &mut [u64], segments: &Segments<'_>)
     requires { Lists (lent_segments segments.now) (length a.old) }
     ensures { Gathered (lent_segments segments.now) (length segments.now.net.now) a.old a.new }
 {
-    let mut i = 0;
-    while i < segments.net.len() {
-        let p = piece_of(segments.net[i], segments.orientation[i], segments.fixed[i], segments.start[i], segments.end[i]);
-        put_row(a, segments.net.len() + 4 * i, p);
-        i += 1;
+    let n = segments.net.len();
+    for i in 0..n {
+        put_row(a, n + 4 * i, piece_of(segments.at(i)));
     }
 }
 
 // All pieces in order.
-pub(crate) fn order_pieces(
-    a: &mut [u64],
-    segments: &Segments<'_>,
-)
+pub(crate) fn order_pieces(a: &mut [u64], segments: &Segments<'_>)
     requires { Lists (lent_segments segments.now) (length a.old) }
     ensures { TableInOrder (lent_segments segments.now) a.new }
 {
@@ -51,29 +43,13 @@ pub(crate) fn piece_at(a: &[u64], n: usize, k: usize) -> Piece
     requires { Tabled n a.now × (k < n) }
     ensures { result ≡ placed n a.now k }
 {
-    let row = a[k] as usize;
-    let at = n + 4 * row;
-    let head = a[at];
-    let line = a[at + 1];
-    let start = a[at + 2];
-    let end = a[at + 3];
+    let at = n + 4 * a[k] as usize;
     Piece {
-        net_and_orientation: head,
-        fixed: line,
-        start: start,
-        end: end,
+        net_and_orientation: a[at],
+        fixed: a[at + 1],
+        start: a[at + 2],
+        end: a[at + 3],
     }
-}
-
-// One more where x begins a piece of its own.
-fn one_more(count: usize, c: Piece, x: Piece) -> usize
-    requires { count < 4096 }
-    ensures { result ≡ count + begun c x }
-{
-    if touches(c, x) {
-        return count;
-    }
-    count + 1
 }
 
 // How many pieces the n segments of the table join to.
@@ -85,13 +61,13 @@ pub(crate) fn count_pieces(a: &[u64], n: usize) -> usize
         return 0;
     }
     let mut c = piece_at(a, n, 0);
-    let mut count = 0;
-    let mut k = 1;
-    while k < n {
+    let mut count = 1;
+    for k in 1..n {
         let x = piece_at(a, n, k);
-        count = one_more(count, c, x);
+        if !touches(c, x) {
+            count += 1;
+        }
         c = next(c, x);
-        k += 1;
     }
-    count + 1
+    count
 }

@@ -6,12 +6,6 @@ use Prim.Native.Nat.{ℕ, ◌≤◌}
 use lib.ListN.{length, take, drop}
 use lib.Seq.{take-append_seam}
 use Rattle.printing.specs.Sheet.{sheet}
-use Rattle.replay.specs.declared.Part.{Part}
-use Rattle.replay.specs.declared.Part.TheVariants.{Whole}
-use Rattle.replay.specs.Inner.Parts.{Within}
-
-pub whole-within : (p : Part) (n : ℕ) (buffer : List ℕ) → p ≡ Whole n → Within p buffer → n ≤ length buffer
-whole-within p n buffer e h = subst (λ q. Within q buffer) e h
 
 pub front-is-sheet :
     (bytes before after : List ℕ) (n : ℕ) → n ≡ length (sheet bytes) → after ≡ sheet bytes ++ drop (length (sheet bytes)) before → take n after ≡ sheet bytes

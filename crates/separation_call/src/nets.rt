@@ -45,6 +45,7 @@ pub(crate) fn start_net(c: &mut [u64], n: usize, at: Place) -> NetSummary
     line_summary(c, n, at.line)
 }
 
+// A function of its own beside `start_net`: every step has the other sign, and a different count is asked for, so that one function for both would have a case at each step.
 // A segment ends: the last of its slot removes its net from the line.
 pub(crate) fn end_net(c: &mut [u64], n: usize, at: Place) -> NetSummary
     requires { Endable n at.slot at.line at.net c.old }

@@ -69,7 +69,13 @@ fn enter(
     ensures entered { Entered n leaves at.slot at.line at.net work.old work.new result }
 {
     let summary = start_net(work, n, at);
-    let remaining = set(&mut work[3 * n..], leaves, at.line, summary, state.remaining)?;
+    let remaining = set(
+        &mut work[3 * n..],
+        leaves,
+        at.line,
+        summary,
+        state.remaining,
+    )?;
     Ok(Sweeping { remaining, ..state })
 }
 
@@ -86,7 +92,13 @@ fn leave(
     ensures taken_out { TakenOut n leaves at.slot at.line at.net work.old work.new result }
 {
     let summary = end_net(work, n, at);
-    let remaining = set(&mut work[3 * n..], leaves, at.line, summary, state.remaining)?;
+    let remaining = set(
+        &mut work[3 * n..],
+        leaves,
+        at.line,
+        summary,
+        state.remaining,
+    )?;
     Ok(Sweeping { remaining, ..state })
 }
 

@@ -50,6 +50,8 @@ pub(crate) fn has_other_at(
     Ok((other, remaining - 1))
 }
 
+// The two searches mirror each other and stay two functions: they differ in the bound that they test, in the child that they take first and in all arguments of both calls, so one function would ask for its direction at each of these steps.
+// The node, its first leaf and their end are parameters of their own: both calls make all three anew, so that a struct of them would be built and taken apart at every step.
 // The last line below `query_end` with another active net, among those from `start` on, before `end`, which are the leaves below the node.
 fn search_rightmost(
     tree: &[u64],
@@ -200,6 +202,7 @@ pub(crate) fn set(
     let leaf = leaves + index;
     tree[leaf] = u64::from(summary);
     let mut cursor = leaf / 2;
+    // No range counts these nodes: each has half the number of the one before, up to the root.
     while cursor != 0 {
         if rest == 0 {
             return Err(Refusal::WorkLimitExceeded);

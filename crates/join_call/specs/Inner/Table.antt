@@ -1,13 +1,12 @@
 -- The table of n pieces in a slice of words: n indices, and behind them the pieces, four words each.
-use Rattle.std.specs.Prelude.{◌≡◌, List, [], ◌∷◌, map, ℕ, zero, suc, ◌+◌, ◌-◌, ◌*◌, ◌/◌, ◌%◌, ◌≤◌, ◌<◌, length, get_or, set, take, drop}
+use Rattle.std.specs.Prelude.{◌≡◌, List, [], ◌∷◌, map, ℕ, zero, suc, ◌+◌, ◌*◌, ◌≤◌, ◌<◌, length, get_or, take, drop}
 use Rattle.laws.specs.Lists.{All}
 use Rattle.laws.specs.Sort.{sort_by}
-use Rattle.floats.specs.TotalOrder.{float_at}
 use Rattle.drawing.specs.Entries.{SegmentColumns, segments}
 use Rattle.drawing.specs.Inner.Entries.{segment_at}
 use Rattle.drawing.specs.Inner.Lengths.{SegmentsAgree}
+use Rattle.drawing.specs.Inner.Typed.{SegmentsTyped}
 use Rattle.drawing.specs.Held.{FitSegment}
-use Rattle.drawing.specs.Outputs.{written_over}
 use Rattle.joining.specs.declared.piece.Piece.{Piece}
 use Rattle.joining.specs.Inner.Pieces.{piece_of}
 use Rattle.joining.specs.Joined.{canonical_zeros, is_in_order}
@@ -34,6 +33,7 @@ pub record Lists (c : SegmentColumns) (m : ℕ) : Type 0 where
   pub agree : SegmentsAgree c
   pub few : length c.net ≤ 4096
   pub fit : All FitSegment (segments c)
+  pub typed : SegmentsTyped c
   pub room : 5 * length c.net ≤ m
 
 -- the first i segments are in the table
@@ -51,25 +51,3 @@ pub record Tabled (n : ℕ) (a : List ℕ) : Type 0 where
 pub record TableInOrder (c : SegmentColumns) (a : List ℕ) : Type 0 where
   pub tabled : Tabled (length c.net) a
   pub entries : entries_from (length c.net) a 0 (length c.net) ≡ map piece_of (sort_by is_in_order (map canonical_zeros (segments c)))
-
--- ---- the columns that are written
-unfoldable pub net_of : Piece → ℕ
-net_of p = p.net_and_orientation / 2 % 4294967296
-
-unfoldable pub orientation_of : Piece → ℕ
-orientation_of p = 1 - p.net_and_orientation % 2
-
-unfoldable pub written_pieces : List Piece → SegmentColumns → SegmentColumns
-written_pieces l c = record { net = written_over net_of l c.net; orientation = written_over orientation_of l c.orientation; fixed = written_over (λ (p : Piece). float_at p.fixed) l c.fixed; start = written_over (λ (p : Piece). float_at p.start) l c.start; end = written_over (λ (p : Piece). float_at p.end) l c.end }
-
--- one piece at an index
-unfoldable pub put_piece : SegmentColumns → ℕ → Piece → SegmentColumns
-put_piece c at p = record { net = set c.net at (net_of p); orientation = set c.orientation at (orientation_of p); fixed = set c.fixed at (float_at p.fixed); start = set c.start at (float_at p.start); end = set c.end at (float_at p.end) }
-
--- each column has room for so many entries
-pub record Room (n : ℕ) (c : SegmentColumns) : Type 0 where
-  pub net : n ≤ length c.net
-  pub orientation : n ≤ length c.orientation
-  pub fixed : n ≤ length c.fixed
-  pub start : n ≤ length c.start
-  pub end : n ≤ length c.end

@@ -1,9 +1,6 @@
--- `replay::replay` is safe and ends. The measure is the number of turns left; each turn counts at most one record. Assumes nothing.
-use Prim.Native.Nat.{◌+◌, ◌≤◌}
+-- `replay::replay` is safe: each turn counts at most one record.
+use Rattle.std.proofs.Common.{◌+◌, ◌≤◌}
 use Rattle.replay.proofs.replay.Given as goal
 
-abbrev pub invariant-loop-left : goal.invariant-loop-left
-invariant-loop-left g l = l.agree + l.differ + l.left ≤ 18446744073709551615
-
-abbrev pub decreases-loop-left : goal.decreases-loop-left
-decreases-loop-left g l = l.left
+abbrev pub invariant-loop-turn : goal.invariant-loop-turn
+invariant-loop-turn g l = l.tally.agree + l.tally.differ ≤ l._turn

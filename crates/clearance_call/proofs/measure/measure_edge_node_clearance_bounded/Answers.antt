@@ -29,7 +29,7 @@ returns c =
     let passed : passes s n e c.args.threshold (length c.args.scratch.now) = sym c.check_clearance.ensures ∙ told in
     let z = sizes s n e _ _ passed in
     let lent : Lent s n c.args.threshold = record {
-      segments-held = c.held.ensures z.segments;
+      segments-held = c.held.ensures.floats z.segments;
       nodes-held = c.held-2.ensures z.nodes;
       threshold-held = search rules;
     } in

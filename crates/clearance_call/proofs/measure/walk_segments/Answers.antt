@@ -91,7 +91,7 @@ walk_all-requires c =
     let n = lent_nodes c.args.nodes.now in
     let z = sizes s n _ _ _ c.requires in
     let lent : Lent s n c.args.threshold = record {
-      segments-held = c.held.ensures z.segments;
+      segments-held = c.held.ensures.floats z.segments;
       nodes-held = c.held-2.ensures z.nodes;
       threshold-held = search rules;
     } in
@@ -112,7 +112,7 @@ returns-clause-outcome c =
     let n = lent_nodes c.args.nodes.now in
     let z = sizes s n _ _ _ c.requires in
     let lent : Lent s n c.args.threshold = record {
-      segments-held = c.held.ensures z.segments;
+      segments-held = c.held.ensures.floats z.segments;
       nodes-held = c.held-2.ensures z.nodes;
       threshold-held = search rules;
     } in

@@ -1,5 +1,4 @@
 -- `density_call::ranges::fill_ranges` meets its contract: after j iterations the first j ranges are written, and the last of them is where the next search begins. Assumes nothing.
-use Prim.Native.Nat.{◌-◌}
 use Rattle.density_call.proofs.RangeSearch.{Filling}
 use Rattle.density_call.proofs.ranges.fill_ranges.Given as goal
 

@@ -1,10 +1,6 @@
 -- `join_call::table::count_pieces` meets its contract: what is counted and what is left make up the whole. Assumes nothing.
-use Prim.Native.Nat.{◌-◌}
 use Rattle.join_call.proofs.Runs.{Counting}
 use Rattle.join_call.proofs.table.count_pieces.Given as goal
 
 abbrev pub invariant-loop-k : goal.invariant-loop-k
 invariant-loop-k l = Counting l.a l.n l.c l.count l.k
-
-abbrev pub decreases-loop-k : goal.decreases-loop-k
-decreases-loop-k l = l.n - l.k

@@ -4,9 +4,6 @@ use Rattle.separation_call.proofs.SweepWork.{leaves-behind, pays_not, pays, take
 use mathlib.Core.Path.{refl}
 use Rattle.separation_call.proofs.sweep.leave.Goals as goal
 
-pub set-requires : goal.set-requires
-set-requires c = let a = c.args in let p = c.requires in record { leaves = leaves-behind a.n _ a.work.now c.end_net-summary.new.c c.end_net-summary.ensures.rest p.tree; index_lt_leaves = p.inside }
-
 pub returns-in_err-remaining : goal.returns-in_err-remaining
 returns-in_err-remaining c =
     let a = c.args in
