@@ -96,9 +96,6 @@ event_key c L s tabled e h = elim (le_or_lt (length L) e) [
 ]
 
 -- ---- an event from n on is a start
-pub event_starts : (s : List ℕ) (n e : ℕ) (state : Sweeping) → n ≤ e → AtEvent s n e state → AtEvent s n (n + (e - n)) state
-event_starts s n e state h a = subst (λ (k : ℕ). AtEvent s n k state) (sym (add-sub_of_le h)) a
-
 pub handled_start : (s t : List ℕ) (n e : ℕ) (state : Sweeping) (r : Result Sweeping Refusal) → n ≤ e → Handles s t n (n + (e - n)) state r → Handles s t n e state r
 handled_start s t n e state r h f = subst (λ (k : ℕ). Handles s t n k state r) (add-sub_of_le h) f
 
@@ -270,9 +267,6 @@ module _ (s₀ : List ℕ) (n allowance : ℕ) (a : AtFirst s₀ n) where
         let gap = f ∙ ap gap_of_float g.follows.least ∙ gap-again g.st.minimum_positive g.follows.held in
         let z : within allowance all ≡ left g.st state.remaining = loop_ends g.onwards (none_ahead s g.room g.tabled q h) in
         (λ i. Ok (record { congested_length = g.follows.congested i; pair_overlap_length = g.follows.overlap i; peak_close_neighbors = g.follows.peak i; minimum_positive = gap i; remaining = state.remaining })) ∙ sym (ap swept_of z)
-
-pub first_small : (s₀ : List ℕ) (n : ℕ) → AtFirst s₀ n → get_or s₀ 0 0 < 2 * n
-first_small s₀ n a = number_small s₀ n 0 a s₀ a.room a.tabled 0 (omega (arith, a.some))
 
 -- ---- the same for whatever wires the tables hold
 module _ (s₀ : List ℕ) (n allowance : ℕ) where

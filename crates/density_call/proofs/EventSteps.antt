@@ -9,9 +9,9 @@ use mathlib.Core.List.{List, map}
 use Prim.Native.Nat.{ℕ, ◌+◌, ◌-◌, ◌*◌, ◌^◌, ◌≤◌, ◌<◌, max}
 use native.Mathlib.Omega.{arith}
 use native.Mathlib.Nat.{le_of_eq}
-use lib.Dec.{T, eqb, ltb, le→leb}
+use lib.Dec.{eqb, ltb}
 use lib.IntN.{pos}
-use lib.Ieee.{Float, binary64, add, sub, mul, of_int, in_float}
+use lib.Ieee.{Float, binary64, add, sub, mul, of_int}
 use lib.ListN.{length, get_or, take, drop}
 use lib.Seq.{get_or-drop}
 use borrow.Author.Tests.{lt-ltb, le-ltb}
@@ -38,11 +38,6 @@ use Rattle.congestion.proofs.LeastGap.{held-lesser, held-fold, held-gap}
 use Rattle.congestion.proofs.RoundedSweep.{one-step}
 use Rattle.density_call.proofs.RowPlaces.{row-there, row-place, rows-length, own-congested, tables_stay}
 use Rattle.density_call.proofs.Marking.{activated-front, activated-rows, deactivated-front, deactivated-rows}
-
--- ---- numbers
-pub exact-count : (n : ℕ) → n ≤ 2 ^ 53 → T (in_float binary64 (pos n))
-unfolding in_float
-exact-count n h = le→leb n (2 ^ 53) h
 
 -- ---- the event of a number
 pub ends-at : (L : List Wire) (j : ℕ) → j < length L → event_at L j ≡ event true (item_at L j)

@@ -146,7 +146,7 @@ module _ (n j k : ℕ) (s : List ℕ) (inside : j < n) (room : 10 * n ≤ length
   abbrev stored : List ℕ
   stored = set s (8 * n + j) k
 
-  pub set_room : 9 * n ≤ length stored
+  set_room : 9 * n ≤ length stored
   set_room = omega (arith, length-set s (8 * n + j) k)
 
   lent-set : mid_of (9 * n) (length stored - 9 * n) stored ≡ drop (9 * n) s
@@ -159,9 +159,6 @@ module _ (n j k : ℕ) (s : List ℕ) (inside : j < n) (room : 10 * n ≤ length
   unfolding activated
   activates e h = written (λ l. inserted l j) e h
 
-  pub activates_long : (e : List ℕ) → e ≡ inserted (mid_of (9 * n) (length stored - 9 * n) stored) j → length (put_mid (9 * n) (length stored - 9 * n) stored e) ≡ length s
-  activates_long e h = ap length (activates e h) ∙ activated-long n j s inside room k
-
 module _ (n j : ℕ) (s : List ℕ) (inside : j < n) (room : 10 * n ≤ length s) where
   abbrev blank : List ℕ
   blank = set s (8 * n + j) 0
@@ -169,6 +166,3 @@ module _ (n j : ℕ) (s : List ℕ) (inside : j < n) (room : 10 * n ≤ length s
   pub deactivates : (e : List ℕ) → e ≡ removed (mid_of (9 * n) (length blank - 9 * n) blank) j → put_mid (9 * n) (length blank - 9 * n) blank e ≡ deactivated n j s
   unfolding deactivated
   deactivates e h = written n j 0 s inside room (λ l. removed l j) e h
-
-  pub deactivates_long : (e : List ℕ) → e ≡ removed (mid_of (9 * n) (length blank - 9 * n) blank) j → length (put_mid (9 * n) (length blank - 9 * n) blank e) ≡ length s
-  deactivates_long e h = ap length (deactivates e h) ∙ deactivated-long n j s inside room

@@ -2,17 +2,8 @@
 use borrow.Author.Rules.{rules}
 use mathlib.Core.Path.{refl}
 use Rattle.std.proofs.lemmas.Result.{err_from_is_err_and}
-use Rattle.density_call.proofs.EventLoop.{going_first, going_all, first_small, run_event, run_stops, run_next}
+use Rattle.density_call.proofs.EventLoop.{going_first, going_all, run_event, run_stops, run_next}
 use Rattle.density_call.proofs.run.run_events.Goals as goal
-
-pub overflow_add-n : goal.overflow_add-n
-overflow_add-n c = let h = first_small _ _ c.requires in search (rules, h)
-
-pub offset_bounds-s-n : goal.offset_bounds-s-n
-offset_bounds-s-n c = let h = first_small _ _ c.requires in search (rules, h)
-
-pub bounds-s-n : goal.bounds-s-n
-bounds-s-n c = let h = first_small _ _ c.requires in search (rules, h)
 
 pub loop-q-init : goal.loop-q-init
 loop-q-init c = (refl, λ a. going_first _ _ _ a _ _ c.float_of_key.ensures c.no_gap.ensures)
