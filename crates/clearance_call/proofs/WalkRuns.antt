@@ -3,9 +3,8 @@ use Rattle.drawing.specs.declared.refusal.Refusal.{Refusal}
 use Rattle.std.specs.Prelude.{Result, Ok, Err, Option, Some, None}
 use mathlib.Core.Path.{◌≡◌, refl, sym, ap, subst, ◌∙◌}
 use mathlib.Core.List.{List, ◌∷◌, map}
-use Prim.Native.Nat.{ℕ, ◌+◌, ◌-◌, ◌≤◌, ◌<◌, ◌^◌}
+use Prim.Native.Nat.{ℕ, ◌+◌, ◌≤◌, ◌<◌, ◌^◌}
 use native.Mathlib.Omega.{arith}
-use borrow.Rule.Slice.PartMut.{mid_of}
 use lib.Ieee.{Float, nan}
 use lib.ListN.{length, get_or, take, drop}
 use Rattle.laws.specs.Charged.{Charged, runs}
@@ -34,8 +33,8 @@ pub rising-of : (packed : List ℕ) (k : ℕ) → HoldsCount packed k → Rising
 rising-of packed k h = subst (Rising packed) h.count h.holds.rising
 
 -- the marks that count, as they are lent
-pub marks_lent : (marks : List ℕ) (n : ℕ) (groups w : List ℕ) (ex : List Exemption) (net : ℕ) → MarksOf (take n marks) groups w ex net → MarksOf (mid_of 0 (n - 0) marks) groups w ex net
-marks_lent marks n groups w ex net h = let e : n ≡ n - 0 = omega arith in subst (λ (x : ℕ). MarksOf (take x marks) groups w ex net) e h
+pub marks_lent : (lent marks : List ℕ) (n : ℕ) (groups w : List ℕ) (ex : List Exemption) (net : ℕ) → lent ≡ take n marks → MarksOf (take n marks) groups w ex net → MarksOf lent groups w ex net
+marks_lent lent marks n groups w ex net e h = subst (λ (l : List ℕ). MarksOf l groups w ex net) (sym e) h
 
 -- one segment may be walked over the whole tree
 pub walkable_whole : (s : Segment) (w : List ℕ) (m : ℕ) (d : Float) (p b : Aabb) (st : Walking) → Part w 0 m → p ≡ segment_box s → ((k : ℕ) → m ≤ k → b ≡ bounds_of (stored_tree k w 0 m)) → d ≡ distance p b → st.violations + st.remaining < 2 ^ 64
@@ -62,9 +61,9 @@ module _ (t : ℕ → Float) (w : List ℕ) (m : ℕ) (order packed groups : Lis
     pub stand : (ex : List Exemption) → Holds packed ex → length ex ≡ k → MarksIfAny (take used marks) groups w ex marked
     pub onwards : (ex : List Exemption) → Holds packed ex → length ex ≡ k → ComesTo (step ex) (within allowance (all_walks ex t w m order c)) (rest q) (so_far state) state.remaining
 
-  pub turned_none : SegmentPlaces order c → allowance < 2 ^ 64 → (state : Walking) → state.least ≡ nan → state.violations ≡ 0 → state.remaining ≡ allowance → (marks : List ℕ) → length marks ≡ 64 → Turned state marks 0 None 0
+  pub turned_none : SegmentPlaces order c → allowance < 2 ^ 64 → (state : Walking) → state.least ≡ nan → state.violations ≡ 0 → state.remaining ≡ allowance → (marks : List ℕ) (used : ℕ) (marked : Option ℕ) → length marks ≡ 64 → used ≡ 0 → marked ≡ None → Turned state marks used marked 0
   unfolding gap_of_float
-  turned_none p h state e v l marks long = record { turns = p; room = omega arith; below = omega arith; long = long; low = omega arith; stand = λ ex a b. tt; onwards = λ ex a b. record { come = λ i. within (l i) (runs (step ex) (record { least = gap_of_float (e i); violations = v i }) (rest 0)) } }
+  turned_none p h state e v l marks used marked long none no_net = record { turns = p; room = omega arith; below = omega arith; long = long; low = omega arith; stand = λ ex a b. subst (MarksIfAny (take used marks) groups w ex) (sym no_net) tt; onwards = λ ex a b. record { come = λ i. within (l i) (runs (step ex) (record { least = gap_of_float (e i); violations = v i }) (rest 0)) } }
 
   module _ (state : Walking) (marks : List ℕ) (used : ℕ) (marked : Option ℕ) (q : ℕ) (u : Turned state marks used marked q) (less : q < length c.net) (r : Result Walking Refusal)
       (e : (ex : List Exemption) → Holds packed ex → length ex ≡ k → outcome_of r ≡ within state.remaining (walk ex (t (segment_at c (get_or order q 0)).net) (segment_at c (get_or order q 0)) (stored_tree m w 0 m) (so_far state))) where
@@ -75,15 +74,15 @@ module _ (t : ℕ → Float) (w : List ℕ) (m : ℕ) (order packed groups : Lis
     unfolding outcome_of
     turned_stopped why x ex a b = sym (loop_stops (u.onwards ex a b) next (sym (ap outcome_of (sym x) ∙ e ex a b)))
 
-    pub turned_next : HoldsCount packed k → (after : List ℕ) (n net : ℕ) → length after ≡ 64 → n ≤ 64 → ((ex : List Exemption) → Holds packed ex → length ex ≡ k → MarksOf (take n after) groups w ex net) → (v : Walking) → r ≡ Ok v → Turned v after n (Some net) (q + 1)
+    pub turned_next : HoldsCount packed k → (after : List ℕ) (n net : ℕ) (now : Option ℕ) → now ≡ Some net → length after ≡ 64 → n ≤ 64 → ((ex : List Exemption) → Holds packed ex → length ex ≡ k → MarksOf (take n after) groups w ex net) → (v : Walking) → r ≡ Ok v → Turned v after n now (q + 1)
     unfolding outcome_of
-    turned_next held after n net long low fresh v x = record {
+    turned_next held after n net now is long low fresh v x = record {
       turns = u.turns;
       room = omega (arith, u.room, walk-room held.ex (t (segment_at c (get_or order q 0)).net) (segment_at c (get_or order q 0)) (stored_tree m w 0 m) state r (e held.ex held.holds held.count) v x);
       below = omega arith;
       long = long;
       low = low;
-      stand = λ ex a b. fresh ex a b;
+      stand = λ ex a b. subst (MarksIfAny (take n after) groups w ex) (sym is) (fresh ex a b);
       onwards = λ ex a b. loop_next (u.onwards ex a b) next (sym (ap outcome_of (sym x) ∙ e ex a b));
     }
 

@@ -1,6 +1,6 @@
 // Marks of the ids that are exempt for a net, one bit for each id of a leaf. The segments are walked in the order of their nets, so the marks are made once for each net, and a visit reads one bit instead of searching the net's exemptions.
 // The leaves' ids are stored in ascending order. The group of a leaf is the first index of its id there: leaves of one id have one group, whose bit is their mark, so an exemption takes one step however many leaves share its id.
-ghost use Rattle.std.specs.Prelude.{◌≡◌, List, ℕ, ◌≤◌, ◌<◌, length, get_or, take};
+ghost use Rattle.std.specs.Prelude.{◌≡◌, List, ℕ, ◌≤◌, ◌<◌, length, get_or, take, Some, None};
 ghost use Rattle.bitset.specs.Inner.Members.{member};
 ghost use Rattle.drawing.specs.Entries.{Exemption};
 ghost use Rattle.exemptions.specs.Inner.Exempting.{Rising, Holds};
@@ -12,7 +12,7 @@ use exemptions::{HALF, first_at_least, net_range};
 use sorting::sort_indices;
 
 // Words of marks, for 4,096 leaves.
-pub(crate) const MARK_WORDS: usize = 64;
+const MARK_WORDS: usize = 64;
 
 // Puts the ids of the m leaves in ascending order, in the first words of s. The tree follows 11 words for each leaf.
 fn sort_ids(s: &mut [u64], m: usize)
@@ -74,23 +74,46 @@ fn mark_net(marks: &mut [u64], net: u32, packed: &[u64], ids: &[u64]) -> usize
     MARK_WORDS
 }
 
-// The same where the first `used` words are the marks of the net `marked`, if there is one: they are kept for that net, and made anew for another one.
-pub(crate) fn renew_marks(
-    marks: &mut [u64],
+// The marks of the net that was walked last, if there was one: the first `used` words.
+#[derive(Drop)]
+pub(crate) struct Marks {
+    words: [u64; MARK_WORDS],
     used: usize,
-    marked: Option<u32>,
-    net: u32,
-    packed: &[u64],
-    ids: &[u64],
-) -> usize
-    requires marks_and_order { (length marks.old ≡ 64) × Rising packed.now (length packed.now) × (0 < length packed.now → Rising ids.now (length ids.now)) }
-    requires used_at_most { used ≤ 64 }
-    ensures { (result ≤ 64) × ((ex : List Exemption) (groups w : List ℕ) → Holds packed.now ex → length ex ≡ length packed.now → (0 < length packed.now → Grouped ids.now groups w (length ids.now)) → MarksIfAny (take used marks.old) groups w ex marked → MarksOf (take result marks.new) groups w ex net) }
-{
-    if marked == Some(net) {
-        return used;
+    net: Option<u32>,
+}
+
+impl Marks {
+    // No net yet.
+    pub(crate) fn none() -> Marks
+        ensures { (length result.words ≡ 64) × (result.used ≡ 0) × (result.net ≡ None) }
+    {
+        Marks {
+            words: [0; MARK_WORDS],
+            used: 0,
+            net: None,
+        }
     }
-    mark_net(marks, net, packed, ids)
+
+    // The marks are kept for the same net, and made anew for another one.
+    pub(crate) fn renew(&mut self, net: u32, packed: &[u64], ids: &[u64])
+        requires marks_and_order { (length self.old.words ≡ 64) × Rising packed.now (length packed.now) × (0 < length packed.now → Rising ids.now (length ids.now)) }
+        requires used_at_most { self.old.used ≤ 64 }
+        ensures { (length self.new.words ≡ 64) × (self.new.used ≤ 64) × (self.new.net ≡ Some net) × ((ex : List Exemption) (groups w : List ℕ) → Holds packed.now ex → length ex ≡ length packed.now → (0 < length packed.now → Grouped ids.now groups w (length ids.now)) → MarksIfAny (take self.old.used self.old.words) groups w ex self.old.net → MarksOf (take self.new.used self.new.words) groups w ex net) }
+    {
+        if self.net == Some(net) {
+            return;
+        }
+        self.used = mark_net(&mut self.words, net, packed, ids);
+        self.net = Some(net);
+    }
+
+    // The words of the marks.
+    pub(crate) fn words(&self) -> &[u64]
+        requires { self.now.used ≤ length self.now.words }
+        ensures { result.now ≡ take self.now.used self.now.words }
+    {
+        &self.words[0..self.used]
+    }
 }
 
 // Whether leaf i is marked. Where the net has no exemptions there are no marks, and the leaf's group is not read.

@@ -13,7 +13,7 @@ ghost use Rattle.clearance_call.specs.Inner.Marks.{Grouped, MarksOf};
 ghost use Rattle.clearance.specs.Inner.State.{so_far, outcome_of};
 ghost use Rattle.clearance_call.specs.Inner.Walking.{Part, NetMarks, HoldsCount, SegmentPlaces, all_walks};
 
-use crate::marks::{MARK_WORDS, renew_marks};
+use crate::marks::Marks;
 use crate::walk::{bounds_of, visit_segment_candidates};
 use boxes::Aabb;
 use clearance::{Subtree, Walking, at_start};
@@ -69,19 +69,16 @@ pub(crate) fn walk_all(
     ensures refusal { IfErr result (λ r. r ≡ WorkLimitExceeded) }
 {
     let mut state = at_start(allowance);
-    let mut marks = [0; MARK_WORDS];
-    let mut used = 0;
-    let mut marked = None;
+    let mut marks = Marks::none();
     for q in 0..segments.net.len() {
         let segment = segments.at(order[q] as usize);
-        used = renew_marks(&mut marks, used, marked, segment.net, packed, ids);
-        marked = Some(segment.net);
+        marks.renew(segment.net, packed, ids);
         state = walk_segment(
             tree,
             ids.len(),
             segment,
             threshold,
-            &marks[0..used],
+            marks.words(),
             groups,
             state,
         )?;

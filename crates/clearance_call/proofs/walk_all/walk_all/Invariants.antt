@@ -5,4 +5,4 @@ use Rattle.clearance_call.proofs.WalkRuns.{Turned}
 use Rattle.clearance_call.proofs.walk_all.walk_all.Given as goal
 
 abbrev pub invariant-loop-q : goal.invariant-loop-q
-invariant-loop-q l = Turned (λ _. l.threshold) l.tree (length l.ids) l.order l.packed l.groups (length l.packed) (lent_segments l.segments) l.allowance l.state l.marks l.used l.marked l.q
+invariant-loop-q l = Turned (λ _. l.threshold) l.tree (length l.ids) l.order l.packed l.groups (length l.packed) (lent_segments l.segments) l.allowance l.state l.marks.words l.marks.used l.marks.net l.q
