@@ -1,5 +1,4 @@
 -- The visits of the leaves of a part, one after another: the loop, step by step; and that they are the part's walk where its farthest edges are below the threshold. Assumes nothing.
-use Rattle.drawing.specs.declared.refusal.Refusal.TheVariants.{WorkLimitExceeded}
 use Rattle.drawing.specs.declared.refusal.Refusal.{Refusal}
 use Rattle.std.specs.Prelude.{Result, Ok, Err}
 use mathlib.Core.Path.{◌≡◌, sym, ap, subst, ◌∙◌}

@@ -26,7 +26,7 @@ use Rattle.drawing.proofs.EntryLaws.{length-segments, segments-at}
 use Rattle.drawing.specs.Held.{SegmentHeld}
 use Rattle.drawing.proofs.ListOrders.{segment-row-one}
 use Rattle.boxes.specs.declared.aabb.Aabb.{Aabb}
-use Rattle.boxes.specs.Boxes.{from_node, node_box}
+use Rattle.boxes.specs.Boxes.{node_box}
 use Rattle.clearance.specs.Tree.{IndexedNode, indexed, indexed_row}
 use Rattle.clearance_call.specs.Inner.LeafOrder.{indexed_at}
 use Rattle.clearance_call.specs.Inner.Tables.{node_row_at, segment_row_at, Filled, NodesFilled, SegmentsOrdered}

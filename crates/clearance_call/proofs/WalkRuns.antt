@@ -1,5 +1,4 @@
 -- The walks of all segments, one after another: the loop, step by step. Assumes nothing.
-use Rattle.drawing.specs.declared.refusal.Refusal.TheVariants.{WorkLimitExceeded}
 use Rattle.drawing.specs.declared.refusal.Refusal.{Refusal}
 use Rattle.std.specs.Prelude.{Result, Ok, Err, Option, Some, None}
 use mathlib.Core.Path.{◌≡◌, refl, sym, ap, subst, ◌∙◌}

@@ -49,13 +49,11 @@ fn walk_segments(
     prepare_nodes(&mut scratch[first..last], nodes, k);
     walk_all(
         &scratch[first + 11 * m..last],
-        m,
         &scratch[0..],
         segments,
         threshold,
-        &packed,
-        k,
-        &scratch[first..last],
+        &packed[0..k],
+        &scratch[first..first + m],
         &scratch[first + m..last],
         allowance,
     )

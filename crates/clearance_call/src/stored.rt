@@ -38,14 +38,14 @@ pub(crate) fn fit_box_from(words: &[u64], p: usize) -> Aabb
 }
 
 // Stores a box's edges from word p on.
-fn put_box(words: &mut [u64], p: usize, left: f64, top: f64, right: f64, bottom: f64)
+fn put_box(words: &mut [u64], p: usize, bounds: Aabb)
     requires { p + 4 ≤ length words.old }
-    ensures { BoxPut words.old words.new p (record { left = left; top = top; right = right; bottom = bottom }) }
+    ensures { BoxPut words.old words.new p bounds }
 {
-    words[p] = bits_of(left);
-    words[p + 1] = bits_of(top);
-    words[p + 2] = bits_of(right);
-    words[p + 3] = bits_of(bottom);
+    words[p] = bits_of(bounds.left);
+    words[p + 1] = bits_of(bounds.top);
+    words[p + 2] = bits_of(bounds.right);
+    words[p + 3] = bits_of(bounds.bottom);
 }
 
 // Stores a leaf from word p on.
@@ -53,14 +53,7 @@ fn put_leaf(words: &mut [u64], p: usize, id: u32, bounds: Aabb)
     requires { p + 9 ≤ length words.old }
     ensures { LeafPut words.old words.new p (record { id = id; bounds = bounds }) }
 {
-    put_box(
-        words,
-        p,
-        bounds.left,
-        bounds.top,
-        bounds.right,
-        bounds.bottom,
-    );
+    put_box(words, p, bounds);
     words[p + 8] = id as u64;
 }
 
@@ -88,13 +81,6 @@ pub(crate) fn put_splits(words: &mut [u64], i: usize, n: usize) -> Aabb
     let left = put_splits(words, i, half);
     let right = put_splits(words, i + half, n - half);
     let bounds = left.union(right);
-    put_box(
-        words,
-        9 * (i + half) + 4,
-        bounds.left,
-        bounds.top,
-        bounds.right,
-        bounds.bottom,
-    );
+    put_box(words, 9 * (i + half) + 4, bounds);
     bounds
 }

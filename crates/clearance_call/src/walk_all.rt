@@ -50,24 +50,22 @@ fn walk_segment(
     visit_segment_candidates(tree, whole, bounds, threshold, marks, groups, state)
 }
 
-// The segments' indices are in the first words of `order`, the k exemptions in those of `packed`, and the leaves' ids and groups in those of `ids` and `groups` where there are exemptions.
+// The segments' indices are in the first words of `order`, and the exemptions are the words of `packed`. `ids` has a word for each leaf: where there are exemptions, the leaves' ids in order, and then the leaves' groups are in the first words of `groups`.
 pub(crate) fn walk_all(
     tree: &[u64],
-    m: usize,
     order: &[u64],
     segments: &Segments<'_>,
     threshold: f64,
     packed: &[u64],
-    k: usize,
     ids: &[u64],
     groups: &[u64],
     allowance: usize,
 ) -> Result<Walking, Refusal>
-    requires part { Part tree.now 0 m × (m ≤ 4096) }
+    requires part { Part tree.now 0 (length ids.now) × (length ids.now ≤ 4096) }
     requires segment_places { SegmentPlaces order.now (lent_segments segments.now) }
-    requires held_and_grouped { HoldsCount packed.now k × (0 < k → Grouped ids.now groups.now tree.now m) × (length tree.now ≤ 9 * length groups.now) }
-    requires nested { Nested (stored_tree m tree.now 0 m) }
-    ensures outcome { (ex : List Exemption) → Holds packed.now ex → length ex ≡ k → outcome_of result ≡ within allowance (all_walks ex (λ _. threshold) tree.now m order.now (lent_segments segments.now)) }
+    requires held_and_grouped { HoldsCount packed.now (length packed.now) × (0 < length packed.now → Grouped ids.now groups.now tree.now (length ids.now)) × (length tree.now ≤ 9 * length groups.now) }
+    requires nested { Nested (stored_tree (length ids.now) tree.now 0 (length ids.now)) }
+    ensures outcome { (ex : List Exemption) → Holds packed.now ex → length ex ≡ length packed.now → outcome_of result ≡ within allowance (all_walks ex (λ _. threshold) tree.now (length ids.now) order.now (lent_segments segments.now)) }
     ensures refusal { IfErr result (λ r. r ≡ WorkLimitExceeded) }
 {
     let mut state = at_start(allowance);
@@ -76,9 +74,17 @@ pub(crate) fn walk_all(
     let mut marked = None;
     for q in 0..segments.net.len() {
         let segment = segments.at(order[q] as usize);
-        used = renew_marks(&mut marks, used, marked, segment.net, packed, k, ids, m);
+        used = renew_marks(&mut marks, used, marked, segment.net, packed, ids);
         marked = Some(segment.net);
-        state = walk_segment(tree, m, segment, threshold, &marks[0..used], groups, state)?;
+        state = walk_segment(
+            tree,
+            ids.len(),
+            segment,
+            threshold,
+            &marks[0..used],
+            groups,
+            state,
+        )?;
     }
     Ok(state)
 }

@@ -1,13 +1,17 @@
 // The lists of a drawing as columns, as they are lent: a slice for each field of the entries. SCOPE 2.1 to 2.3, 2.5.
 // The columns of one list may differ in length. A call then refuses them (SCOPE 7.2).
-ghost use Rattle.std.specs.Prelude.{◌≡◌, ℕ, ◌<◌, get_or, length};
+ghost use Rattle.std.specs.Prelude.{◌≡◌, ℕ, ◌^◌, ◌<◌, get_or, length};
 ghost use Rattle.std.specs.Float.{nan};
 ghost use Rattle.drawing.specs.Entries.{lent_segments, lent_nodes};
 ghost use Rattle.drawing.specs.Inner.Entries.{lent_at, node_at};
 ghost use Rattle.drawing.specs.Inner.Lengths.{SegmentsAgree, NodesAgree};
 ghost use Rattle.drawing.specs.Held.{Binary64, SegmentsHeld, NodesHeld};
 
-// The type of a column says that its floats are values of binary64, but a proof is told so only of a function's own slices. These two functions, and `held` of the lists, hand it on to where a list came as a struct. They do nothing.
+// The type of a column says what its numbers can be, but a proof is told so only of a function's own slices. These two functions, and `held` of the lists, hand it on to where a list came as a struct. They do nothing.
+fn nets_held(column: &[u32])
+    ensures { (i : ℕ) → get_or column.now i 0 < 2 ^ 32 }
+{}
+
 fn floats_held(column: &[f64])
     ensures { (i : ℕ) → Binary64 (get_or column.now i nan) }
 {}
@@ -56,10 +60,12 @@ impl Segments<'_> {
         }
     }
 
-    // The floats of the segments, as they are taken, are values of binary64.
+    // The floats of the segments, as they are taken, are values of binary64, and nets have 32 bits.
     pub fn held(&self)
-        ensures { SegmentsAgree (lent_segments self.now) → SegmentsHeld (lent_segments self.now) }
+        ensures floats { SegmentsAgree (lent_segments self.now) → SegmentsHeld (lent_segments self.now) }
+        ensures nets { (i : ℕ) → get_or (lent_segments self.now).net i 0 < 2 ^ 32 }
     {
+        nets_held(self.net);
         floats_held(self.fixed);
         floats_held(self.start);
         floats_held(self.end);

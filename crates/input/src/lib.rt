@@ -13,6 +13,7 @@ pub fn read_full<R: Read>(input: &mut R, buffer: &mut [u8]) -> io::Result<usize>
     ensures full_or_end { IfOk result (λ n. n < length buffer.new → IsAtEnd (R.remaining input.new)) }
 {
     let mut n = 0;
+    // A while: a turn moves on by as many bytes as it read.
     while n < buffer.len() {
         let more = input.read(&mut buffer[n..])?;
         if more == 0 {

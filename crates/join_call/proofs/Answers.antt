@@ -4,11 +4,11 @@ use mathlib.Core.Path.{◌≡◌, refl, sym, ap, ◌∙◌}
 use mathlib.Core.Logic.{inl, inr}
 use mathlib.Core.Bool.{Bool, true, false, not}
 use mathlib.Core.List.{List, [], ◌∷◌, ◌++◌, map}
-use Prim.Native.Nat.{ℕ, zero, suc, ◌+◌, ◌-◌, ◌*◌, ◌/◌, ◌%◌, ◌≤◌, ◌<◌}
+use Prim.Native.Nat.{ℕ, ◌+◌, ◌-◌, ◌*◌, ◌/◌, ◌%◌, ◌^◌, ◌≤◌, ◌<◌}
 use native.Mathlib.Omega.{arith}
 use lib.Dec.{ltb}
 use lib.Ieee.{Float}
-use lib.ListN.{length, drop, length-map}
+use lib.ListN.{length, drop, length-map, get_or}
 use borrow.Author.Tests.{ltb-false, le-ltb}
 use Rattle.laws.specs.Lists.{Mem, All, put}
 use Rattle.laws.specs.Sort.{sort_by}
@@ -25,7 +25,6 @@ use Rattle.drawing.specs.Conditions.{short_output}
 use Rattle.drawing.specs.Checks.{segment_list_conditions}
 use Rattle.drawing.specs.Held.{SegmentsHeld}
 use Rattle.drawing.specs.Inner.Lengths.{SegmentsAgree}
-use Rattle.drawing.specs.Inner.Typed.{SegmentsTyped}
 use Rattle.drawing.specs.Outputs.{written_over}
 use Rattle.drawing.proofs.EntryLaws.{length-segments}
 use Rattle.drawing.proofs.ListOrders.{segments-all, segments-held}
@@ -39,7 +38,7 @@ use Rattle.joining.proofs.Canonical.{Canonical}
 use Rattle.joining.proofs.JoinedLists.{joined_canonical, joined-all, no_more}
 use Rattle.joining.specs.declared.piece.Piece.{Piece}
 use Rattle.joining.specs.Inner.Pieces.{piece_of, touches_piece, next_piece, join_pieces_from, joined_pieces}
-use Rattle.join_call.specs.Inner.Table.{entries_from, Lists, TableInOrder}
+use Rattle.join_call.specs.Inner.Table.{Lists}
 use Rattle.join_call.specs.declared.output.Output.{Output}
 use Rattle.join_call.specs.Inner.Output.{held, net_of, orientation_of, written_pieces, Room}
 use Rattle.join_call.specs.Inner.Rest.{rest_answer, rest_output}
@@ -94,15 +93,18 @@ pub joined_small : (l : List Segment) → All Small l → All Small (joined l)
 joined_small l h = joined-all Small extended-small l (canonical_small l h)
 
 -- ---- the pieces that the table joins to
-pub joined_words : (c : SegmentColumns) (a : List ℕ) → TableInOrder c a → joined_pieces (entries_from (length c.net) a 0 (length c.net)) ≡ map piece_of (joined (segments c))
+abbrev pub IsTable : SegmentColumns → List Piece → Type 0
+IsTable c l = l ≡ map piece_of (sort_by is_in_order (map canonical_zeros (segments c)))
+
+pub joined_words : (c : SegmentColumns) (l : List Piece) → IsTable c l → joined_pieces l ≡ map piece_of (joined (segments c))
 unfolding joined
-joined_words c a o = ap joined_pieces o.entries ∙ words_join (sort_by is_in_order (map canonical_zeros (segments c)))
+joined_words c l e = ap joined_pieces e ∙ words_join (sort_by is_in_order (map canonical_zeros (segments c)))
 
-pub joined-count : (c : SegmentColumns) (a : List ℕ) → TableInOrder c a → length (joined_pieces (entries_from (length c.net) a 0 (length c.net))) ≡ length (joined (segments c))
-joined-count c a o = ap length (joined_words c a o) ∙ length-map (joined (segments c)) piece_of
+pub joined-count : (c : SegmentColumns) (l : List Piece) → IsTable c l → length (joined_pieces l) ≡ length (joined (segments c))
+joined-count c l e = ap length (joined_words c l e) ∙ length-map (joined (segments c)) piece_of
 
-pub fewer : (c : SegmentColumns) (a : List ℕ) (count : ℕ) → SegmentsAgree c → TableInOrder c a → count ≡ length (joined_pieces (entries_from (length c.net) a 0 (length c.net))) → count ≤ length c.net
-fewer c a count g o e = omega (arith, joined-count c a o, no_more (segments c), length-segments c g)
+pub fewer : (c : SegmentColumns) (l : List Piece) (count : ℕ) → SegmentsAgree c → IsTable c l → count ≡ length (joined_pieces l) → count ≤ length c.net
+fewer c l count g t e = omega (arith, joined-count c l t, no_more (segments c), length-segments c g)
 
 -- ---- no more pieces than segments
 run_few : (c : Piece) (l : List Piece) → length (join_pieces_from c l) ≤ length l + 1
@@ -114,33 +116,19 @@ run_few c (x ∷ l) = few (not (touches_piece c x)) (join_pieces_from (next_piec
     few true r h = omega arith
     few false r h = omega arith
 
-pieces-few : (l : List Piece) → length (joined_pieces l) ≤ length l
+pub pieces-few : (l : List Piece) → length (joined_pieces l) ≤ length l
 unfolding joined_pieces
 pieces-few [] = omega arith
 pieces-few (x ∷ l) = let h = run_few x l in omega arith
 
-entries-length : (n : ℕ) (a : List ℕ) (k m : ℕ) → length (entries_from n a k m) ≡ m
-unfolding entries_from
-entries-length n a k zero = refl
-entries-length n a k (suc m) = ap suc (entries-length n a (k + 1) m)
-
 -- ---- what is short for the pieces is short for the segments
-pub room-enough : (n : ℕ) (a : List ℕ) (l : List ℕ) → short_output n l ≡ false → short_output (length (joined_pieces (entries_from n a 0 n))) l ≡ false
+pub room-enough : (p : List Piece) (l : List ℕ) → short_output (length p) l ≡ false → short_output (length (joined_pieces p)) l ≡ false
 unfolding short_output
-room-enough n a l e = all_none (λ (m : ℕ). ltb m count) l (each l (none-all (λ (m : ℕ). ltb m n) l e))
+room-enough p l e = all_none (λ (m : ℕ). ltb m (length (joined_pieces p))) l (each l (none-all (λ (m : ℕ). ltb m (length p)) l e))
   where
-    count : ℕ
-    count = length (joined_pieces (entries_from n a 0 n))
-
-    fewer : count ≤ n
-    fewer = omega (arith, pieces-few (entries_from n a 0 n), entries-length n a 0 n)
-
-    each : (l : List ℕ) → All (λ k. ltb k n ≡ false) l → All (λ k. ltb k count ≡ false) l
+    each : (l : List ℕ) → All (λ k. ltb k (length p) ≡ false) l → All (λ k. ltb k (length (joined_pieces p)) ≡ false) l
     each [] h = tt
-    each (k ∷ l) h = (le-ltb k count (omega (arith, fewer, ltb-false k n h.0)), each l h.1)
-
-pub short-is : (b v : Bool) (count m : ℕ) (l : List ℕ) → b ≡ short_output count l → b ≡ v → count ≡ m → short_output m l ≡ v
-short-is b v count m l e f g = ap (λ (z : ℕ). short_output z l) (sym g) ∙ sym e ∙ f
+    each (k ∷ l) h = (le-ltb k (length (joined_pieces p)) (omega (arith, pieces-few p, ltb-false k (length p) h.0)), each l h.1)
 
 -- ---- room where the shortest column is long enough
 pub has_room : (n : ℕ) (c : SegmentColumns) → short_output n (output_lengths c) ≡ false → Room n c
@@ -162,15 +150,13 @@ module _ (c out : SegmentColumns) where
   unfolding rest_answer rest_output
   all-written s = (sym (cond_false _ (Err ShortOutput) (joined_of (segments c)) s), sym (cond_false _ out (written (joined (segments c)) out) s))
 
-  pub finished : (new : SegmentColumns) (a : List ℕ) (count m : ℕ) → Lists c m → TableInOrder c a
-      → count ≡ length (joined_pieces (entries_from (length c.net) a 0 (length c.net))) → short_output (length (joined_pieces (entries_from (length c.net) a 0 (length c.net)))) (output_lengths out) ≡ false → new ≡ written_pieces (joined_pieces (entries_from (length c.net) a 0 (length c.net))) out
-      → Ended (Ok (record { pieces = count; gone = length c.net - count })) new
-  finished new a count m l o n s w =
-      let j = n ∙ joined-count c a o in
-      let r = all-written (ap (λ (z : ℕ). short_output z (output_lengths out)) (sym (joined-count c a o)) ∙ s) in
-      let small = segments-all Small c l.agree l.typed.net in
-      let back = ap (λ (z : List Piece). written_pieces z out) (joined_words c a o) ∙ written_back (joined (segments c)) out (joined_canonical (segments c) l.fit) (joined_small (segments c) small) in
-      ((λ i. Ok (record { pieces = j i; gone = sym (length-segments c l.agree) i - j i })) ∙ r.0, w ∙ back ∙ r.1)
+  pub finished : (new : SegmentColumns) (l : List Piece) (count m : ℕ) → Lists c m → IsTable c l → count ≡ length (joined_pieces l) → short_output (length (joined_pieces l)) (output_lengths out) ≡ false → new ≡ written_pieces (joined_pieces l) out → Ended (Ok (record { pieces = count; gone = length c.net - count })) new
+  finished new l count m p t n s w =
+      let j = n ∙ joined-count c l t in
+      let r = all-written (ap (λ (z : ℕ). short_output z (output_lengths out)) (sym (joined-count c l t)) ∙ s) in
+      let small = segments-all Small c p.agree p.nets in
+      let back = ap (λ (z : List Piece). written_pieces z out) (joined_words c l t) ∙ written_back (joined (segments c)) out (joined_canonical (segments c) p.fit) (joined_small (segments c) small) in
+      ((λ i. Ok (record { pieces = j i; gone = sym (length-segments c p.agree) i - j i })) ∙ r.0, w ∙ back ∙ r.1)
 
 -- ---- the whole call: what its checks returned decides
 module _ (c out : SegmentColumns) where
@@ -196,11 +182,11 @@ module _ (c out : SegmentColumns) where
   passed r new p h e = let q = rest-is p in (e.0 ∙ q.0, e.1 ∙ q.1, λ z. h)
 
 -- ---- what the checks leave known
-pub held_of : (c : SegmentColumns) → first_of (segment_list_conditions c) ≡ Ok tt → SegmentsTyped c → SegmentsHeld c
-held_of c e t = segments-held c (segment_list_passes c e).agree t.fixed t.start t.end
+pub held_of : (c : SegmentColumns) → first_of (segment_list_conditions c) ≡ Ok tt → (SegmentsAgree c → SegmentsHeld c) → SegmentsHeld c
+held_of c e h = h (segment_list_passes c e).agree
 
-pub lists_of : (c : SegmentColumns) (m : ℕ) → first_of (segment_list_conditions c) ≡ Ok tt → SegmentsTyped c → 5 * length c.net ≤ m → Lists c m
-lists_of c m e t r = let p = segment_list_passes c e in record { agree = p.agree; few = p.few-segments; fit = fit-segments (segments c) (held_of c e t) p.fit; typed = t; room = r }
+pub lists_of : (c : SegmentColumns) (m : ℕ) → first_of (segment_list_conditions c) ≡ Ok tt → (SegmentsAgree c → SegmentsHeld c) → ((i : ℕ) → get_or c.net i 0 < 2 ^ 32) → 5 * length c.net ≤ m → Lists c m
+lists_of c m e h t r = let p = segment_list_passes c e in record { agree = p.agree; few = p.few-segments; fit = fit-segments (segments c) (held_of c e h) p.fit; nets = t; room = r }
 
 pub passes-few : (c : SegmentColumns) → first_of (segment_list_conditions c) ≡ Ok tt → length c.net ≤ 4096
 passes-few c e = (segment_list_passes c e).few-segments

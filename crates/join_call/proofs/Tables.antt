@@ -73,6 +73,18 @@ entries-map t a (suc n) k h =
     ap (λ (l : List Piece). placed t a k ∷ l) (entries-map t a n (k + 1) (omega arith) ∙ ap (λ (j : ℕ). map (λ i. piece_from a (t + 4 * i)) (take n (drop j a))) (add-one k))
     ∙ ap (λ (l : List ℕ). map (λ i. piece_from a (t + 4 * i)) (take (suc n) l)) (sym (drop-cons a k 0 (omega arith)))
 
+-- ---- the list of the pieces
+pub entries-length : (n : ℕ) (a : List ℕ) (k m : ℕ) → length (entries_from n a k m) ≡ m
+unfolding entries_from
+entries-length n a k zero = refl
+entries-length n a k (suc m) = ap suc (entries-length n a (k + 1) m)
+
+pub entries-at : (n : ℕ) (a : List ℕ) (k m i : ℕ) (x : Piece) (j : ℕ) → i < m → j ≡ k + i → get_or (entries_from n a k m) i x ≡ placed n a j
+unfolding entries_from
+entries-at n a k zero i x j h e = absurd (omega arith)
+entries-at n a k (suc m) zero x j h e = let p : k ≡ j = omega arith in ap (placed n a) p
+entries-at n a k (suc m) (suc i) x j h e = entries-at n a (k + 1) m i x j (omega arith) (omega arith)
+
 -- ---- the order of the rows is that of the pieces: the first word decides as net and orientation do
 unpacked : (n v m w : ℕ) (a b : List ℕ) → v ≤ 1 → w ≤ 1 → row_le ((2 * n + v) ∷ a) ((2 * m + w) ∷ b) ≡ true → row_le (n ∷ v ∷ a) (m ∷ w ∷ b) ≡ true
 unpacked n v m w a b p q h = elim (le_or_lt m n) [

@@ -3,7 +3,7 @@ use mathlib.Core.Path.{◌≡◌, refl, sym, ap, ◌∙◌, subst}
 use mathlib.Core.Logic.{◌⊎◌, inl, inr}
 use mathlib.Core.Bool.{Bool, true, false, not, cond}
 use mathlib.Core.List.{List, [], ◌∷◌, ◌++◌, map, map-append}
-use Prim.Native.Nat.{ℕ, suc, ◌+◌, ◌-◌, ◌≤◌, ◌<◌}
+use Prim.Native.Nat.{ℕ, suc, ◌+◌, ◌≤◌, ◌<◌}
 use native.Mathlib.Numerals.{add-one}
 use native.Mathlib.Omega.{arith}
 use lib.ListN.{length, get_or, set, drop, length-append, length-map, length-drop}
@@ -16,7 +16,6 @@ use Rattle.drawing.specs.Outputs.{written_over}
 use Rattle.joining.specs.declared.piece.Piece.{Piece}
 use Rattle.joining.specs.Inner.Pieces.{touches_piece, next_piece, begun, join_pieces_from, joined_pieces}
 use Rattle.join_call.specs.declared.output.Output.{Output}
-use Rattle.join_call.specs.Inner.Table.{placed, entries_from}
 use Rattle.join_call.specs.Inner.Output.{net_of, orientation_of, written_pieces, put_piece, Room, SameColumns}
 use Rattle.join_call.proofs.Runs.{left, left_next, left-last, whole-none, whole-first, put-length}
 
@@ -73,48 +72,48 @@ unfolding join_pieces_from
 run_some c [] = omega arith
 run_some c (x ∷ l) = let h = run_some (next_piece c x) l in let e = put-length (not (touches_piece c x)) c (join_pieces_from (next_piece c x) l) in omega arith
 
-pub record Writing (a : List ℕ) (n : ℕ) (old out : SegmentColumns) (c : Piece) (at k : ℕ) : Type 0 where
-  pub small : k ≤ n
+pub record Writing (l : List Piece) (old out : SegmentColumns) (c : Piece) (at k : ℕ) : Type 0 where
+  pub small : k ≤ length l
   pub fewer : at < k
   pub done : List Piece
-  pub whole : joined_pieces (entries_from n a 0 n) ≡ done ++ left a n k c
+  pub whole : joined_pieces l ≡ done ++ left l k c
   pub count : at ≡ length done
   pub is : out ≡ written_pieces done old
 
-pub write_none : (a : List ℕ) (n : ℕ) (old : SegmentColumns) → n ≡ 0 → old ≡ written_pieces (joined_pieces (entries_from n a 0 n)) old
-write_none a n old e = none_written old ∙ ap (λ (l : List Piece). written_pieces l old) (sym (whole-none a n e))
+pub write_none : (l : List Piece) (old : SegmentColumns) → length l ≡ 0 → old ≡ written_pieces (joined_pieces l) old
+write_none l old e = none_written old ∙ ap (λ (m : List Piece). written_pieces m old) (sym (whole-none l e))
 
-pub write_start : (a : List ℕ) (n : ℕ) (old : SegmentColumns) (c : Piece) → (n ≡ 0 → ⊥) → c ≡ placed n a 0 → Writing a n old old c 0 1
-write_start a n old c h e = record { small = omega arith; fewer = omega arith; done = []; whole = whole-first a n h ∙ ap (left a n 1) (sym e); count = refl; is = none_written old }
+pub write_start : (l : List Piece) (old : SegmentColumns) (c : Piece) → (length l ≡ 0 → ⊥) → get_or l 0 c ≡ c → Writing l old old c 0 1
+write_start l old c h e = record { small = omega arith; fewer = omega arith; done = []; whole = whole-first l c h e; count = refl; is = none_written old }
 
-module _ (a : List ℕ) (n : ℕ) (old : SegmentColumns) (room : Room (length (joined_pieces (entries_from n a 0 n))) old) where
-  write_fits : (out : SegmentColumns) (c : Piece) (at k : ℕ) (w : Writing a n old out c at k) → length w.done + 1 ≤ length (joined_pieces (entries_from n a 0 n))
-  write_fits out c at k w = let h = run_some c (entries_from n a k (n - k)) in let e = ap length w.whole ∙ length-append w.done (left a n k c) in omega arith
+module _ (l : List Piece) (old : SegmentColumns) (room : Room (length (joined_pieces l)) old) where
+  write_fits : (out : SegmentColumns) (c : Piece) (at k : ℕ) (w : Writing l old out c at k) → length w.done + 1 ≤ length (joined_pieces l)
+  write_fits out c at k w = let h = run_some c (drop k l) in let e = ap length w.whole ∙ length-append w.done (left l k c) in omega arith
 
-  pub write_room : (out : SegmentColumns) (c : Piece) (at k : ℕ) → Writing a n old out c at k → Room (at + 1) out
+  pub write_room : (out : SegmentColumns) (c : Piece) (at k : ℕ) → Writing l old out c at k → Room (at + 1) out
   write_room out c at k w =
       let h = write_fits out c at k w in
-      let r : Room (at + 1) old = room_less (at + 1) (length (joined_pieces (entries_from n a 0 n))) old (omega (arith, w.count)) room in
+      let r : Room (at + 1) old = room_less (at + 1) (length (joined_pieces l)) old (omega (arith, w.count)) room in
       subst (Room (at + 1)) (sym w.is) (room-written w.done old (at + 1) (omega (arith, w.count)) r)
 
   -- the columns once c is written too
-  more : (out : SegmentColumns) (c : Piece) (at k : ℕ) (w : Writing a n old out c at k) → put_piece out at c ≡ written_pieces (w.done ++ (c ∷ [])) old
+  more : (out : SegmentColumns) (c : Piece) (at k : ℕ) (w : Writing l old out c at k) → put_piece out at c ≡ written_pieces (w.done ++ (c ∷ [])) old
   more out c at k w =
       let h = write_fits out c at k w in
-      (λ i. put_piece (w.is i) (w.count i) c) ∙ put_more w.done c old (room_less (length w.done + 1) (length (joined_pieces (entries_from n a 0 n))) old h room)
+      (λ i. put_piece (w.is i) (w.count i) c) ∙ put_more w.done c old (room_less (length w.done + 1) (length (joined_pieces l)) old h room)
 
-  pub write_next : (out new : SegmentColumns) (c d x : Piece) (at m k : ℕ) → Writing a n old out c at k → k < n → x ≡ placed n a k → m ≡ at + begun c x → new ≡ cond (touches_piece c x) out (put_piece out at c) → d ≡ next_piece c x → Writing a n old new d m (k + 1)
+  pub write_next : (out new : SegmentColumns) (c d x : Piece) (at m k : ℕ) → Writing l old out c at k → k < length l → get_or l k x ≡ x → m ≡ at + begun c x → new ≡ cond (touches_piece c x) out (put_piece out at c) → d ≡ next_piece c x → Writing l old new d m (k + 1)
   write_next out new c d x at m k w h e f g u = go (decide (touches_piece c x))
     where
-      split : left a n k c ≡ put (not (touches_piece c x)) c (left a n (k + 1) d)
-      split = left_next a n k c h ∙ (λ i. put (not (touches_piece c (sym e i))) c (left a n (k + 1) (next_piece c (sym e i)))) ∙ ap (λ (z : Piece). put (not (touches_piece c x)) c (left a n (k + 1) z)) (sym u)
+      split : left l k c ≡ put (not (touches_piece c x)) c (left l (k + 1) d)
+      split = left_next l k c x h e ∙ ap (λ (z : Piece). put (not (touches_piece c x)) c (left l (k + 1) z)) (sym u)
 
-      go : (touches_piece c x ≡ true) ⊎ (touches_piece c x ≡ false) → Writing a n old new d m (k + 1)
+      go : (touches_piece c x ≡ true) ⊎ (touches_piece c x ≡ false) → Writing l old new d m (k + 1)
       go (inl t) = record {
         small = omega arith;
         fewer = let z : begun c x ≡ 0 = ap (λ (b : Bool). bit (not b)) t in omega (arith, w.fewer);
         done = w.done;
-        whole = w.whole ∙ ap (λ (l : List Piece). w.done ++ l) (split ∙ ap (λ (b : Bool). put (not b) c (left a n (k + 1) d)) t);
+        whole = w.whole ∙ ap (λ (m : List Piece). w.done ++ m) (split ∙ ap (λ (b : Bool). put (not b) c (left l (k + 1) d)) t);
         count = let z : begun c x ≡ 0 = ap (λ (b : Bool). bit (not b)) t in omega (arith, w.count);
         is = g ∙ cond_true (touches_piece c x) out (put_piece out at c) t ∙ w.is;
       }
@@ -122,16 +121,16 @@ module _ (a : List ℕ) (n : ℕ) (old : SegmentColumns) (room : Room (length (j
         small = omega arith;
         fewer = let z : begun c x ≡ 1 = ap (λ (b : Bool). bit (not b)) t in omega (arith, w.fewer);
         done = w.done ++ (c ∷ []);
-        whole = w.whole ∙ ap (λ (l : List Piece). w.done ++ l) (split ∙ ap (λ (b : Bool). put (not b) c (left a n (k + 1) d)) t) ∙ sym (append_snoc w.done c (left a n (k + 1) d));
+        whole = w.whole ∙ ap (λ (m : List Piece). w.done ++ m) (split ∙ ap (λ (b : Bool). put (not b) c (left l (k + 1) d)) t) ∙ sym (append_snoc w.done c (left l (k + 1) d));
         count = let z : begun c x ≡ 1 = ap (λ (b : Bool). bit (not b)) t in omega (arith, w.count, length-append w.done (c ∷ []));
         is = g ∙ cond_false (touches_piece c x) out (put_piece out at c) t ∙ more out c at k w;
       }
 
-  pub write_end : (out new : SegmentColumns) (c : Piece) (at k : ℕ) → Writing a n old out c at k → n ≤ k → new ≡ put_piece out at c → new ≡ written_pieces (joined_pieces (entries_from n a 0 n)) old
-  write_end out new c at k w h g = g ∙ more out c at k w ∙ ap (λ (l : List Piece). written_pieces l old) (sym (w.whole ∙ ap (λ (l : List Piece). w.done ++ l) (left-last a n k c h)))
+  pub write_end : (out new : SegmentColumns) (c : Piece) (at k : ℕ) → Writing l old out c at k → length l ≤ k → new ≡ put_piece out at c → new ≡ written_pieces (joined_pieces l) old
+  write_end out new c at k w h g = g ∙ more out c at k w ∙ ap (λ (m : List Piece). written_pieces m old) (sym (w.whole ∙ ap (λ (m : List Piece). w.done ++ m) (left-last l k c h)))
 
-  pub write_count : (out : SegmentColumns) (c : Piece) (at k : ℕ) → Writing a n old out c at k → n ≤ k → at + 1 ≡ length (joined_pieces (entries_from n a 0 n))
-  write_count out c at k w h = omega (arith, w.count, ap length (w.whole ∙ ap (λ (l : List Piece). w.done ++ l) (left-last a n k c h)), length-append w.done (c ∷ []))
+  pub write_count : (out : SegmentColumns) (c : Piece) (at k : ℕ) → Writing l old out c at k → length l ≤ k → at + 1 ≡ length (joined_pieces l)
+  write_count out c at k w h = omega (arith, w.count, ap length (w.whole ∙ ap (λ (m : List Piece). w.done ++ m) (left-last l k c h)), length-append w.done (c ∷ []))
 
 -- ---- the columns stay the caller's
 pub columns-trans : (x y z : Output) → SameColumns x y → SameColumns y z → SameColumns x z

@@ -9,43 +9,41 @@ ghost use Rattle.joining.specs.Answer.{join_answer, output_after};
 ghost use Rattle.joining.specs.Inner.Pieces.{joined_pieces};
 ghost use Rattle.join_call.specs.Inner.Rest.{rest_answer, rest_output};
 ghost use Rattle.join_call.specs.Inner.Output.{held, SameColumns};
-ghost use Rattle.join_call.specs.Inner.Table.{entries_from, Lists, Tabled};
+ghost use Rattle.join_call.specs.Inner.Table.{Lists};
 
 use crate::output::Output;
-use crate::table::{count_pieces, order_pieces};
+use crate::table::Table;
 use crate::write::write_pieces;
 use drawing::{Refusal, Segments};
 use joining::{Joined, short_output};
 use list_checks::check_segment_list;
 
 // Whether some output column, of these lengths, has fewer entries than there are pieces. There are no more pieces than segments, so they are counted only where a column is shorter than the list.
-fn lacks_room(a: &[u64], n: usize, lengths: &[usize]) -> bool
-    requires { Tabled n a.now }
-    ensures { result ≡ short_output (length (joined_pieces (entries_from n a.now 0 n))) lengths.now }
+fn lacks_room(table: &Table<'_>, lengths: &[usize]) -> bool
+    ensures { result ≡ short_output (length (joined_pieces table.now)) lengths.now }
 {
-    short_output(n, lengths) && short_output(count_pieces(a, n), lengths)
+    short_output(table.len(), lengths) && short_output(table.count_pieces(), lengths)
 }
 
-// Joins segments that passed the checks, by a table that has five words for each. Nothing is written before it is known that there is room.
+// Joins segments that passed the checks, by a table that takes five words for each. Nothing is written before it is known that there is room.
 fn join_by_table(
-    table: &mut [u64],
+    words: &mut [u64],
     segments: &Segments<'_>,
     output: &mut Output<'_>,
 ) -> Result<Joined, Refusal>
-    requires { Lists (lent_segments segments.now) (length table.old) }
+    requires { Lists (lent_segments segments.now) (length words.old) }
     ensures value { result ≡ rest_answer (lent_segments segments.now) (held output.old) }
     ensures same_columns { SameColumns output.old output.new }
     ensures columns_after { held output.new ≡ rest_output (lent_segments segments.now) (held output.old) }
 {
-    let n = segments.net.len();
-    order_pieces(table, segments);
-    if lacks_room(table, n, &output.lengths()) {
+    let table = Table::new(words, segments);
+    if lacks_room(&table, &output.lengths()) {
         return Err(Refusal::ShortOutput);
     }
-    let pieces = write_pieces(table, n, output);
+    let pieces = write_pieces(&table, output);
     Ok(Joined {
         pieces,
-        gone: n - pieces,
+        gone: segments.net.len() - pieces,
     })
 }
 
@@ -66,7 +64,7 @@ pub fn join(
         × (first_of (segment_list_conditions lent) ≡ Ok tt → SegmentsHeld lent) }
 {
     check_segment_list(segments)?;
-    segments.typed();
+    segments.held();
     let mut output = Output {
         net: to_net,
         orientation: to_orientation,
@@ -76,9 +74,9 @@ pub fn join(
     };
     // A short list needs no long table, whose clearing would take longer than the rest.
     if segments.net.len() <= 128 {
-        let mut small = [0u64; 640];
-        return join_by_table(&mut small, segments, &mut output);
+        let mut words = [0u64; 640];
+        return join_by_table(&mut words, segments, &mut output);
     }
-    let mut table = [0u64; 20480];
-    join_by_table(&mut table, segments, &mut output)
+    let mut words = [0u64; 20480];
+    join_by_table(&mut words, segments, &mut output)
 }

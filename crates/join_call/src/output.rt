@@ -35,8 +35,9 @@ impl Output<'_> {
         ensures same_columns { SameColumns self.old self.new }
         ensures columns_after { held self.new ≡ put_piece (held self.old) at p }
     {
+        // The half of the word is a net, so the remainder changes nothing: no cast may lose bits.
         self.net[at] = (p.net_and_orientation / 2 % 4294967296) as u32;
-        self.orientation[at] = (1 - p.net_and_orientation % 2) as u8;
+        self.orientation[at] = u8::from(p.net_and_orientation % 2 == 0);
         self.fixed[at] = float_of_key(p.fixed);
         self.start[at] = float_of_key(p.start);
         self.end[at] = float_of_key(p.end);

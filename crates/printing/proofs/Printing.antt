@@ -1,12 +1,11 @@
 -- From a file's reading to its sheet: what the columns hold where the file is read, and which text follows from each answer of the reader. Assumes nothing.
 use Rattle.std.specs.Prelude.{Result, Ok, Err}
-use mathlib.Core.Path.{◌≡◌, refl, sym, ap, subst, ◌∙◌}
+use mathlib.Core.Path.{◌≡◌, refl, sym, ap, ◌∙◌}
 use mathlib.Core.List.{List, ◌++◌, map}
-use Prim.Native.Nat.{ℕ, ◌+◌, ◌≤◌}
-use native.Mathlib.Omega.{arith}
-use lib.ListN.{length, take, drop, length-append, length-map}
+use Prim.Native.Nat.{ℕ}
+use lib.ListN.{length, take, drop, length-map}
 use lib.Ieee.{Float}
-use lib.Seq.{take-append_seam, length-take-le}
+use lib.Seq.{take-append_seam}
 use Rattle.drawing.specs.declared.refusal.Refusal.{Refusal}
 use Rattle.drawing.specs.declared.lists.Segment.{Segment}
 use Rattle.drawing.specs.Entries.{Node, Exemption, SegmentColumns, NodeColumns, ExemptionColumns, segment_columns, node_columns, exemption_columns, columns_of, node_columns_of, exemption_columns_of}

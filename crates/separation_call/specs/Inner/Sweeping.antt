@@ -221,10 +221,3 @@ pub record AtColumns (words wanted : ℕ) (c : SegmentColumns) : Type 0 where
   pub room : 32 * length c.net + 64 ≤ words
   pub proper : (r : Row) → Mem r (oriented wanted (segments c)) → (r.net < 2 ^ 32) × (r.start < r.end)
   pub gaps : Gapped (lines (oriented wanted (segments c)))
-
--- what the types of the columns say of their entries
-pub record Typed (ns : List ℕ) (fs ss es : List Float) : Type 0 where
-  pub net : (i : ℕ) → get_or ns i 0 < 2 ^ 32
-  pub fixed : (i : ℕ) → Binary64 (get_or fs i nan)
-  pub start : (i : ℕ) → Binary64 (get_or ss i nan)
-  pub end : (i : ℕ) → Binary64 (get_or es i nan)

@@ -1,6 +1,5 @@
 -- `tight_pair::look_at_nodes` meets its contract: after j iterations the first j nodes have been compared. Assumes nothing.
 use mathlib.Core.Path.{ap, ◌∙◌}
-use native.Mathlib.Omega.{arith}
 use Rattle.drawing.specs.Entries.{Node}
 use Rattle.clearance.specs.Figures.{exempt}
 use Rattle.tight_pair.specs.Inner.Looking.{best_with}

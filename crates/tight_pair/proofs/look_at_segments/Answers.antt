@@ -1,6 +1,5 @@
 -- `tight_pair::look_at_segments` meets its contract: after i iterations the first i segments have been compared. Assumes nothing.
 use mathlib.Core.Path.{sym, ap, subst, ◌∙◌}
-use native.Mathlib.Omega.{arith}
 use Rattle.drawing.specs.Entries.{Segment, as_taken}
 use Rattle.exemptions.specs.Inner.Exempting.{Rising, Own}
 use lib.Ieee.{of_bits}

@@ -21,4 +21,4 @@ returns c =
     let passed = sym c.check_tight_pair.ensures ∙ c.in_ok-check_tight_pair.was in
     let agree = pair-exemptions s n e passed in
     let columns = pair_columns s n e passed in
-    answered s n e passed (c.held.ensures columns.0) (c.held-2.ensures columns.1) _ _ (c.gather.ensures agree.0 agree.1) _ c.look_at_segments-best.ensures _ (search rules)
+    answered s n e passed (c.held.ensures.floats columns.0) (c.held-2.ensures columns.1) _ _ (c.gather.ensures agree.0 agree.1) _ c.look_at_segments-best.ensures _ (search rules)

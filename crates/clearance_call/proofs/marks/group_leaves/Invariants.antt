@@ -1,5 +1,4 @@
 -- `clearance_call::marks::group_leaves` meets its contract: at leaf j the groups of the leaves before it are written. Assumes nothing.
-use Prim.Native.Nat.{◌-◌}
 use Rattle.clearance_call.proofs.LeafGroups.{Grouping}
 use Rattle.clearance_call.proofs.marks.group_leaves.Given as goal
 

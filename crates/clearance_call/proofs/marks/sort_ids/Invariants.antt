@@ -1,5 +1,4 @@
 -- `clearance_call::marks::sort_ids` meets its contract: at leaf j the ids of the leaves before it are written. Assumes nothing.
-use Prim.Native.Nat.{◌-◌}
 use Rattle.clearance_call.proofs.LeafGroups.{Copying}
 use Rattle.clearance_call.proofs.marks.sort_ids.Given as goal
 

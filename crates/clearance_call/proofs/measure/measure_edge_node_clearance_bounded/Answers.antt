@@ -5,7 +5,6 @@ use lib.ListN.{length, replicate}
 use Rattle.drawing.specs.Entries.{lent_segments, lent_nodes, lent_exemptions}
 use Rattle.clearance.proofs.Answers.{Lent, passes}
 use Rattle.drawing.proofs.FirstRefusal.{not_passed, refused-scratch, passed_scratch}
-use Rattle.drawing.proofs.ListOrders.{segments-held}
 use Rattle.clearance_call.proofs.WholeCall.{sizes, refused-answer, passed_answer}
 use borrow.Author.Rules.{rules}
 use Rattle.clearance_call.proofs.measure.measure_edge_node_clearance_bounded.Goals as goal
@@ -29,7 +28,7 @@ returns c =
     let passed : passes s n e c.args.threshold (length c.args.scratch.now) = sym c.check_clearance.ensures ∙ told in
     let z = sizes s n e _ _ passed in
     let lent : Lent s n c.args.threshold = record {
-      segments-held = c.held.ensures z.segments;
+      segments-held = c.held.ensures.floats z.segments;
       nodes-held = c.held-2.ensures z.nodes;
       threshold-held = search rules;
     } in

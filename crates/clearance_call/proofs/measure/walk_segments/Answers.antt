@@ -1,13 +1,16 @@
 -- `clearance_call::measure::walk_segments` meets its contract: where there are no pairs, there is no walk; else the scratch holds the segments' order, the tree and the groups of its leaves, and the walks over it are the definition's. Assumes nothing.
-use mathlib.Core.Path.{refl}
-use Prim.Native.Nat.{◌≤◌}
+use mathlib.Core.Path.{refl, sym, subst}
+use Prim.Native.Nat.{ℕ, ◌≤◌}
 use native.Mathlib.Omega.{arith}
 use lib.ListN.{length}
 use borrow.Author.Rules.{rules}
 use Rattle.drawing.specs.Entries.{lent_segments, lent_nodes}
-use Rattle.drawing.proofs.ListOrders.{segments-held}
+use Rattle.clearance_call.specs.Inner.Marks.{Grouped}
+use Rattle.clearance_call.specs.Inner.Nested.{Nested}
+use Rattle.clearance_call.specs.Inner.Stored.{stored_tree}
+use Rattle.clearance_call.specs.Inner.Walking.{Part}
 use Rattle.clearance.proofs.Answers.{Lent, fit_call}
-use Rattle.clearance_call.proofs.WholeCall.{sizes, walked_none, walked_no_segment, part-long, all-long, tree-part, leaves_grouped, groups_long, in_turns, tree-nested, held_of, walked_all}
+use Rattle.clearance_call.proofs.WholeCall.{sizes, walked_none, walked_no_segment, part-long, all-long, tree-part, ids, ids-long, tree, groups, lent-length, leaves_grouped, groups_long, held, held-count, in_turns, tree-nested, held_of, walked_all}
 use Rattle.clearance_call.proofs.measure.walk_segments.Goals as goal
 
 pub returns-then-segments-eq0-clause-outcome : goal.returns-then-segments-eq0-clause-outcome
@@ -61,6 +64,9 @@ slice_bounds-walk_all-end c = let z = sizes _ _ _ _ _ c.requires in let l = all-
 pub offset_bounds-scratch-first-3 : goal.offset_bounds-scratch-first-3
 offset_bounds-scratch-first-3 c = let z = sizes _ _ _ _ _ c.requires in omega (arith, z.few-segments, z.few-nodes)
 
+pub slice_bounds-walk_all-end-3 : goal.slice_bounds-walk_all-end-3
+slice_bounds-walk_all-end-3 c = let z = sizes _ _ _ _ _ c.requires in let few = z.few-exemptions in search (rules, few)
+
 pub slice_bounds-walk_all-count-3 : goal.slice_bounds-walk_all-count-3
 slice_bounds-walk_all-count-3 c = let z = sizes _ _ _ _ _ c.requires in let l = all-long _ _ _ _ z _ _ refl c.order_segments.ensures c.prepare_nodes.new.s c.prepare_nodes.auto.s in omega (arith, z.room, l)
 
@@ -91,7 +97,7 @@ walk_all-requires c =
     let n = lent_nodes c.args.nodes.now in
     let z = sizes s n _ _ _ c.requires in
     let lent : Lent s n c.args.threshold = record {
-      segments-held = c.held.ensures z.segments;
+      segments-held = c.held.ensures.floats z.segments;
       nodes-held = c.held-2.ensures z.nodes;
       threshold-held = search rules;
     } in
@@ -101,7 +107,17 @@ walk_all-requires c =
     let kept = c.prepare_nodes.auto.s in
     let prepared = c.prepare_nodes.ensures in
     let some : 1 ≤ length n.id = omega (arith, c.if-m-eq0.false) in
-    record { part = (tree-part s n _ _ z _ _ refl ordered last kept some, z.few-nodes); segment_places = in_turns s n _ _ z _ _ refl ordered last kept fit.segments-fit; held_and_grouped = (held_of _ _ _ (c.gather.ensures z.exemptions z.few-exemptions), leaves_grouped s n _ _ z _ _ refl ordered last kept _ prepared.grouped, groups_long s n _ _ z _ _ refl ordered last kept); nested = tree-nested s n _ _ z _ _ refl ordered last kept fit.nodes-fit prepared.tree_stored some }
+    let long = ids-long s n _ _ z _ _ refl ordered last kept in
+    let tree = tree s n _ _ z _ _ refl ordered last kept in
+    let groups = groups s n _ _ z _ _ refl ordered last kept in
+    let ids = ids s n _ _ z _ _ refl ordered last kept in
+    let packed = lent-length _ _ _ (c.gather.ensures z.exemptions z.few-exemptions) in
+    record {
+      part = subst (λ (x : ℕ). Part tree 0 x × (x ≤ 4096)) (sym long) (tree-part s n _ _ z _ _ refl ordered last kept some, z.few-nodes);
+      segment_places = in_turns s n _ _ z _ _ refl ordered last kept fit.segments-fit;
+      held_and_grouped = (held_of _ _ _ (c.gather.ensures z.exemptions z.few-exemptions), λ h. subst (λ (x : ℕ). Grouped ids groups tree x) (sym long) (leaves_grouped s n _ _ z _ _ refl ordered last kept _ prepared.grouped (omega (arith, packed, h))), groups_long s n _ _ z _ _ refl ordered last kept);
+      nested = subst (λ (x : ℕ). Nested (stored_tree x tree 0 x)) (sym long) (tree-nested s n _ _ z _ _ refl ordered last kept fit.nodes-fit prepared.tree_stored some);
+    }
 
 pub shape_of-scratch : goal.shape_of-scratch
 shape_of-scratch c = let z = sizes _ _ _ _ _ c.requires in all-long _ _ _ _ z _ _ refl c.order_segments.ensures c.prepare_nodes.new.s c.prepare_nodes.auto.s
@@ -112,7 +128,7 @@ returns-clause-outcome c =
     let n = lent_nodes c.args.nodes.now in
     let z = sizes s n _ _ _ c.requires in
     let lent : Lent s n c.args.threshold = record {
-      segments-held = c.held.ensures z.segments;
+      segments-held = c.held.ensures.floats z.segments;
       nodes-held = c.held-2.ensures z.nodes;
       threshold-held = search rules;
     } in
@@ -121,4 +137,5 @@ returns-clause-outcome c =
     let last = c.prepare_nodes.new.s in
     let kept = c.prepare_nodes.auto.s in
     let prepared = c.prepare_nodes.ensures in
-    walked_all s n _ _ z _ _ refl ordered last kept _ _ _ (c.gather.ensures z.exemptions z.few-exemptions) fit.segments-fit fit.nodes-fit prepared.tree_stored _ _ c.walk_all.ensures.outcome
+    let gathered = c.gather.ensures z.exemptions z.few-exemptions in
+    walked_all s n _ _ z _ _ refl ordered last kept _ fit.segments-fit fit.nodes-fit prepared.tree_stored _ _ (c.walk_all.ensures.outcome _ (held _ _ _ gathered) (held-count _ _ _ gathered))

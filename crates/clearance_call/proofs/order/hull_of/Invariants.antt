@@ -1,4 +1,4 @@
-use Prim.Native.Nat.{◌-◌, ◌≤◌}
+use Prim.Native.Nat.{◌≤◌}
 use Rattle.drawing.specs.Entries.{lent_nodes}
 use Rattle.clearance_call.proofs.LeafOrders.{Hulled}
 use Rattle.clearance_call.proofs.order.hull_of.Given as goal

@@ -1,5 +1,3 @@
-use Prim.Native.Nat.{◌-◌}
-use lib.ListN.{length}
 use Rattle.drawing.specs.Entries.{lent_nodes}
 use Rattle.clearance_call.proofs.StoredLeaves.{Leaving}
 use Rattle.clearance_call.proofs.stored.put_leaves.Given as goal

@@ -1,5 +1,5 @@
 -- `clearance_call::tables::fill_node_table` meets its contract: after i iterations the first i rows are filled. Assumes nothing.
-use Prim.Native.Nat.{◌≤◌, ◌-◌}
+use Prim.Native.Nat.{◌≤◌}
 use lib.ListN.{length}
 use Rattle.drawing.specs.Entries.{lent_nodes}
 use Rattle.clearance_call.specs.Inner.Tables.{node_row_at, Filled}

@@ -1,7 +1,6 @@
 -- `clearance_call::tables::fill_segment_table` meets its contract: after i iterations the first i rows are filled. Assumes nothing.
 use borrow.Author.Rules.{rules}
 use mathlib.Core.Path.{ap, ◌∙◌}
-use native.Mathlib.Omega.{arith}
 use Rattle.floats.specs.TotalOrder.{key_of}
 use Rattle.drawing.specs.declared.ends.Ends.{Ends}
 use Rattle.drawing.specs.Entries.{Segment, ends_in_order, lent_segments}

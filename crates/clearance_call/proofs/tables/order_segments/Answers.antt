@@ -6,5 +6,5 @@ use Rattle.clearance_call.proofs.tables.order_segments.Goals as goal
 pub returns : goal.returns
 returns c =
     let columns = lent_segments c.args.segments.now in
-    let held = c.held.ensures c.requires.0 in
+    let held = c.held.ensures.floats c.requires.0 in
     segments-ordered columns c.args.s.now _ _ _ c.requires.0 c.requires.1 held c.places_in_front.ensures c.fill_segment_table.ensures c.sort_indices.ensures

@@ -1,5 +1,4 @@
 -- `clearance_call::walk::visit_leaves` meets its contract: at leaf j the leaves before it are visited. Assumes nothing.
-use Prim.Native.Nat.{◌+◌, ◌-◌}
 use Rattle.clearance_call.proofs.LeafRuns.{Visiting}
 use Rattle.clearance_call.proofs.walk.visit_leaves.Given as goal
 

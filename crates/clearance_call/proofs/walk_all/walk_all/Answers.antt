@@ -2,8 +2,7 @@
 use mathlib.Core.Path.{◌≡◌, refl, sym, ap, subst, ◌∙◌}
 use Rattle.std.proofs.lemmas.Result.{err_from_is_err_and}
 use native.Mathlib.Omega.{arith}
-use lib.ListN.{get_or}
-use borrow.Author.Rules.{rules}
+use lib.ListN.{length}
 use Rattle.laws.specs.Inner.Allowance.{within}
 use Rattle.drawing.specs.Entries.{Segment, as_taken, lent_segments}
 use Rattle.boxes.specs.Boxes.{segment_box}
@@ -47,14 +46,14 @@ pub returns-in_err-state-clause-outcome : goal.returns-in_err-state-clause-outco
 returns-in_err-state-clause-outcome c =
     let renewed = c.renew_marks-used in
     let p = err_from_is_err_and c.from_residual.result c.from_residual.ensures.1 in
-    rw (p.1, p.2) (turned_stopped _ _ _ _ _ _ _ (lent_segments c.args.segments.now) _ _ _ _ _ _ c.loop-q.invariant c.loop-q-test.true _ (λ ex a b. subst (λ (z : Segment). outcome_of c.walk_segment.result ≡ within c.loop-q.state.remaining (walk ex c.args.threshold (as_taken z) (stored_tree c.args.m c.args.tree.now 0 c.args.m) (so_far c.loop-q.state))) c.at-segment.ensures (c.walk_segment.ensures.outcome ex (marks_lent renewed.new.marks renewed.result _ _ _ _ (renewed.ensures.1 ex _ _ a b c.requires.held_and_grouped.1 (c.loop-q.invariant.stand ex a b))))) _ c.in_err-state.was)
+    rw (p.1, p.2) (turned_stopped _ _ _ _ _ _ _ (lent_segments c.args.segments.now) _ _ _ _ _ _ c.loop-q.invariant c.loop-q-test.true _ (λ ex a b. subst (λ (z : Segment). outcome_of c.walk_segment.result ≡ within c.loop-q.state.remaining (walk ex c.args.threshold (as_taken z) (stored_tree (length c.args.ids.now) c.args.tree.now 0 (length c.args.ids.now)) (so_far c.loop-q.state))) c.at-segment.ensures (c.walk_segment.ensures.outcome ex (marks_lent renewed.new.marks renewed.result _ _ _ _ (renewed.ensures.1 ex _ _ a b c.requires.held_and_grouped.1 (c.loop-q.invariant.stand ex a b))))) _ c.in_err-state.was)
 
 pub loop-q-preserved : goal.loop-q-preserved
 loop-q-preserved c =
     let pre = c.requires in
     let u = c.loop-q.invariant in
     let renewed = c.renew_marks-used in
-    turned_next _ _ _ _ _ _ _ (lent_segments c.args.segments.now) _ _ _ _ _ _ u c.loop-q-test.true _ (λ ex a b. subst (λ (z : Segment). outcome_of c.walk_segment.result ≡ within c.loop-q.state.remaining (walk ex c.args.threshold (as_taken z) (stored_tree c.args.m c.args.tree.now 0 c.args.m) (so_far c.loop-q.state))) c.at-segment.ensures (c.walk_segment.ensures.outcome ex (marks_lent renewed.new.marks renewed.result _ _ _ _ (renewed.ensures.1 ex _ _ a b c.requires.held_and_grouped.1 (c.loop-q.invariant.stand ex a b))))) pre.held_and_grouped.0 _ _ _ (renewed.auto.marks ∙ u.long) renewed.ensures.0 (λ ex a b. renewed.ensures.1 ex _ _ a b pre.held_and_grouped.1 (u.stand ex a b)) _ c.in_ok-state.was
+    turned_next _ _ _ _ _ _ _ (lent_segments c.args.segments.now) _ _ _ _ _ _ u c.loop-q-test.true _ (λ ex a b. subst (λ (z : Segment). outcome_of c.walk_segment.result ≡ within c.loop-q.state.remaining (walk ex c.args.threshold (as_taken z) (stored_tree (length c.args.ids.now) c.args.tree.now 0 (length c.args.ids.now)) (so_far c.loop-q.state))) c.at-segment.ensures (c.walk_segment.ensures.outcome ex (marks_lent renewed.new.marks renewed.result _ _ _ _ (renewed.ensures.1 ex _ _ a b c.requires.held_and_grouped.1 (c.loop-q.invariant.stand ex a b))))) pre.held_and_grouped.0 _ _ _ (renewed.auto.marks ∙ u.long) renewed.ensures.0 (λ ex a b. renewed.ensures.1 ex _ _ a b pre.held_and_grouped.1 (u.stand ex a b)) _ c.in_ok-state.was
 
 pub returns-clause-outcome : goal.returns-clause-outcome
 returns-clause-outcome c = turned_all _ _ _ _ _ _ _ (lent_segments c.args.segments.now) _ _ _ _ _ _ c.loop-q.invariant c.loop-q-test.false

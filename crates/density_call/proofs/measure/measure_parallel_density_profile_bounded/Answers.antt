@@ -26,7 +26,7 @@ returns c =
     let told = c.in_ok-check_congestion.was in
     let check = c.check_congestion.ensures in
     let passed = sym check ∙ told in
-    let held = c.held.ensures (agree s _ _ passed) in
+    let held = c.held.ensures.floats (agree s _ _ passed) in
     let kept = ap (λ (k : ℕ). replicate {A = ℕ} k 0) c.walk_segments-swept.auto.scratch in
     let cleared = c.clear.ensures ∙ kept in (
       passed_answer s _ _ _ passed _ c.walk_segments-swept.ensures _ (c.total_length-total.ensures (agree s _ _ passed)) _ c.answer_of.ensures,

@@ -4,4 +4,4 @@ use Rattle.join_call.proofs.Writes.{Writing}
 use Rattle.join_call.proofs.write.write_pieces.Given as goal
 
 abbrev pub invariant-loop-k : goal.invariant-loop-k
-invariant-loop-k l = record { columns : SameColumns l.initial.output l.output; writing : Writing l.a l.n (held l.initial.output) (held l.output) l.c l.at l.k }
+invariant-loop-k l = record { columns : SameColumns l.initial.output l.output; writing : Writing l.table (held l.initial.output) (held l.output) l.c l.at l.k }
