@@ -1,5 +1,5 @@
 -- Results in words: how the exported calls write them (SCOPE 6.7).
-use Rattle.std.specs.Prelude.{◌≡◌, List, [], ◌∷◌, ℕ, Option, Some, None, Result}
+use Rattle.std.specs.Prelude.{◌≡◌, List, [], ◌∷◌, ℕ, Float, Option, Some, None, Result}
 use Rattle.std.specs.Float.{binary64}
 use Rattle.std.specs.Float.Ieee.{to_bits}
 use Rattle.drawing.specs.declared.refusal.Refusal.{Refusal}

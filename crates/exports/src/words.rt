@@ -20,6 +20,7 @@ pub(crate) trait Words<const N: usize>: Copy {
 }
 
 // Writes the words of a report, zeros where the call was refused, and returns the status: 0 where it was accepted, else the refusal's number.
+#[tactic(auto, unfolding(crate::specs::Inner::Written::status, crate::specs::Inner::Written::words_or_zeros))]
 pub(crate) fn write<R: Words<N>, const N: usize>(
     answer: Result<R, Refusal>,
     out: &mut [u64; N],
@@ -33,13 +34,14 @@ pub(crate) fn write<R: Words<N>, const N: usize>(
             0
         }
         Err(why) => {
-            *out = [0; N];
+            out.fill(0);
             u32::from(u8::from(why))
         }
     }
 }
 
 // A least gap as two words: whether it is present, and its bits, 0 where it is absent.
+#[tactic(auto, unfolding(crate::specs::Words::present_word))]
 fn present_word(gap: Option<f64>) -> u64
     ensures { result ≡ present_word gap }
 {
@@ -49,6 +51,7 @@ fn present_word(gap: Option<f64>) -> u64
     }
 }
 
+#[tactic(auto, unfolding(crate::specs::Words::bits_word))]
 fn bits_word(gap: Option<f64>) -> u64
     ensures { result ≡ bits_word gap }
 {
@@ -61,6 +64,7 @@ fn bits_word(gap: Option<f64>) -> u64
 impl Words<4> for EdgeNodeClearance {
     ghost words = { clearance_words };
 
+    #[tactic(auto, unfolding(crate::specs::Words::clearance_words))]
     fn words(self) -> [u64; 4] {
         let least = self.minimum_clearance;
         [
@@ -75,6 +79,7 @@ impl Words<4> for EdgeNodeClearance {
 impl Words<5> for ParallelSeparation {
     ghost words = { separation_words };
 
+    #[tactic(auto, unfolding(crate::specs::Words::separation_words))]
     fn words(self) -> [u64; 5] {
         let minimum = self.minimum;
         let positive = self.minimum_positive;
@@ -91,6 +96,7 @@ impl Words<5> for ParallelSeparation {
 impl Words<7> for CongestionReport {
     ghost words = { congestion_words };
 
+    #[tactic(auto, unfolding(crate::specs::Words::congestion_words))]
     fn words(self) -> [u64; 7] {
         let figures = self.congestion;
         let least = self.minimum_positive;
@@ -109,6 +115,7 @@ impl Words<7> for CongestionReport {
 impl Words<2> for Joined {
     ghost words = { λ joined. join_words (0, joined.pieces, joined.gone) };
 
+    #[tactic(auto, unfolding(crate::specs::Words::join_words))]
     fn words(self) -> [u64; 2] {
         [self.pieces as u64, self.gone as u64]
     }
@@ -117,6 +124,7 @@ impl Words<2> for Joined {
 impl Words<3> for Option<TightPair> {
     ghost words = { pair_words };
 
+    #[tactic(auto, unfolding(crate::specs::Words::pair_words))]
     fn words(self) -> [u64; 3] {
         match self {
             Some(pair) => [1, pair.segment as u64, pair.node as u64],
