@@ -21,7 +21,6 @@ use Rattle.separation.specs.Lines.{lines, index}
 use Rattle.separation.specs.Searches.{set_run}
 use Rattle.separation.specs.Walk.{Sweep, remove, other_line, with_nearest, starts_at, ends_at, step}
 use Rattle.separation.specs.declared.state.Sweeping.{Sweeping}
-use Rattle.separation_call.specs.declared.nets.Place.{Place}
 use Rattle.separation_call.specs.Inner.ActiveTree.{summary_at, Leaves, Covers}
 use Rattle.separation_call.specs.Inner.ActiveNets.{Slots, Counted, Countable, Endable}
 use Rattle.separation_call.specs.Inner.Prepared.{Prepared}
@@ -136,15 +135,6 @@ pub record AtEnd (s : List ℕ) (n leaves j : ℕ) : Type 0 where
 -- the figures after a step of the sweep
 abbrev pub figures_of : Outcome Sweep → Outcome Figures
 figures_of o = onward o (λ t m. left t.met m)
-
--- where segment j is counted, and that the tables can be read there
-abbrev pub place_at : List ℕ → ℕ → ℕ → Place
-place_at s n j = record { slot = get_or s (7 * n + j) 0; line = get_or s (4 * n + j) 0; net = get_or s (5 * n + j) 0 }
-
-pub record Placed (s : List ℕ) (n j : ℕ) : Type 0 where
-  pub room : 8 * n ≤ length s
-  pub inside : j < n
-  pub small : get_or s (5 * n + j) 0 < 2 ^ 32
 
 -- what a start makes of the scratch s, which becomes t, and of the state
 abbrev pub Begins : List ℕ → List ℕ → ℕ → ℕ → ℕ → Sweeping → Result Sweeping Refusal → Type 0
