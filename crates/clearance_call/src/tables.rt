@@ -13,7 +13,7 @@ use drawing::{Nodes, Segments, ends_in_order};
 use floats::key_of;
 use sorting::{fill_places, sort_indices};
 
-// Five words from `at` on.
+// Five words from `at` on, each stored where it belongs: a copy would need an array of them first.
 fn put_row(s: &mut [u64], at: usize, a: u64, b: u64, c: u64, d: u64, e: u64)
     requires { at + 5 ≤ length s.old }
     ensures { s.new ≡ paste s.old at (a ∷ b ∷ c ∷ d ∷ e ∷ []) 5 }

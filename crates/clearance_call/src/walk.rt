@@ -131,7 +131,7 @@ enum Step {
     Split(Halves),
 }
 
-// The step at one part, for a segment with the given box, whose net has these marks. The part is pruned, or its leaves are visited, or it is halved. The state is passed by its fields: only of a float that is itself a parameter, as `least` is here, is it known in the proof that it is a value of binary64.
+// The step at one part, for a segment with the given box, whose net has these marks. The part is pruned, or its leaves are visited, or it is halved.
 fn look_at_part(
     words: &[u64],
     part: Subtree,
@@ -139,24 +139,17 @@ fn look_at_part(
     threshold: f64,
     marks: &[u64],
     groups: &[u64],
-    violations: usize,
-    least: f64,
-    remaining: usize,
+    state: Walking,
 ) -> Result<Step, Refusal>
-    requires walkable { Walkable words.now part.first part.count part.lower bounds (record { violations = violations; least = least; remaining = remaining }) }
+    requires walkable { Walkable words.now part.first part.count part.lower bounds state }
     requires net_marks { NetMarks marks.now groups.now words.now }
-    ensures outcome { (ex : List Exemption) (net : ℕ) → MarksOf marks.now groups.now words.now ex net → Steps ex threshold words.now bounds net part (record { violations = violations; least = least; remaining = remaining }) result }
+    ensures outcome { (ex : List Exemption) (net : ℕ) → MarksOf marks.now groups.now words.now ex net → Steps ex threshold words.now bounds net part state result }
     ensures refusal { IfErr result (λ r. r ≡ WorkLimitExceeded) }
 {
     let i = part.first;
     let n = part.count;
     let lower = part.lower;
-    let state = Walking {
-        violations: violations,
-        least: least,
-        remaining: remaining,
-    };
-    if !clearance_subtree_can_contribute(lower, threshold, least) {
+    if !clearance_subtree_can_contribute(lower, threshold, state.least) {
         return Ok(Step::Done(state));
     }
     if n == 1 {
@@ -173,6 +166,7 @@ fn look_at_part(
 // The stack never holds more parts: a tree has at most 4,096 leaves, 2 to the power 12, and each part on the stack has at most half of the leaves, rounded up, of the part that was halved.
 const DEPTH: usize = 12;
 
+// The stack is an array with a count beside it: a vector of fixed room would answer a Result or an Option at every push and pop, for cases that its depth rules out.
 // The walk of a segment with the given box, whose net has these marks, over one part of the tree. Where a part is halved, its nearer half is next and its farther half is put on the stack, `waiting`; where a part is done, the one on top of the stack is next.
 pub(crate) fn visit_segment_candidates(
     words: &[u64],
@@ -193,17 +187,7 @@ pub(crate) fn visit_segment_candidates(
     let mut waiting = [part; DEPTH];
     let mut top = 0;
     loop {
-        let step = look_at_part(
-            words,
-            part,
-            bounds,
-            threshold,
-            marks,
-            groups,
-            state.violations,
-            state.least,
-            state.remaining,
-        )?;
+        let step = look_at_part(words, part, bounds, threshold, marks, groups, state)?;
         match step {
             Step::Split(halves) => {
                 let farther = halves.farther;
