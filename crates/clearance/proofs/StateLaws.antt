@@ -1,17 +1,18 @@
 -- The visit of a pair, the order of two halves, and the answer of a call from the state of a walk. Assumes nothing.
 use Rattle.drawing.specs.declared.refusal.Refusal.{Refusal}
-use Rattle.std.specs.Prelude.{Option, Some, Result, Ok, Err}
+use Rattle.std.specs.Prelude.{Option, Some, Result, Ok, Err, IfErr}
 use Rattle.std.proofs.Common.{◌≡◌, refl, ℕ, suc, ◌+◌, ◌-◌, ◌%◌, ◌^◌, ◌<◌, Bool, true, false, sym, ap, ◌∙◌, mod-eq_of_lt, arith}
 use lib.Ieee.{Float, lt}
 use Rattle.laws.specs.Lists.{bit}
 use Rattle.laws.specs.Charged.{free, visit}
-use Rattle.laws.specs.Inner.Allowance.{left, within}
+use Rattle.laws.specs.Inner.Allowance.{left, within, reply}
 use Rattle.laws.proofs.Runs.{within-free, visit-spent, visit-paid}
 use Rattle.drawing.specs.declared.refusal.Refusal.TheVariants.{WorkLimitExceeded}
 use Rattle.drawing.specs.Gaps.{lesser_gap}
 use Rattle.drawing.specs.Inner.LeastFloats.{Number, gap_of_float, least_with}
 use Rattle.drawing.proofs.LeastFloatLaws.{least-joined}
 use Rattle.clearance.specs.declared.visit.Walking.{Walking}
+use Rattle.clearance.specs.declared.report.EdgeNodeClearance.{EdgeNodeClearance}
 use Rattle.clearance.specs.declared.halves.Subtree.{Subtree}
 use Rattle.clearance.specs.Figures.{Figures}
 use Rattle.clearance.specs.Walk.{with_pair}
@@ -53,6 +54,11 @@ module _ (l r : Subtree) where
   left-first e = rw e
 
 -- ---- the answer from what the walks returned
+pub answers-reply : (r : Result Walking Refusal) (allowance : ℕ) (a : Result EdgeNodeClearance Refusal) → IfErr r (λ e. e ≡ WorkLimitExceeded) → Answers r allowance a → a ≡ reply accepted (Err WorkLimitExceeded) allowance (outcome_of r)
+unfolding outcome_of reply
+answers-reply (Ok w) allowance a spent h = h
+answers-reply (Err e) allowance a spent h = h ∙ ap Err spent
+
 pub answers-refused : (r : Result Walking Refusal) (allowance : ℕ) (e : Refusal) → r ≡ Err e → Answers r allowance (Err e)
 answers-refused r allowance e h = rw h refl
 

@@ -1,5 +1,4 @@
 -- The visits of the leaves of a part, one after another: the loop, step by step; and that they are the part's walk where its farthest edges are below the threshold. Assumes nothing.
-use Rattle.drawing.specs.declared.refusal.Refusal.TheVariants.{WorkLimitExceeded}
 use Rattle.drawing.specs.declared.refusal.Refusal.{Refusal}
 use Rattle.std.specs.Prelude.{Result, Ok, Err}
 use mathlib.Core.Path.{◌≡◌, sym, ap, subst, ◌∙◌}
@@ -75,9 +74,9 @@ module _ (t : Float) (w : List ℕ) (i n : ℕ) (p : Aabb) (marks groups : List 
         let place : suc j ≡ j + 1 = omega arith in
         ap (leaves_from w j) more ∙ ap (λ (z : ℕ). leaf_at w j ∷ leaves_from w z (i + n - (j + 1))) place
 
-    pub visiting_stopped : r ≡ Err WorkLimitExceeded → (ex : List Exemption) (net : ℕ) → MarksOf marks groups w ex net → outcome_of (Err WorkLimitExceeded) ≡ whole ex net
+    pub visiting_stopped : (why : Refusal) → r ≡ Err why → (ex : List Exemption) (net : ℕ) → MarksOf marks groups w ex net → outcome_of (Err why) ≡ whole ex net
     unfolding outcome_of
-    visiting_stopped x ex net l = sym (loop_stops (u.onwards ex net l) next (sym (ap outcome_of (sym x) ∙ now_visited ex net l)))
+    visiting_stopped why x ex net l = sym (loop_stops (u.onwards ex net l) next (sym (ap outcome_of (sym x) ∙ now_visited ex net l)))
 
     pub visiting_next : NetMarks marks groups w → (v : Walking) → r ≡ Ok v → Visiting v (j + 1)
     unfolding outcome_of

@@ -1,5 +1,4 @@
 -- The walk of the part that is next and then of the parts that wait, the last one first, is the rest of the whole walk: the loop, step by step. Assumes nothing.
-use Rattle.drawing.specs.declared.refusal.Refusal.TheVariants.{WorkLimitExceeded}
 use Rattle.drawing.specs.declared.refusal.Refusal.{Refusal}
 use Rattle.std.specs.Prelude.{Result, Ok, Err}
 use mathlib.Core.Path.{◌≡◌, refl, sym, ap, subst, ◌∙◌}
@@ -24,7 +23,7 @@ use Rattle.clearance.specs.declared.visit.Walking.{Walking}
 use Rattle.clearance.specs.declared.halves.Subtree.{Subtree}
 use Rattle.clearance.specs.declared.halves.Halves.{Halves}
 use Rattle.clearance_call.specs.declared.walk.Step.{Step}
-use Rattle.clearance_call.specs.declared.walk.Step.TheVariants.{Stopped, Done, Split}
+use Rattle.clearance_call.specs.declared.walk.Step.TheVariants.{Done, Split}
 use Rattle.boxes.specs.Boxes.{segment_box}
 use Rattle.clearance.specs.Figures.{Figures}
 use Rattle.clearance.specs.Tree.{Tree}
@@ -33,14 +32,9 @@ use Rattle.clearance.specs.Walk.{contributes, walk}
 use Rattle.clearance_call.specs.Inner.Marks.{MarksOf}
 use Rattle.clearance_call.specs.Inner.Nested.{Nested}
 use Rattle.clearance.specs.Inner.State.{so_far, outcome_of}
-use Rattle.clearance_call.specs.Inner.Walking.{Part, Near, Walkable, Halved, NetMarks, Walks, step_of, Steps}
+use Rattle.clearance_call.specs.Inner.Walking.{Part, Near, Walkable, Halved, NetMarks, Walks, Steps}
 use Rattle.clearance_call.proofs.NestedTrees.{stored_same}
 use Rattle.clearance_call.proofs.StoredWalk.{onward_stopped, onward-went, next_room, half_walkable}
-
--- the step at a part whose leaves were visited
-pub steps-visited : (ex : List Exemption) (t : Float) (w : List ℕ) (p : Aabb) (net : ℕ) (part : Subtree) (state : Walking) (r : Result Walking Refusal) (q : Step) → q ≡ step_of r → Walks ex t w part.first part.count p net state r → Steps ex t w p net part state q
-steps-visited ex t w p net part state (Err WorkLimitExceeded) q e h = rw e h
-steps-visited ex t w p net part state (Ok v) q e h = rw e h
 
 -- ---- how many parts wait: a half has at most half of the leaves, rounded up, so after j halvings a part has at most 2 ^ (12 - j)
 half_power : (j : ℕ) → j < 12 → 2 ^ (12 - j) ≡ 2 * 2 ^ (12 - (j + 1))
@@ -145,16 +139,16 @@ module _ (t : Float) (w : List ℕ) (p : Aabb) where
         → (ex : List Exemption) (net : ℕ) → MarksOf marks groups w ex net → Walks ex t w whole.first whole.count p net from r
     answers r h ex net l s on of k q = h ex s (rw of l) on ∙ ap (λ (z : Tree). within from.remaining (walk ex t s z (so_far from))) (stored_same whole.count k w whole.first whole.count (le_refl whole.count) q)
 
-    module _ (part : Subtree) (state : Walking) (l : List Subtree) (top : ℕ) (u : Underway part state l top) (q : Step) (h : (ex : List Exemption) (net : ℕ) → MarksOf marks groups w ex net → Steps ex t w p net part state q) where
+    module _ (part : Subtree) (state : Walking) (l : List Subtree) (top : ℕ) (u : Underway part state l top) (q : Result Step Refusal) (h : (ex : List Exemption) (net : ℕ) → MarksOf marks groups w ex net → Steps ex t w p net part state q) where
       -- the walk of the part, and then those of the others
       onward-rest-walk : (ex : List Exemption) (s : Segment) → MarksOf marks groups w ex s.net → segment_box s ≡ p
           → onward (within state.remaining (walk ex t s (tree part) (so_far state))) (λ g m. within m (rest_walk ex s l top g)) ≡ within from.remaining (walk ex t s (tree whole) (so_far from))
       onward-rest-walk ex s k on = sym (within-after state.remaining (walk ex t s (tree part) (so_far state)) (λ f. rest_walk ex s l top f)) ∙ u.onwards ex s k on
 
-      pub underway_stopped : q ≡ Stopped → (ex : List Exemption) (net : ℕ) → MarksOf marks groups w ex net → Walks ex t w whole.first whole.count p net from (Err WorkLimitExceeded)
-      underway_stopped e = answers (Err WorkLimitExceeded) (λ ex s k on. onward_stopped _ _ (Err WorkLimitExceeded) refl ((rw e at h ex s.net k) s on refl part.count (le_refl part.count)) ∙ onward-rest-walk ex s k on)
+      pub underway_stopped : (why : Refusal) → q ≡ Err why → (ex : List Exemption) (net : ℕ) → MarksOf marks groups w ex net → Walks ex t w whole.first whole.count p net from (Err why)
+      underway_stopped why e = answers (Err why) (λ ex s k on. onward_stopped _ _ (Err why) why refl ((rw e at h ex s.net k) s on refl part.count (le_refl part.count)) ∙ onward-rest-walk ex s k on)
 
-      module _ (v : Walking) (e : q ≡ Done v) where
+      module _ (v : Walking) (e : q ≡ Ok (Done v)) where
         went : (ex : List Exemption) (s : Segment) → MarksOf marks groups w ex s.net → segment_box s ≡ p → within v.remaining (rest_walk ex s l top (so_far v)) ≡ within from.remaining (walk ex t s (tree whole) (so_far from))
         went ex s k on = onward-went _ (λ g m. within m (rest_walk ex s l top g)) (Ok v) v refl ((rw e at h ex s.net k) s on refl part.count (le_refl part.count)) ∙ onward-rest-walk ex s k on
 
@@ -184,7 +178,7 @@ module _ (t : Float) (w : List ℕ) (p : Aabb) where
           next_less = let a = u.ready.part.some in let b : next.count ≡ (get_or l j no_part).count = ap (λ (y : Subtree). y.count) x in let c : steps_left l top ≡ steps_left l (suc j) = ap (steps_left l) z in omega arith
 
       -- the part is halved
-      module _ (x : Halves) (e : q ≡ Split x) (some : NetMarks marks groups w) where
+      module _ (x : Halves) (e : q ≡ Ok (Split x)) (some : NetMarks marks groups w) where
         told : Halved w part.first part.count p x × (contributes part.lower t (gap_of_float state.least) ≡ true) × (1 < part.count)
         told = rw e at h some.ex some.net some.marked
 

@@ -1,5 +1,4 @@
 -- The walk over the stored tree within the remaining visits, step by step. Assumes nothing.
-use Rattle.drawing.specs.declared.refusal.Refusal.TheVariants.{WorkLimitExceeded}
 use Rattle.drawing.specs.declared.refusal.Refusal.{Refusal}
 use Rattle.std.specs.Prelude.{Result, Ok, Err}
 use mathlib.Core.Path.{◌≡◌, refl, sym, ap, subst, ◌∙◌}
@@ -54,9 +53,9 @@ module _ (w : List ℕ) (i n : ℕ) where
   branch-bounds some more b e (suc k) h = e ∙ sym (ap bounds_of (stored-branch k w i n (omega arith)))
 
 -- ---- one walk after another, as the code returns it
-pub onward_stopped : (o : Outcome Figures) (f : Figures → ℕ → Outcome Figures) (r : Result Walking Refusal) → r ≡ Err WorkLimitExceeded → outcome_of r ≡ o → outcome_of (Err WorkLimitExceeded) ≡ onward o f
+pub onward_stopped : (o : Outcome Figures) (f : Figures → ℕ → Outcome Figures) (r : Result Walking Refusal) (why : Refusal) → r ≡ Err why → outcome_of r ≡ o → outcome_of (Err why) ≡ onward o f
 unfolding outcome_of onward
-onward_stopped o f r x e = ap (λ (z : Outcome Figures). onward z f) (ap outcome_of (sym x) ∙ e)
+onward_stopped o f r why x e = ap (λ (z : Outcome Figures). onward z f) (ap outcome_of (sym x) ∙ e)
 
 pub onward-went : (o : Outcome Figures) (f : Figures → ℕ → Outcome Figures) (r : Result Walking Refusal) (w : Walking) → r ≡ Ok w → outcome_of r ≡ o → f (so_far w) w.remaining ≡ onward o f
 unfolding outcome_of onward

@@ -26,8 +26,9 @@ use Rattle.drawing.proofs.EntryLaws.{length-segments, segments-at}
 use Rattle.drawing.specs.Held.{SegmentHeld}
 use Rattle.drawing.proofs.ListOrders.{segment-row-one}
 use Rattle.boxes.specs.declared.aabb.Aabb.{Aabb}
-use Rattle.boxes.specs.Boxes.{from_node, node_box}
+use Rattle.boxes.specs.Boxes.{node_box}
 use Rattle.clearance.specs.Tree.{IndexedNode, indexed, indexed_row}
+use Rattle.clearance_call.specs.Inner.LeafOrder.{indexed_at}
 use Rattle.clearance_call.specs.Inner.Tables.{node_row_at, segment_row_at, Filled, NodesFilled, SegmentsOrdered}
 
 -- ---- one row
@@ -93,7 +94,7 @@ node_wide true n = refl
 node_wide false n = refl
 
 pub node_next : (horizontal : Bool) (c : NodeColumns) (t : ℕ) (s : List ℕ) (n : ℕ) (r q : List ℕ) (b : Aabb) → Filled (node_row_at horizontal c) t n s r → t + 5 * length c.id ≤ length s → n < length c.id
-    → b ≡ from_node (node_at c n).x (node_at c n).y (node_at c n).width (node_at c n).height → q ≡ paste r (t + 5 * n) (indexed_row horizontal (record { id = (node_at c n).id; bounds = b })) 5 → Filled (node_row_at horizontal c) t (n + 1) s q
+    → b ≡ (indexed_at c n).bounds → q ≡ paste r (t + 5 * n) (indexed_row horizontal (record { id = (node_at c n).id; bounds = b })) 5 → Filled (node_row_at horizontal c) t (n + 1) s q
 unfolding indexed node_box
 node_next horizontal c t s n r q b u h m e g =
     filled_next (node_row_at horizontal c) t s n r q (indexed_row horizontal (record { id = (node_at c n).id; bounds = b })) u (omega arith) (node_wide horizontal (record { id = (node_at c n).id; bounds = b }))
@@ -113,11 +114,11 @@ both_tables c t s r q u v =
     }
 
 -- ---- the table of segments
-pub segment_next : (c : SegmentColumns) (t : ℕ) (s : List ℕ) (n : ℕ) (r q : List ℕ) (f b e : ℕ) → Filled (segment_row_at c) t n s r → t + 5 * length c.net ≤ length s → n < length c.net
-    → f ≡ key_of (segment_at c n).fixed → b ≡ key_of (segment_at c n).start → e ≡ key_of (segment_at c n).end → q ≡ paste r (t + 5 * n) ((segment_at c n).net ∷ (segment_at c n).orientation ∷ f ∷ b ∷ e ∷ []) 5 → Filled (segment_row_at c) t (n + 1) s q
+pub segment_next : (c : SegmentColumns) (t : ℕ) (s : List ℕ) (n : ℕ) (r q : List ℕ) (a o f b e : ℕ) → Filled (segment_row_at c) t n s r → t + 5 * length c.net ≤ length s → n < length c.net
+    → a ≡ (segment_at c n).net → o ≡ (segment_at c n).orientation → f ≡ key_of (segment_at c n).fixed → b ≡ key_of (segment_at c n).start → e ≡ key_of (segment_at c n).end → q ≡ paste r (t + 5 * n) (a ∷ o ∷ f ∷ b ∷ e ∷ []) 5 → Filled (segment_row_at c) t (n + 1) s q
 unfolding segment_row
-segment_next c t s n r q f b e u h m x y z g =
-    filled_next (segment_row_at c) t s n r q ((segment_at c n).net ∷ (segment_at c n).orientation ∷ f ∷ b ∷ e ∷ []) u (omega arith) refl (λ i. (segment_at c n).net ∷ (segment_at c n).orientation ∷ x i ∷ y i ∷ z i ∷ []) g
+segment_next c t s n r q a o f b e u h m v w x y z g =
+    filled_next (segment_row_at c) t s n r q (a ∷ o ∷ f ∷ b ∷ e ∷ []) u (omega arith) refl (λ i. v i ∷ w i ∷ x i ∷ y i ∷ z i ∷ []) g
 
 -- ---- the segments in order
 pub all-places : (n : ℕ) → All (λ i. i < n) (up_to n)

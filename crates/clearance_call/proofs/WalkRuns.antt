@@ -1,7 +1,6 @@
 -- The walks of all segments, one after another: the loop, step by step. Assumes nothing.
-use Rattle.drawing.specs.declared.refusal.Refusal.TheVariants.{WorkLimitExceeded}
 use Rattle.drawing.specs.declared.refusal.Refusal.{Refusal}
-use Rattle.std.specs.Prelude.{Result, Ok, Err}
+use Rattle.std.specs.Prelude.{Result, Ok, Err, Option, Some, None}
 use mathlib.Core.Path.{◌≡◌, refl, sym, ap, subst, ◌∙◌}
 use mathlib.Core.List.{List, ◌∷◌, map}
 use Prim.Native.Nat.{ℕ, ◌+◌, ◌-◌, ◌≤◌, ◌<◌, ◌^◌}
@@ -25,7 +24,7 @@ use Rattle.clearance.specs.Tree.{bounds_of}
 use Rattle.clearance_call.specs.Inner.Stored.{stored_tree}
 use Rattle.clearance.specs.Walk.{walk}
 use Rattle.exemptions.specs.Inner.Exempting.{Rising, Holds}
-use Rattle.clearance_call.specs.Inner.Marks.{MarksOf, MarksOfWord}
+use Rattle.clearance_call.specs.Inner.Marks.{MarksOf, MarksIfAny}
 use Rattle.clearance_call.specs.Inner.Nested.{Nested}
 use Rattle.clearance.specs.Inner.State.{so_far, outcome_of}
 use Rattle.clearance_call.specs.Inner.Walking.{Part, Walkable, HoldsCount, SegmentPlaces, all_walks}
@@ -54,29 +53,29 @@ module _ (t : ℕ → Float) (w : List ℕ) (m : ℕ) (order packed groups : Lis
   rest q = drop q (map (segment_at c) (take (length c.net) order))
 
   -- q segments have been walked: the walks of the others, from this state, have the outcome of all walks
-  pub record Turned (state : Walking) (marks : List ℕ) (used marked q : ℕ) : Type 0 where
+  pub record Turned (state : Walking) (marks : List ℕ) (used : ℕ) (marked : Option ℕ) (q : ℕ) : Type 0 where
     pub turns : SegmentPlaces order c
     pub room : state.violations + state.remaining < 2 ^ 64
     pub below : q ≤ length c.net
     pub long : length marks ≡ 64
     pub low : used ≤ 64
-    pub stand : (ex : List Exemption) → Holds packed ex → length ex ≡ k → MarksOfWord (take used marks) groups w ex marked
+    pub stand : (ex : List Exemption) → Holds packed ex → length ex ≡ k → MarksIfAny (take used marks) groups w ex marked
     pub onwards : (ex : List Exemption) → Holds packed ex → length ex ≡ k → ComesTo (step ex) (within allowance (all_walks ex t w m order c)) (rest q) (so_far state) state.remaining
 
-  pub turned_none : SegmentPlaces order c → allowance < 2 ^ 64 → (state : Walking) → state.least ≡ nan → state.violations ≡ 0 → state.remaining ≡ allowance → (marks : List ℕ) → length marks ≡ 64 → Turned state marks 0 4294967296 0
+  pub turned_none : SegmentPlaces order c → allowance < 2 ^ 64 → (state : Walking) → state.least ≡ nan → state.violations ≡ 0 → state.remaining ≡ allowance → (marks : List ℕ) → length marks ≡ 64 → Turned state marks 0 None 0
   unfolding gap_of_float
-  turned_none p h state e v l marks long = record { turns = p; room = omega arith; below = omega arith; long = long; low = omega arith; stand = λ ex a b h. absurd (omega arith); onwards = λ ex a b. record { come = λ i. within (l i) (runs (step ex) (record { least = gap_of_float (e i); violations = v i }) (rest 0)) } }
+  turned_none p h state e v l marks long = record { turns = p; room = omega arith; below = omega arith; long = long; low = omega arith; stand = λ ex a b. tt; onwards = λ ex a b. record { come = λ i. within (l i) (runs (step ex) (record { least = gap_of_float (e i); violations = v i }) (rest 0)) } }
 
-  module _ (state : Walking) (marks : List ℕ) (used marked q : ℕ) (u : Turned state marks used marked q) (less : q < length c.net) (r : Result Walking Refusal)
+  module _ (state : Walking) (marks : List ℕ) (used : ℕ) (marked : Option ℕ) (q : ℕ) (u : Turned state marks used marked q) (less : q < length c.net) (r : Result Walking Refusal)
       (e : (ex : List Exemption) → Holds packed ex → length ex ≡ k → outcome_of r ≡ within state.remaining (walk ex (t (segment_at c (get_or order q 0)).net) (segment_at c (get_or order q 0)) (stored_tree m w 0 m) (so_far state))) where
     next : rest q ≡ segment_at c (get_or order q 0) ∷ rest (q + 1)
     next = table_next 0 (segment_at c) (length c.net) order u.turns.inside (rest 0) refl q less
 
-    pub turned_stopped : r ≡ Err WorkLimitExceeded → (ex : List Exemption) → Holds packed ex → length ex ≡ k → outcome_of (Err WorkLimitExceeded) ≡ within allowance (all_walks ex t w m order c)
+    pub turned_stopped : (why : Refusal) → r ≡ Err why → (ex : List Exemption) → Holds packed ex → length ex ≡ k → outcome_of (Err why) ≡ within allowance (all_walks ex t w m order c)
     unfolding outcome_of
-    turned_stopped x ex a b = sym (loop_stops (u.onwards ex a b) next (sym (ap outcome_of (sym x) ∙ e ex a b)))
+    turned_stopped why x ex a b = sym (loop_stops (u.onwards ex a b) next (sym (ap outcome_of (sym x) ∙ e ex a b)))
 
-    pub turned_next : HoldsCount packed k → (after : List ℕ) (n net : ℕ) → length after ≡ 64 → n ≤ 64 → ((ex : List Exemption) → Holds packed ex → length ex ≡ k → MarksOf (take n after) groups w ex net) → (v : Walking) → r ≡ Ok v → Turned v after n net (q + 1)
+    pub turned_next : HoldsCount packed k → (after : List ℕ) (n net : ℕ) → length after ≡ 64 → n ≤ 64 → ((ex : List Exemption) → Holds packed ex → length ex ≡ k → MarksOf (take n after) groups w ex net) → (v : Walking) → r ≡ Ok v → Turned v after n (Some net) (q + 1)
     unfolding outcome_of
     turned_next held after n net long low fresh v x = record {
       turns = u.turns;
@@ -84,10 +83,10 @@ module _ (t : ℕ → Float) (w : List ℕ) (m : ℕ) (order packed groups : Lis
       below = omega arith;
       long = long;
       low = low;
-      stand = λ ex a b h. fresh ex a b;
+      stand = λ ex a b. fresh ex a b;
       onwards = λ ex a b. loop_next (u.onwards ex a b) next (sym (ap outcome_of (sym x) ∙ e ex a b));
     }
 
-  pub turned_all : (state : Walking) (marks : List ℕ) (used marked q : ℕ) → Turned state marks used marked q → length c.net ≤ q → (ex : List Exemption) → Holds packed ex → length ex ≡ k → outcome_of (Ok state) ≡ within allowance (all_walks ex t w m order c)
+  pub turned_all : (state : Walking) (marks : List ℕ) (used : ℕ) (marked : Option ℕ) (q : ℕ) → Turned state marks used marked q → length c.net ≤ q → (ex : List Exemption) → Holds packed ex → length ex ≡ k → outcome_of (Ok state) ≡ within allowance (all_walks ex t w m order c)
   unfolding outcome_of
   turned_all state marks used marked q u h ex a b = sym (loop_ends (u.onwards ex a b) (table_none 0 (segment_at c) (length c.net) order u.turns.inside (rest 0) refl q h))

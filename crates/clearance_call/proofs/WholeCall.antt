@@ -1,5 +1,5 @@
 -- A call whose checks have passed: what is known of its lists, what the scratch holds, and that the walks in it are the definition's. Assumes nothing.
-use Rattle.std.specs.Prelude.{Result, Ok, Err}
+use Rattle.std.specs.Prelude.{Result, Ok, Err, IfErr}
 use mathlib.Core.Path.{◌≡◌, refl, sym, ap, subst, ◌∙◌}
 use mathlib.Core.Bool.{false}
 use mathlib.Core.List.{List, [], ◌∷◌, ◌++◌, map, map-map}
@@ -7,14 +7,14 @@ use Prim.Native.Nat.{ℕ, ◌+◌, ◌-◌, ◌*◌, ◌≤◌, ◌<◌}
 use native.Mathlib.Omega.{arith}
 use borrow.Author.Tests.{ltb-false}
 use borrow.Rule.Slice.PartMut.{mid_of, put_mid, post_of, same_len_mid, mid_len, take_put}
-use lib.Dec.{T}
-use lib.Ieee.{Float, binary64, fits}
-use lib.ListN.{length, take, drop, length-drop}
-use lib.Seq.{take_at, drop_at, take_all, length-take-le, drop-drop, take-take}
+use lib.Ieee.{Float}
+use lib.ListN.{length, get_or, take, drop, length-drop}
+use lib.Seq.{get_or-take, take_at, drop_at, take_all, length-take-le, drop-drop, take-take}
 use Rattle.laws.specs.Lists.{All}
 use Rattle.laws.specs.Charged.{free, after, runs}
 use Rattle.laws.specs.Sort.{sort_by}
 use Rattle.laws.specs.Inner.Allowance.{within, reply}
+use Rattle.laws.specs.Perm.{Perm}
 use Rattle.laws.proofs.Perms.{perm-eq}
 use Rattle.laws.proofs.Places.{all-at}
 use Rattle.laws.proofs.Parts.{tail_lent, part_same}
@@ -32,7 +32,7 @@ use Rattle.drawing.specs.Checks.{list_conditions}
 use Rattle.drawing.specs.Orders.{segments_in_order, nodes_in_order}
 use Rattle.drawing.proofs.EntryLaws.{length-segments, length-nodes, segments-at, nodes-at}
 use Rattle.drawing.proofs.FirstRefusal.{passed_head, few, segments-agree, nodes-agree}
-use Rattle.drawing.specs.Held.{NodeHeld, FitSegment}
+use Rattle.drawing.specs.Held.{FitSegment}
 use Rattle.clearance.specs.declared.visit.Walking.{Walking}
 use Rattle.clearance.specs.Conditions.{clearance_conditions}
 use Rattle.clearance.specs.Figures.{Figures}
@@ -42,7 +42,7 @@ use Rattle.clearance_call.specs.Inner.LeafOrder.{indexed_at}
 use Rattle.clearance_call.specs.Inner.Tables.{SegmentsOrdered}
 use Rattle.clearance_call.specs.Inner.Stored.{stored_tree, TreeStored}
 use Rattle.clearance_call.specs.Inner.Nested.{Nested}
-use Rattle.exemptions.specs.Inner.Exempting.{Holds, Gathered}
+use Rattle.exemptions.specs.Inner.Exempting.{unpacked, Holds, Gathered}
 use Rattle.clearance_call.specs.Inner.Marks.{Grouped}
 use Rattle.clearance.specs.Inner.State.{outcome_of, at_start, Answers}
 use Rattle.clearance_call.specs.Inner.Walking.{Part, HoldsCount, SegmentPlaces, all_walks}
@@ -50,6 +50,8 @@ use Rattle.clearance.specs.Answer.{accepted, clearance_answer}
 use Rattle.drawing.proofs.Fit.{FitNode}
 use Rattle.drawing.specs.Inner.LeastFloats.{gap_of_float}
 use Rattle.boxes.proofs.BoxLaws.{fit-segment}
+use Rattle.clearance.proofs.StateLaws.{answers-reply}
+use Rattle.clearance.specs.declared.report.EdgeNodeClearance.{EdgeNodeClearance}
 use Rattle.clearance.proofs.Answers.{Lent, passes, fit_call}
 use Rattle.clearance.proofs.WithinAllowance.{reply-within}
 use Rattle.clearance.proofs.TreeLaws.{FitIndexed, indexed-fit}
@@ -59,7 +61,7 @@ use Rattle.clearance.proofs.UnionTrees.{rejoined, walk-all_rejoined}
 use Rattle.clearance_call.proofs.LeafTrees.{build_over}
 use Rattle.clearance.proofs.NodeOrder.{tree_any_nodes}
 use Rattle.clearance_call.proofs.NestedTrees.{nested-tree}
-use Rattle.clearance_call.proofs.TableLaws.{all-places, all_placed}
+use Rattle.clearance_call.proofs.TableLaws.{all-places}
 
 -- ---- what holds of the lists after the checks
 pub record Sizes (s : SegmentColumns) (n : NodeColumns) (e : ExemptionColumns) (words : ℕ) : Type 0 where
@@ -86,9 +88,6 @@ sizes s n e t words h =
     let g = passed_head _ _ _ f.1 in
     let w = passed_head _ _ _ g.1 in
     record { segments = segments-agree s a.0; nodes = nodes-agree n b.0; exemptions = exemptions-agree e c.0; few-segments = few _ d.0; few-nodes = few _ f.0; few-exemptions = few _ g.0; room = long-scratch words _ _ w.0 }
-
-pub nodes-held : (c : NodeColumns) → NodesAgree c → ((i : ℕ) → T (fits binary64 (node_at c i).x)) → ((i : ℕ) → T (fits binary64 (node_at c i).y)) → ((i : ℕ) → T (fits binary64 (node_at c i).width)) → ((i : ℕ) → T (fits binary64 (node_at c i).height)) → All NodeHeld (nodes c)
-nodes-held c a x y w h = all_placed (nodes c) (node_at c) (length c.id) (length-nodes c a) (nodes-at c a (node_at c 0)) NodeHeld (λ i. record { x = x i; y = y i; width = w i; height = h i })
 
 -- ---- no nodes: no tree to walk
 runs-empty : (ex : List Exemption) (t : ℕ → Float) (g : Figures) (ss : List Segment) → runs (λ h s. walk ex (t s.net) s empty h) g ss ≡ free g
@@ -136,6 +135,36 @@ grown_tree n g a f w =
 -- ---- each segment of a fit list is fit
 segment-fit : (s : SegmentColumns) → SegmentsAgree s → All FitSegment (segments s) → (i : ℕ) → i < length s.net → FitSegment (segment_at s i)
 segment-fit s a fs i h = let e = length-segments s a in subst FitSegment (segments-at s a (segment_at s 0) i h) (all-at FitSegment (segment_at s 0) (segments s) fs i (omega arith))
+
+-- the exemptions as they are lent, in a slice of their own
+module _ (e : ExemptionColumns) (p₀ packed : List ℕ) (g : Gathered e p₀ packed) where
+  abbrev pub lent : List ℕ
+  lent = mid_of 0 (length e.net - 0) packed
+
+  pub lent-length : length lent ≡ length e.net
+  lent-length = length-take-le (length e.net - 0) packed (omega (arith, g.holds.rising.room, g.count)) ∙ (let k : length e.net - 0 ≡ length e.net = omega arith in k)
+
+  pub held : Holds lent (exemptions e)
+  held = record {
+    rising = record { room = omega (arith, lent-length, g.count); order = λ i j a b h. rw (get_or-take (length e.net - 0) packed i 0 (omega (arith, g.count)), get_or-take (length e.net - 0) packed j 0 (omega (arith, g.count))) (g.holds.rising.order i j a b h) };
+    same = subst (λ (l : List ℕ). Perm (map unpacked l) (exemptions e)) (sym (take-take (length (exemptions e)) (length e.net - 0) packed (omega (arith, g.count)))) g.holds.same;
+  }
+
+  pub held-count : length (exemptions e) ≡ length lent
+  held-count = g.count ∙ sym lent-length
+
+  pub held_of : HoldsCount lent (length lent)
+  held_of = record { ex = exemptions e; holds = held; count = held-count }
+
+-- the ids in order, in a slice of their own
+grouped_front : (ids groups w : List ℕ) (m : ℕ) → Grouped ids groups w m → Grouped (take m ids) groups w m
+grouped_front ids groups w m b = record {
+  rising = record { room = omega (arith, length-take-le m ids b.rising.room); order = λ i j p q h. rw (get_or-take m ids i 0 (omega arith), get_or-take m ids j 0 h) (b.rising.order i j p q h) };
+  few = b.few;
+  whole = b.whole;
+  first = λ j h. let f = b.first j h in record { from = f.from; to = f.to; below = λ i p q. rw (get_or-take m ids i 0 (omega (arith, f.to))) (f.below i p q); above = λ i p q. rw (get_or-take m ids i 0 q) (f.above i p q) };
+  there = λ j h. let t = b.there j h in (t.0, rw (get_or-take m ids (get_or groups j 0) 0 t.0) t.1);
+}
 
 -- ---- the scratch: the indices of the segments in order, and after the six words for each segment the twenty for each node
 module _ (s : SegmentColumns) (n : NodeColumns) (e : ExemptionColumns) (words : ℕ) (z : Sizes s n e words) (s₀ s₁ : List ℕ) (long : length s₀ ≡ words) (ord : SegmentsOrdered s s₀ s₁) where
@@ -188,10 +217,21 @@ module _ (s : SegmentColumns) (n : NodeColumns) (e : ExemptionColumns) (words : 
     abbrev pub groups : List ℕ
     groups = mid_of (first + m) (last - (first + m)) s₂
 
-    pub leaves_grouped : (k : ℕ) → (0 < k → Grouped g (drop m g) (drop (11 * m) g) m) → 0 < k → Grouped (mid_of first (last - first) s₂) groups tree m
-    leaves_grouped k grouped some =
-        let whole : mid_of first (last - first) s₂ ≡ g = (let f : first ≡ first + 0 = omega arith in ap (λ (x : ℕ). mid_of x (last - x) s₂) f ∙ prepared 0 (omega arith)) in
-        rw (whole, prepared m (omega arith), tree-words) (grouped some)
+    abbrev pub ids : List ℕ
+    ids = mid_of first (first + m - first) s₂
+
+    ids-words : ids ≡ take m g
+    ids-words =
+        let k : first + m - first ≡ m = omega arith in
+        let f : first ≡ first + 0 = omega arith in
+        let whole : mid_of first (last - first) s₂ ≡ g = ap (λ (x : ℕ). mid_of x (last - x) s₂) f ∙ prepared 0 (omega arith) in
+        ap (λ (x : ℕ). take x (drop first s₂)) k ∙ sym (take-take m (last - first) (drop first s₂) (omega arith)) ∙ ap (take m) whole
+
+    pub ids-long : length ids ≡ m
+    ids-long = ap length ids-words ∙ length-take-le m g (let l = g-long in omega arith)
+
+    pub leaves_grouped : (k : ℕ) → (0 < k → Grouped g (drop m g) (drop (11 * m) g) m) → 0 < k → Grouped ids groups tree m
+    leaves_grouped k grouped some = rw (ids-words, prepared m (omega arith), tree-words) (grouped_front g (drop m g) (drop (11 * m) g) m (grouped some))
 
     pub groups_long : length tree ≤ 9 * length groups
     groups_long = rw (prepared m (omega arith), tree-words) (simp length-drop (let l = g-long in omega arith))
@@ -217,28 +257,26 @@ module _ (s : SegmentColumns) (n : NodeColumns) (e : ExemptionColumns) (words : 
         let e = length-nodes n z.nodes in
         subst Nested (sym (ap (λ (l : List ℕ). stored_tree m l 0 m) tree-words ∙ grown_tree n g z.nodes f w)) (nested-tree (nodes n) (omega arith) f)
 
-    pub walked_all : (t : ℕ → Float) (packed p₀ : List ℕ) → Gathered e p₀ packed → All FitSegment (segments s) → All FitNode (nodes n) → TreeStored n g → (allowance : ℕ) (r : Result Walking Refusal)
-        → ((ex : List Exemption) → Holds packed ex → length ex ≡ length e.net → outcome_of r ≡ within allowance (all_walks ex t tree m (mid_of 0 (length s₂ - 0) s₂) s))
+    pub walked_all : (t : ℕ → Float) → All FitSegment (segments s) → All FitNode (nodes n) → TreeStored n g → (allowance : ℕ) (r : Result Walking Refusal)
+        → outcome_of r ≡ within allowance (all_walks (exemptions e) t tree (length ids) (mid_of 0 (length s₂ - 0) s₂) s)
         → outcome_of r ≡ within allowance (walk_all (exemptions e) t (segments s) (nodes n))
-    walked_all t packed p₀ gathered fs f w allowance r h =
+    walked_all t fs f w allowance r h =
         let ex = exemptions e in
         let grown = ap (λ (l : List ℕ). stored_tree m l 0 m) tree-words ∙ grown_tree n g z.nodes f w in
         let line = ap (map (segment_at s)) turns ∙ ord.ordered in
-        h ex gathered.holds gathered.count
+        h
+        ∙ ap (λ (x : ℕ). within allowance (all_walks ex t tree x (mid_of 0 (length s₂ - 0) s₂) s)) ids-long
         ∙ (λ i. within allowance (runs (λ a b. walk ex (t b.net) b (grown i) a) no_figures (line i)))
         ∙ ap (within allowance) (walk-all_rejoined ex t (nodes n) f (segments s) fs)
-
-pub held_of : (e : ExemptionColumns) (p₀ packed : List ℕ) → Gathered e p₀ packed → HoldsCount packed (length e.net)
-held_of e p₀ packed g = record { ex = exemptions e; holds = g.holds; count = g.count }
 
 -- ---- the call
 pub refused-answer : (s : SegmentColumns) (n : NodeColumns) (e : ExemptionColumns) (t : Float) (allowance words : ℕ) (c : Result Unit Refusal) (r : Refusal) → c ≡ first_of (clearance_conditions s n e t words) → c ≡ Err r → Err r ≡ clearance_answer s n e t allowance words
 unfolding clearance_answer
 refused-answer s n e t allowance words c r h g = sym (rw (sym h ∙ g))
 
-pub passed_answer : (s : SegmentColumns) (n : NodeColumns) (e : ExemptionColumns) (t : Float) (allowance words : ℕ) → passes s n e t words → Lent s n t → (w : Result Walking Refusal) → outcome_of w ≡ within allowance (walk_all (exemptions e) (λ net. t) (segments s) (nodes n))
+pub passed_answer : (s : SegmentColumns) (n : NodeColumns) (e : ExemptionColumns) (t : Float) (allowance words : ℕ) → passes s n e t words → Lent s n t → (w : Result Walking Refusal) → outcome_of w ≡ within allowance (walk_all (exemptions e) (λ net. t) (segments s) (nodes n)) → IfErr w (λ r. r ≡ WorkLimitExceeded)
     → (a : Result EdgeNodeClearance Refusal) → Answers w allowance a → a ≡ clearance_answer s n e t allowance words
 unfolding clearance_answer
-passed_answer s n e t allowance words p lent w h a k =
+passed_answer s n e t allowance words p lent w h spent a k =
     let f = fit_call s n e t words lent p in
-    rw p (k ∙ ap (reply accepted (Err WorkLimitExceeded) allowance) h ∙ reply-within (exemptions e) (λ net. t) (segments s) (nodes n) (λ net. f.threshold-fit) f.segments-fit f.nodes-fit allowance)
+    rw p (answers-reply w allowance a spent k ∙ ap (reply accepted (Err WorkLimitExceeded) allowance) h ∙ reply-within (exemptions e) (λ net. t) (segments s) (nodes n) (λ net. f.threshold-fit) f.segments-fit f.nodes-fit allowance)

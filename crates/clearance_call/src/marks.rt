@@ -4,7 +4,7 @@ ghost use Rattle.std.specs.Prelude.{◌≡◌, List, ℕ, ◌≤◌, ◌<◌, le
 ghost use Rattle.bitset.specs.Inner.Members.{member};
 ghost use Rattle.drawing.specs.Entries.{Exemption};
 ghost use Rattle.exemptions.specs.Inner.Exempting.{Rising, Holds};
-ghost use Rattle.clearance_call.specs.Inner.Marks.{TreeAtEnd, IdsSorted, LeavesGrouped, Grouped, Added, MarksOf, MarksOfWord};
+ghost use Rattle.clearance_call.specs.Inner.Marks.{TreeAtEnd, IdsSorted, LeavesGrouped, Grouped, Added, MarksOf, MarksIfAny};
 
 use bitset::{contains, insert};
 use drawing::clear;
@@ -19,10 +19,9 @@ fn sort_ids(s: &mut [u64], m: usize)
     requires { TreeAtEnd s.old m }
     ensures { IdsSorted s.old s.new m }
 {
-    let mut j = 0;
-    while j < m {
+    // By an index: the slice is written while it is read.
+    for j in 0..m {
         s[j] = s[11 * m + 9 * j + 8];
-        j += 1;
     }
     sort_indices(s, m, m, 0);
 }
@@ -36,21 +35,19 @@ pub(crate) fn group_leaves(s: &mut [u64], m: usize, exemptions: usize)
         return;
     }
     sort_ids(s, m);
-    let mut j = 0;
-    while j < m {
+    for j in 0..m {
         let group = first_at_least(s, 0, m, s[11 * m + 9 * j + 8]);
         s[m + j] = group as u64;
-        j += 1;
     }
 }
 
 // Marks the leaves of that id, if there are any.
-fn mark_id(marks: &mut [u64], ids: &[u64], m: usize, id: u32)
-    requires { Rising ids.now m }
-    ensures { Added ids.now m id marks.old marks.new }
+fn mark_id(marks: &mut [u64], ids: &[u64], id: u32)
+    requires { Rising ids.now (length ids.now) }
+    ensures { Added ids.now (length ids.now) id marks.old marks.new }
 {
-    let group = first_at_least(ids, 0, m, id as u64);
-    if m <= group {
+    let group = first_at_least(ids, 0, ids.len(), id as u64);
+    if ids.len() <= group {
         return;
     }
     if ids[group] != id as u64 {
@@ -59,45 +56,41 @@ fn mark_id(marks: &mut [u64], ids: &[u64], m: usize, id: u32)
     insert(marks, group);
 }
 
-// Makes the marks of a net, and returns how many words of them count. Where the net has no exemptions none do, so no word is cleared, and the walk reads none. The first k words of `packed` are the exemptions.
-fn mark_net(marks: &mut [u64], net: u32, packed: &[u64], k: usize, ids: &[u64], m: usize) -> usize
-    requires { (length marks.old ≡ 64) × Rising packed.now k × (0 < k → Rising ids.now m) }
-    ensures { (result ≤ 64) × ((ex : List Exemption) (groups w : List ℕ) → Holds packed.now ex → length ex ≡ k → (0 < k → Grouped ids.now groups w m) → MarksOf (take result marks.new) groups w ex net) }
+// Makes the marks of a net, and returns how many words of them count. Where the net has no exemptions none do, so no word is cleared, and the walk reads none. The words of `packed` are the exemptions, those of `ids` the ids of the leaves.
+fn mark_net(marks: &mut [u64], net: u32, packed: &[u64], ids: &[u64]) -> usize
+    requires { (length marks.old ≡ 64) × Rising packed.now (length packed.now) × (0 < length packed.now → Rising ids.now (length ids.now)) }
+    ensures { (result ≤ 64) × ((ex : List Exemption) (groups w : List ℕ) → Holds packed.now ex → length ex ≡ length packed.now → (0 < length packed.now → Grouped ids.now groups w (length ids.now)) → MarksOf (take result marks.new) groups w ex net) }
 {
-    let range = net_range(packed, k, net);
-    let from = range.from;
-    let to = range.to;
+    let range = net_range(packed, packed.len(), net);
+    let from = range.start;
+    let to = range.end;
     if from == to {
         return 0;
     }
     clear(marks);
-    let mut i = from;
-    while i < to {
-        mark_id(marks, ids, m, (packed[i] % HALF) as u32);
-        i += 1;
+    for i in from..to {
+        mark_id(marks, ids, (packed[i] % HALF) as u32);
     }
     MARK_WORDS
 }
 
-// The same where the first `used` words are the marks of the net `marked`: they are kept for that net, and made anew for another one. Before the first net `marked` is a number that no net has.
+// The same where the first `used` words are the marks of the net `marked`, if there is one: they are kept for that net, and made anew for another one.
 pub(crate) fn renew_marks(
     marks: &mut [u64],
     used: usize,
-    marked: u64,
+    marked: Option<u32>,
     net: u32,
     packed: &[u64],
-    k: usize,
     ids: &[u64],
-    m: usize,
 ) -> usize
-    requires marks_and_order { (length marks.old ≡ 64) × Rising packed.now k × (0 < k → Rising ids.now m) }
+    requires marks_and_order { (length marks.old ≡ 64) × Rising packed.now (length packed.now) × (0 < length packed.now → Rising ids.now (length ids.now)) }
     requires used_at_most { used ≤ 64 }
-    ensures { (result ≤ 64) × ((ex : List Exemption) (groups w : List ℕ) → Holds packed.now ex → length ex ≡ k → (0 < k → Grouped ids.now groups w m) → MarksOfWord (take used marks.old) groups w ex marked → MarksOf (take result marks.new) groups w ex net) }
+    ensures { (result ≤ 64) × ((ex : List Exemption) (groups w : List ℕ) → Holds packed.now ex → length ex ≡ length packed.now → (0 < length packed.now → Grouped ids.now groups w (length ids.now)) → MarksIfAny (take used marks.old) groups w ex marked → MarksOf (take result marks.new) groups w ex net) }
 {
-    if marked == net as u64 {
+    if marked == Some(net) {
         return used;
     }
-    mark_net(marks, net, packed, k, ids, m)
+    mark_net(marks, net, packed, ids)
 }
 
 // Whether leaf i is marked. Where the net has no exemptions there are no marks, and the leaf's group is not read.

@@ -5,8 +5,8 @@ ghost use Rattle.drawing.specs.Inner.Lengths.{NodesAgree};
 ghost use Rattle.clearance.specs.Tree as Tree;
 ghost use Rattle.clearance_call.specs.Inner.LeafOrder.{indexed_at, box_from, leaf_order, Places, Buildable};
 
-use drawing::Nodes;
 use boxes::Aabb;
+use drawing::Nodes;
 use floats::key_of;
 use sorting::sort_indices;
 
@@ -30,41 +30,28 @@ fn table_along(bounds: Aabb, t: usize, m: usize) -> usize
 }
 
 // The box of the node at index i.
-pub(crate) fn box_at(
-    i: usize,
-    nodes: &Nodes<'_>,
-) -> Aabb
+pub(crate) fn box_at(i: usize, nodes: &Nodes<'_>) -> Aabb
     requires { (i < length nodes.now.id.now) × NodesAgree (lent_nodes nodes.now) }
     ensures { result ≡ (indexed_at (lent_nodes nodes.now) i).bounds }
 {
-    Aabb::from_node(nodes.x[i], nodes.y[i], nodes.width[i], nodes.height[i])
+    let node = nodes.at(i);
+    Aabb::from_node(node.x, node.y, node.width, node.height)
 }
 
 // The box around the nodes whose indices are in the first n words.
-fn hull_of(
-    s: &[u64],
-    n: usize,
-    nodes: &Nodes<'_>,
-) -> Aabb
+fn hull_of(s: &[u64], n: usize, nodes: &Nodes<'_>) -> Aabb
     requires { (0 < n) × Places s.now n (lent_nodes nodes.now) }
     ensures { result ≡ box_from (lent_nodes nodes.now) (get_or s.now 0 0) (drop 1 (take n s.now)) }
 {
     let mut bounds = box_at(s[0] as usize, nodes);
-    let mut k = 1;
-    while k < n {
+    for k in 1..n {
         bounds = bounds.union(box_at(s[k] as usize, nodes));
-        k += 1;
     }
     bounds
 }
 
 // The leaves in order, in the first n words of s. After these, from t on, are the nodes' rows along the horizontal axis and then those along the vertical one.
-pub(crate) fn build_clearance_bvh(
-    s: &mut [u64],
-    n: usize,
-    t: usize,
-    nodes: &Nodes<'_>,
-)
+pub(crate) fn build_clearance_bvh(s: &mut [u64], n: usize, t: usize, nodes: &Nodes<'_>)
     requires { Buildable s.old n t (lent_nodes nodes.now) }
     ensures { (k : ℕ) → n ≤ k → s.new ≡ leaf_order k (lent_nodes nodes.now) (drop t s.old) (drop (t + 5 * length nodes.now.id.now) s.old) (take n s.old) ++ drop n s.old }
 {
@@ -76,10 +63,5 @@ pub(crate) fn build_clearance_bvh(
     sort_indices(s, n, table, 5);
     let middle = n / 2;
     build_clearance_bvh(s, middle, t, nodes);
-    build_clearance_bvh(
-        &mut s[middle..],
-        n - middle,
-        t - middle,
-        nodes,
-    );
+    build_clearance_bvh(&mut s[middle..], n - middle, t - middle, nodes);
 }

@@ -5,17 +5,13 @@ ghost use Rattle.drawing.specs.Inner.Lengths.{NodesAgree};
 ghost use Rattle.clearance_call.specs.Inner.Stored.{TreeStored};
 ghost use Rattle.clearance_call.specs.Inner.Marks.{Grouped};
 
-use drawing::Nodes;
 use crate::marks::group_leaves;
 use crate::order::build_clearance_bvh;
 use crate::stored::{put_leaves, put_splits};
 use crate::tables::{fill_node_tables, places_in_front};
+use drawing::Nodes;
 
-pub(crate) fn prepare_nodes(
-    s: &mut [u64],
-    nodes: &Nodes<'_>,
-    exemptions: usize,
-)
+pub(crate) fn prepare_nodes(s: &mut [u64], nodes: &Nodes<'_>, exemptions: usize)
     requires { NodesAgree (lent_nodes nodes.now) × (1 ≤ length nodes.now.id.now) × (length nodes.now.id.now ≤ 4096) × (length s.old ≡ 20 * length nodes.now.id.now) }
     ensures tree_stored { TreeStored (lent_nodes nodes.now) s.new }
     ensures grouped { 0 < exemptions → Grouped s.new (drop (length nodes.now.id.now) s.new) (drop (11 * length nodes.now.id.now) s.new) (length nodes.now.id.now) }

@@ -5,9 +5,9 @@ ghost use Rattle.boxes.specs.Inner.Fitting.{FitBox};
 ghost use Rattle.clearance_call.specs.Inner.LeafOrder.{Places};
 ghost use Rattle.clearance_call.specs.Inner.Stored.{box_at, BoxPut, LeafPut, LeavesPut, SplitsPut};
 
-use drawing::Nodes;
 use crate::order::box_at;
 use boxes::Aabb;
+use drawing::Nodes;
 use floats::{bits_of, float_of_bits};
 
 // The box whose edges are stored from word p on.
@@ -38,14 +38,14 @@ pub(crate) fn fit_box_from(words: &[u64], p: usize) -> Aabb
 }
 
 // Stores a box's edges from word p on.
-fn put_box(words: &mut [u64], p: usize, left: f64, top: f64, right: f64, bottom: f64)
+fn put_box(words: &mut [u64], p: usize, bounds: Aabb)
     requires { p + 4 ≤ length words.old }
-    ensures { BoxPut words.old words.new p (record { left = left; top = top; right = right; bottom = bottom }) }
+    ensures { BoxPut words.old words.new p bounds }
 {
-    words[p] = bits_of(left);
-    words[p + 1] = bits_of(top);
-    words[p + 2] = bits_of(right);
-    words[p + 3] = bits_of(bottom);
+    words[p] = bits_of(bounds.left);
+    words[p + 1] = bits_of(bounds.top);
+    words[p + 2] = bits_of(bounds.right);
+    words[p + 3] = bits_of(bounds.bottom);
 }
 
 // Stores a leaf from word p on.
@@ -53,31 +53,19 @@ fn put_leaf(words: &mut [u64], p: usize, id: u32, bounds: Aabb)
     requires { p + 9 ≤ length words.old }
     ensures { LeafPut words.old words.new p (record { id = id; bounds = bounds }) }
 {
-    put_box(
-        words,
-        p,
-        bounds.left,
-        bounds.top,
-        bounds.right,
-        bounds.bottom,
-    );
+    put_box(words, p, bounds);
     words[p + 8] = id as u64;
 }
 
 // Stores the nodes as leaves from word r on, in the order of their indices in the first words.
-pub(crate) fn put_leaves(
-    words: &mut [u64],
-    r: usize,
-    nodes: &Nodes<'_>,
-)
+pub(crate) fn put_leaves(words: &mut [u64], r: usize, nodes: &Nodes<'_>)
     requires { Places words.old (length nodes.now.id.now) (lent_nodes nodes.now) × (length nodes.now.id.now ≤ r) × (r + 9 * length nodes.now.id.now ≤ length words.old) }
     ensures { LeavesPut words.old words.new r (length nodes.now.id.now) (lent_nodes nodes.now) }
 {
-    let mut k = 0;
-    while k < nodes.id.len() {
+    // By an index: the slice is written while its first words are read.
+    for k in 0..nodes.id.len() {
         let i = words[k] as usize;
         put_leaf(words, r + 9 * k, nodes.id[i], box_at(i, nodes));
-        k += 1;
     }
 }
 
@@ -93,13 +81,6 @@ pub(crate) fn put_splits(words: &mut [u64], i: usize, n: usize) -> Aabb
     let left = put_splits(words, i, half);
     let right = put_splits(words, i + half, n - half);
     let bounds = left.union(right);
-    put_box(
-        words,
-        9 * (i + half) + 4,
-        bounds.left,
-        bounds.top,
-        bounds.right,
-        bounds.bottom,
-    );
+    put_box(words, 9 * (i + half) + 4, bounds);
     bounds
 }

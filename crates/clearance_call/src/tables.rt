@@ -7,6 +7,7 @@ ghost use Rattle.drawing.specs.Inner.Lengths.{NodesAgree, SegmentsAgree};
 ghost use Rattle.clearance.specs.Tree.{indexed_row};
 ghost use Rattle.clearance_call.specs.Inner.Tables.{node_row_at, segment_row_at, Filled, NodesFilled, SegmentsOrdered};
 
+use crate::order::box_at;
 use boxes::Aabb;
 use drawing::{Nodes, Segments, ends_in_order};
 use floats::key_of;
@@ -49,29 +50,17 @@ fn put_node(s: &mut [u64], at: usize, horizontal: bool, id: u32, bounds: Aabb)
 }
 
 // The nodes' rows along one axis, from `at` on.
-fn fill_node_table(
-    s: &mut [u64],
-    at: usize,
-    horizontal: bool,
-    nodes: &Nodes<'_>,
-)
+fn fill_node_table(s: &mut [u64], at: usize, horizontal: bool, nodes: &Nodes<'_>)
     requires { NodesAgree (lent_nodes nodes.now) × (at + 5 * length nodes.now.id.now ≤ length s.old) }
     ensures { Filled (node_row_at horizontal (lent_nodes nodes.now)) at (length nodes.now.id.now) s.old s.new }
 {
-    let mut i = 0;
-    while i < nodes.id.len() {
-        let bounds = Aabb::from_node(nodes.x[i], nodes.y[i], nodes.width[i], nodes.height[i]);
-        put_node(s, at + 5 * i, horizontal, nodes.id[i], bounds);
-        i += 1;
+    for i in 0..nodes.id.len() {
+        put_node(s, at + 5 * i, horizontal, nodes.id[i], box_at(i, nodes));
     }
 }
 
 // The nodes' rows along the horizontal axis from `at` on, then those along the vertical one.
-pub(crate) fn fill_node_tables(
-    s: &mut [u64],
-    at: usize,
-    nodes: &Nodes<'_>,
-)
+pub(crate) fn fill_node_tables(s: &mut [u64], at: usize, nodes: &Nodes<'_>)
     requires { NodesAgree (lent_nodes nodes.now) × (at + 10 * length nodes.now.id.now ≤ length s.old) }
     ensures { NodesFilled (lent_nodes nodes.now) at s.old s.new }
 {
@@ -80,30 +69,30 @@ pub(crate) fn fill_node_tables(
 }
 
 // The segments' rows, from `at` on: net, orientation byte and the keys of fixed, start and end, the ends in rising order.
-fn fill_segment_table(
-    s: &mut [u64],
-    at: usize,
-    segments: &Segments<'_>,
-)
+fn fill_segment_table(s: &mut [u64], at: usize, segments: &Segments<'_>)
     requires { SegmentsAgree (lent_segments segments.now) × (at + 5 * length segments.now.net.now ≤ length s.old) }
     ensures { Filled (segment_row_at (lent_segments segments.now)) at (length segments.now.net.now) s.old s.new }
 {
-    let mut i = 0;
-    while i < segments.net.len() {
-        let ends = ends_in_order(segments.start[i], segments.end[i]);
-        let f = key_of(segments.fixed[i]);
-        let b = key_of(ends.start);
-        let e = key_of(ends.end);
-        put_row(s, at + 5 * i, segments.net[i] as u64, segments.orientation[i] as u64, f, b, e);
-        i += 1;
+    for i in 0..segments.net.len() {
+        let segment = segments.at(i);
+        let ends = ends_in_order(segment.start, segment.end);
+        let fixed = key_of(segment.fixed);
+        let start = key_of(ends.start);
+        let end = key_of(ends.end);
+        put_row(
+            s,
+            at + 5 * i,
+            u64::from(segment.net),
+            u64::from(segment.orientation),
+            fixed,
+            start,
+            end,
+        );
     }
 }
 
 // The indices of the segments in the order of SCOPE 9.4, in the first words of s; their rows follow.
-pub(crate) fn order_segments(
-    s: &mut [u64],
-    segments: &Segments<'_>,
-)
+pub(crate) fn order_segments(s: &mut [u64], segments: &Segments<'_>)
     requires { SegmentsAgree (lent_segments segments.now) × (6 * length segments.now.net.now ≤ length s.old) }
     ensures { SegmentsOrdered (lent_segments segments.now) s.old s.new }
 {
@@ -111,4 +100,5 @@ pub(crate) fn order_segments(
     places_in_front(s, n);
     fill_segment_table(s, n, segments);
     sort_indices(s, n, n, 5);
+    segments.held();
 }

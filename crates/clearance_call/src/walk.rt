@@ -1,8 +1,9 @@
 // The walk of one segment over the stored tree (SCOPE 5.5 to 5.7), within the remaining visits: a loop over the parts of the tree, with a stack of those that are still to be walked.
-ghost use Rattle.std.specs.Prelude.{◌≡◌, true, List, ℕ, ◌+◌, ◌^◌, ◌≤◌, ◌<◌, length, get_or};
+ghost use Rattle.std.specs.Prelude.{◌≡◌, true, List, ℕ, ◌+◌, ◌^◌, ◌≤◌, ◌<◌, length, get_or, IfErr};
 ghost use Rattle.laws.specs.Charged.{free, visit, runs};
 ghost use Rattle.laws.specs.Inner.Allowance.{within};
 ghost use Rattle.bitset.specs.Inner.Members.{member};
+ghost use Rattle.drawing.specs.declared.refusal.Refusal.TheVariants.{WorkLimitExceeded};
 ghost use Rattle.drawing.specs.Entries.{Exemption};
 ghost use Rattle.drawing.specs.Inner.LeastFloats.{Number};
 ghost use Rattle.clearance.specs.Tree.{bounds_of};
@@ -11,13 +12,17 @@ ghost use Rattle.clearance_call.specs.Inner.Stored.{stored_tree, leaves_from};
 ghost use Rattle.clearance.specs.Walk.{with_pair};
 ghost use Rattle.clearance.specs.Inner.State.{so_far, outcome_of};
 ghost use Rattle.clearance_call.specs.Inner.Nested.{Nested, TreeBelow, leaf_visit};
-ghost use Rattle.clearance_call.specs.Inner.Walking.{Part, Near, Walkable, Halved, NetMarks, Walks, step_of, Steps};
+ghost use Rattle.clearance_call.specs.Inner.Walking.{Part, Near, Walkable, Halved, NetMarks, Walks, Steps};
 ghost use Rattle.clearance_call.specs.Inner.Marks.{MarksOf};
 
 use crate::marks::is_marked;
 use crate::stored::fit_box_from;
 use boxes::Aabb;
-use clearance::{Halves, Subtree, Walking, clearance_subtree_can_contribute, edges_below, nearer_first, visit_pair};
+use clearance::{
+    Halves, Subtree, Walking, clearance_subtree_can_contribute, edges_below, nearer_first,
+    visit_pair,
+};
+use drawing::Refusal;
 
 // The box around the n leaves from leaf i on.
 pub(crate) fn bounds_of(words: &[u64], i: usize, n: usize) -> Aabb
@@ -44,7 +49,8 @@ fn visit_leaf(
     requires i_in_bounds { i < length groups.now }
     requires number { Number distance }
     requires remaining_bound { state.violations + state.remaining < 2 ^ 64 }
-    ensures { outcome_of result ≡ within state.remaining (visit (free (with_pair (member marks.now (get_or groups.now i 0)) threshold distance (so_far state)))) }
+    ensures outcome { outcome_of result ≡ within state.remaining (visit (free (with_pair (member marks.now (get_or groups.now i 0)) threshold distance (so_far state)))) }
+    ensures refusal { IfErr result (λ r. r ≡ WorkLimitExceeded) }
 {
     // `visit_pair` tests this too. With the test before the mark is read, the compiler bounds the loop over leaves by the remaining visits, so the test costs nothing there.
     if state.remaining == 0 {
@@ -107,38 +113,22 @@ fn visit_leaves(
     requires net_marks { NetMarks marks.now groups.now words.now }
     requires remaining_bound { start.violations + start.remaining < 2 ^ 64 }
     requires nested { Nested (stored_tree n words.now i n) }
-    ensures { (ex : List Exemption) (net : ℕ) → MarksOf marks.now groups.now words.now ex net → outcome_of result ≡ within start.remaining (runs (leaf_visit ex threshold net bounds) (so_far start) (leaves_from words.now i n)) }
+    ensures outcome { (ex : List Exemption) (net : ℕ) → MarksOf marks.now groups.now words.now ex net → outcome_of result ≡ within start.remaining (runs (leaf_visit ex threshold net bounds) (so_far start) (leaves_from words.now i n)) }
+    ensures refusal { IfErr result (λ r. r ≡ WorkLimitExceeded) }
 {
     let mut state = start;
-    let mut j = i;
-    while j < i + n {
+    for j in i..i + n {
         let distance = bounds.distance(fit_box_from(words, 9 * j));
-        let walked = visit_leaf(marks, groups, j, distance, threshold, state);
-        let Ok(next) = walked else {
-            return Err(Refusal::WorkLimitExceeded);
-        };
-        state = next;
-        j += 1;
+        state = visit_leaf(marks, groups, j, distance, threshold, state)?;
     }
     Ok(state)
 }
 
-// The outcome of the step at a part: the walk stops, or the part is done, or its halves are to be walked.
+// The step at a part: the part is done, or its halves are to be walked.
 #[derive(Clone, Copy)]
 enum Step {
-    Stopped,
     Done(Walking),
     Split(Halves),
-}
-
-// The step at a part whose leaves were visited: the part is done, or the walk stopped there.
-fn step_of(walked: Result<Walking, Refusal>) -> Step
-    ensures { result ≡ step_of walked }
-{
-    let Ok(state) = walked else {
-        return Step::Stopped;
-    };
-    Step::Done(state)
 }
 
 // The step at one part, for a segment with the given box, whose net has these marks. The part is pruned, or its leaves are visited, or it is halved. The state is passed by its fields: only of a float that is itself a parameter, as `least` is here, is it known in the proof that it is a value of binary64.
@@ -152,10 +142,11 @@ fn look_at_part(
     violations: usize,
     least: f64,
     remaining: usize,
-) -> Step
+) -> Result<Step, Refusal>
     requires walkable { Walkable words.now part.first part.count part.lower bounds (record { violations = violations; least = least; remaining = remaining }) }
     requires net_marks { NetMarks marks.now groups.now words.now }
-    ensures { (ex : List Exemption) (net : ℕ) → MarksOf marks.now groups.now words.now ex net → Steps ex threshold words.now bounds net part (record { violations = violations; least = least; remaining = remaining }) result }
+    ensures outcome { (ex : List Exemption) (net : ℕ) → MarksOf marks.now groups.now words.now ex net → Steps ex threshold words.now bounds net part (record { violations = violations; least = least; remaining = remaining }) result }
+    ensures refusal { IfErr result (λ r. r ≡ WorkLimitExceeded) }
 {
     let i = part.first;
     let n = part.count;
@@ -166,15 +157,17 @@ fn look_at_part(
         remaining: remaining,
     };
     if !clearance_subtree_can_contribute(lower, threshold, least) {
-        return Step::Done(state);
+        return Ok(Step::Done(state));
     }
     if n == 1 {
-        return step_of(visit_leaf(marks, groups, i, lower, threshold, state));
+        let visited = visit_leaf(marks, groups, i, lower, threshold, state)?;
+        return Ok(Step::Done(visited));
     }
     if part_below(words, i, n, lower, bounds, threshold) {
-        return step_of(visit_leaves(words, i, n, bounds, threshold, marks, groups, state));
+        let visited = visit_leaves(words, i, n, bounds, threshold, marks, groups, state)?;
+        return Ok(Step::Done(visited));
     }
-    Step::Split(halve(words, i, n, bounds))
+    Ok(Step::Split(halve(words, i, n, bounds)))
 }
 
 // The stack never holds more parts: a tree has at most 4,096 leaves, 2 to the power 12, and each part on the stack has at most half of the leaves, rounded up, of the part that was halved.
@@ -192,7 +185,8 @@ pub(crate) fn visit_segment_candidates(
 ) -> Result<Walking, Refusal>
     requires walkable { Walkable words.now whole.first whole.count whole.lower bounds start × (whole.count ≤ 4096) }
     requires net_marks { NetMarks marks.now groups.now words.now }
-    ensures { (ex : List Exemption) (net : ℕ) → MarksOf marks.now groups.now words.now ex net → Walks ex threshold words.now whole.first whole.count bounds net start result }
+    ensures outcome { (ex : List Exemption) (net : ℕ) → MarksOf marks.now groups.now words.now ex net → Walks ex threshold words.now whole.first whole.count bounds net start result }
+    ensures refusal { IfErr result (λ r. r ≡ WorkLimitExceeded) }
 {
     let mut part = whole;
     let mut state = start;
@@ -209,11 +203,8 @@ pub(crate) fn visit_segment_candidates(
             state.violations,
             state.least,
             state.remaining,
-        );
+        )?;
         match step {
-            Step::Stopped => {
-                return Err(Refusal::WorkLimitExceeded);
-            }
             Step::Split(halves) => {
                 let farther = halves.farther;
                 let nearer = halves.nearer;

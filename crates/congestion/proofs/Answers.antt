@@ -12,6 +12,7 @@ use Rattle.drawing.specs.Refusals.{number_of, first_of, checked}
 use Rattle.drawing.specs.declared.refusal.Refusal.{Refusal}
 use Rattle.drawing.specs.declared.refusal.Refusal.TheVariants.{WorkLimitExceeded}
 use Rattle.congestion.specs.declared.report.ParallelCongestion.{ParallelCongestion}
+use Rattle.congestion.specs.declared.report.CongestionReport.{CongestionReport}
 use Rattle.congestion.specs.Conditions.{congestion_conditions}
 use Rattle.congestion.specs.AllPairs.{all_pairs}
 use Rattle.congestion.specs.Answer.{report_of, settled, density_answer, without_density, profile_answer, congestion_answer, zeros, result_of}

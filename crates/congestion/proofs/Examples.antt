@@ -27,6 +27,7 @@ use Rattle.congestion.specs.Cells.{cells_from}
 use Rattle.congestion.specs.Figures.{total, stretches, congested, close_other_pairs, pair_overlap, peak}
 use Rattle.congestion.specs.Rounded.{close_floats}
 use Rattle.congestion.specs.Visits.{visit_count}
+use Rattle.congestion.specs.declared.report.CongestionReport.{CongestionReport}
 use Rattle.congestion.specs.AllPairs.{lengths, least_nonzero, all_pairs}
 use Rattle.congestion.specs.Walk.{in_order, sweep, along, sweep_wires, walk_all}
 use Rattle.congestion.specs.Answer.{settled, density_answer, profile_answer, congestion_answer, zeros, result_of}

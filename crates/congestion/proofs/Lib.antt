@@ -33,6 +33,5 @@ pub mod FiguresOrder
 mod Visits
 pub mod LeastGap
 pub mod RoundedSweep
--- the total and the answers that the code makes
+-- the total that the code makes
 mod SummedLengths
-mod AnswerCases

@@ -7,7 +7,11 @@ use crate::report::{CongestionReport, ParallelCongestion};
 use drawing::{Refusal, visits_used};
 
 // The answer of a call whose checks passed, for this total length.
-pub fn answer_of(swept: Result<Found, Refusal>, total: f64, allowance: usize) -> Result<CongestionReport, Refusal>
+pub fn answer_of(
+    swept: Result<Found, Refusal>,
+    total: f64,
+    allowance: usize,
+) -> Result<CongestionReport, Refusal>
     ensures { result ≡ answer_of swept total allowance }
 {
     let found = swept?;
@@ -26,7 +30,9 @@ pub fn answer_of(swept: Result<Found, Refusal>, total: f64, allowance: usize) ->
 }
 
 // The answer with pair overlap and peak zero.
-pub fn without_density(answer: Result<CongestionReport, Refusal>) -> Result<CongestionReport, Refusal>
+pub fn without_density(
+    answer: Result<CongestionReport, Refusal>,
+) -> Result<CongestionReport, Refusal>
     ensures { result ≡ answer_without_density answer }
 {
     let report = answer?;
@@ -35,5 +41,8 @@ pub fn without_density(answer: Result<CongestionReport, Refusal>) -> Result<Cong
         peak_close_neighbors: 0,
         ..report.congestion
     };
-    Ok(CongestionReport { congestion: congestion, ..report })
+    Ok(CongestionReport {
+        congestion: congestion,
+        ..report
+    })
 }

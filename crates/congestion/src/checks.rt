@@ -13,6 +13,7 @@ use floats::{is_finite, on_grid};
 use list_checks::check_segments;
 
 // SCOPE 7.6: a coordinate is off the grid. Both ends are asked the same, so their order does not matter.
+#[tactic(auto, unfolding(drawing::specs::Conditions::off_grid_segment, drawing::specs::Conditions::off_grid_fields))]
 fn segment_off_grid(segment: Segment) -> bool
     ensures { result ≡ off_grid_segment segment }
 {

@@ -15,6 +15,7 @@ pub struct ParallelCongestion {
 
 impl ParallelCongestion {
     // SCOPE 3.17: the congested part of the total length, from 0 to 1; 0 unless the total is above 0.
+    #[tactic(auto, unfolding(crate::specs::Ratio::ratio))]
     pub fn ratio(self) -> f64
         ensures { result ≡ Ratio.ratio self.total_length self.congested_length }
     {

@@ -1,5 +1,5 @@
 -- A segment may be given in either direction. Assumes nothing.
-use Rattle.std.specs.Prelude.{Some}
+use Rattle.std.specs.Prelude.{Option, Some, Result}
 use mathlib.Core.Path.{◌≡◌, refl, sym, ap, subst, ◌∙◌}
 use mathlib.Core.Logic.{◌↔◌, inl, inr}
 use mathlib.Core.Bool.{Bool, true, false, not, ◌||◌}
@@ -15,6 +15,7 @@ use Rattle.laws.proofs.ListLaws.{all_map, none-all, mem_some, map_mem}
 use Rattle.floats.specs.Values.{lesser_of, greater_of}
 use Rattle.floats.proofs.Extremes.{picked}
 use Rattle.floats.proofs.Trichotomy.{lt_asym, kept-lesser, kept_greater, rise_once, equal_not_rising, rise_unless_equal}
+use Rattle.drawing.specs.declared.refusal.Refusal.{Refusal}
 use Rattle.drawing.specs.declared.refusal.Refusal.TheVariants.{InvalidInput}
 use Rattle.drawing.specs.Entries.{Segment, SegmentColumns, NodeColumns, ExemptionColumns, segment_columns, segments_of, as_lent, as_taken, segments, columns_of, nodes, exemptions}
 use Rattle.drawing.specs.Refusals.{number_of, first_of, scratch_after}
@@ -177,7 +178,7 @@ module _ (s t : SegmentColumns) (a : SeenAlike s t) where
   unfolding congestion_answer
   by-congestion cutoff words = rw (with_cutoff cutoff words, a.taken)
 
-  by-tight-pair : (n : NodeColumns) (e : ExemptionColumns) (choice : ℕ × ℕ) → tight_pair_answer t n e choice ≡ tight_pair_answer s n e choice
+  by-tight-pair : (n : NodeColumns) (e : ExemptionColumns) (choice : TightPair) → tight_pair_answer t n e choice ≡ tight_pair_answer s n e choice
   unfolding tight_pair_answer
   by-tight-pair n e choice = rw (pair-conditions n e, a.taken)
 
@@ -212,14 +213,14 @@ every_measure parallel_congestion_profile a b o = let same = seen_alike a.drawin
 every_measure parallel_congestion a b o = let same = seen_alike a.drawing b.drawing o.drawing in run_alike parallel_congestion a b o (λ cutoff always words. by-congestion a.drawing b.drawing same cutoff words) (λ cutoff words. with_cutoff a.drawing b.drawing same cutoff words)
 
 -- ---- the tight pair
-answered-alike : (s t : SegmentColumns) → SeenAlike s t → (n : NodeColumns) (e : ExemptionColumns) (r : TightPair) → Answered t n e r → Answered s n e r
+answered-alike : (s t : SegmentColumns) → SeenAlike s t → (n : NodeColumns) (e : ExemptionColumns) (r : Result (Option TightPair) Refusal) → Answered t n e r → Answered s n e r
 answered-alike s t a n e r p = record {
   choice = p.choice;
   is = p.is ∙ by-tight-pair s t a n e p.choice;
-  tight = λ i j h. subst (λ (l : List Segment). Tight (exemptions e) l (nodes n) i j) a.taken (p.tight i j h);
+  tight = λ pair h. subst (λ (l : List Segment). Tight (exemptions e) l (nodes n) pair.segment pair.node) a.taken (p.tight pair h);
 }
 
-tight-pair : (s t : SegmentColumns) (n : NodeColumns) (e : ExemptionColumns) (r : TightPair) → columns_as_taken t ≡ columns_as_taken s → Answered t n e r ↔ Answered s n e r
+tight-pair : (s t : SegmentColumns) (n : NodeColumns) (e : ExemptionColumns) (r : Result (Option TightPair) Refusal) → columns_as_taken t ≡ columns_as_taken s → Answered t n e r ↔ Answered s n e r
 tight-pair s t n e r h = (answered-alike s t (seen_alike s t h) n e r, answered-alike t s (seen_alike t s (sym h)) n e r)
 
 -- ---- refusal 5

@@ -1,5 +1,5 @@
 -- The joiner's call. Assumes nothing.
-use Rattle.std.specs.Prelude.{Result, Ok}
+use Rattle.std.specs.Prelude.{Result, Ok, Err}
 use mathlib.Core.Path.{◌≡◌, refl, sym, ap, ◌∙◌}
 use mathlib.Core.Logic.{◌⊎◌, inl, inr}
 use mathlib.Core.Bool.{Bool, false}
@@ -16,7 +16,6 @@ use Rattle.laws.proofs.ListLaws.{all_none}
 use Rattle.laws.proofs.Perms.{perm-length}
 use Rattle.drawing.specs.declared.refusal.Refusal.{Refusal}
 use Rattle.drawing.specs.declared.refusal.Refusal.TheVariants.{ShortOutput}
-use Rattle.drawing.specs.declared.refusal.Check.TheVariants as checks
 use Rattle.drawing.specs.Conditions.{too_many, unfit_segment, short_output}
 use Rattle.drawing.specs.Checks.{segments_differ, segment_list_conditions}
 use Rattle.drawing.specs.Entries.{Segment, SegmentColumns, segment_columns, as_lent, as_taken, segments, columns_of}
@@ -28,8 +27,7 @@ use Rattle.drawing.proofs.ColumnLaws.{columns_entries, columns_same, columns_cou
 use Rattle.drawing.proofs.EntryLaws.{length-segments}
 use Rattle.drawing.proofs.FirstRefusal.{first_go_on, segment_list_passes}
 use Rattle.drawing.proofs.Fit.{fit-segments}
-use Rattle.joining.specs.declared.answer.JoinAnswer.{JoinAnswer}
-use Rattle.joining.specs.declared.answer.JoinAnswer.TheVariants.{Joined, Refused}
+use Rattle.joining.specs.declared.answer.Joined.{Joined}
 use Rattle.joining.specs.Points.{NumberLine, SamePoints}
 use Rattle.joining.specs.Joined.{joined}
 use Rattle.joining.specs.Conditions.{output_lengths, join_conditions}
@@ -43,9 +41,9 @@ use Rattle.demands.proofs.Directions.{SeenAlike, seen_alike}
 
 -- ---- from the outcome of the checks
 module _ (c out : SegmentColumns) (k : Result Unit Refusal) (e : first_of (join_conditions c out) ≡ k) where
-  answer-is : join_answer c out ≡ checked Refused k (joined_of (segments c))
+  answer-is : join_answer c out ≡ checked Err k (joined_of (segments c))
   unfolding join_answer
-  answer-is = ap (λ (z : Result Unit Refusal). checked Refused z (joined_of (segments c))) e
+  answer-is = ap (λ (z : Result Unit Refusal). checked Err z (joined_of (segments c))) e
 
   output_is : output_after c out ≡ checked (λ r. out) k (written (joined (segments c)) out)
   unfolding output_after
@@ -55,7 +53,7 @@ unfit : (r : JoinRun) (refusal : Refusal) → First (join_conditions r.lent r.be
 unfolding result_of
 unfit r why f =
     let e = first-refused (join_conditions r.lent r.before) why f in
-    record { returns = ap result_of (r.says.answers ∙ answer-is r.lent r.before (checks.Refused why) e); writes = r.says.leaves ∙ output_is r.lent r.before (checks.Refused why) e }
+    record { returns = ap result_of (r.says.answers ∙ answer-is r.lent r.before (Err why) e); writes = r.says.leaves ∙ output_is r.lent r.before (Err why) e }
 
 -- the pieces of a call
 abbrev pieces : JoinRun → List Segment
@@ -76,7 +74,7 @@ module _ (r : JoinRun) (h : ListFit r) where
   unfolding join_conditions
   room_decides = first_go_on (segment_list_conditions r.lent) _ (first_of (segment_list_conditions r.lent)) refl list_passes
 
-  answered : r.returned ≡ checked Refused (room (length (pieces r)) r.before) (joined_of (segments r.lent))
+  answered : r.returned ≡ checked Err (room (length (pieces r)) r.before) (joined_of (segments r.lent))
   answered = r.says.answers ∙ answer-is r.lent r.before _ room_decides
 
   left : r.after ≡ checked (λ w. r.before) (room (length (pieces r)) r.before) (written (pieces r) r.before)
@@ -123,18 +121,18 @@ module _ (r : JoinRun) (h : JoinFit r) where
   read_back = ap as_lent front-is ∙ columns_entries (pieces r)
 
 -- ---- two calls whose lists pass, and whose output columns held the same
-same_outcome : (k : Result Unit Refusal) (n g h : ℕ) (x y : JoinAnswer) → x ≡ checked Refused k (Joined n g) → y ≡ checked Refused k (Joined n h) → ((result_of x).0 ≡ (result_of y).0) × ((result_of x).1 ≡ (result_of y).1)
+same_outcome : (k : Result Unit Refusal) (n g h : ℕ) (x y : Result Joined Refusal) → x ≡ checked Err k (Ok (record { pieces = n; gone = g })) → y ≡ checked Err k (Ok (record { pieces = n; gone = h })) → ((result_of x).0 ≡ (result_of y).0) × ((result_of x).1 ≡ (result_of y).1)
 unfolding result_of
 same_outcome (Ok tt) n g h x y p q = (rw (p, q), rw (p, q))
-same_outcome (checks.Refused w) n g h x y p q = (rw (p, q), rw (p, q))
+same_outcome (Err w) n g h x y p q = (rw (p, q), rw (p, q))
 
 module _ (a b : JoinRun) (f : ListFit a) (g : ListFit b) (same : a.before ≡ b.before) where
   pieces_decide : pieces a ≡ pieces b → a.after ≡ b.after
   pieces_decide e = left a f ∙ (λ i. checked (λ w. same i) (room (length (e i)) (same i)) (written (e i) (same i))) ∙ sym (left b g)
 
   -- what a returns, said of the pieces of b
-  answered-alike : (e : pieces a ≡ pieces b) → a.returned ≡ checked Refused (room (length (pieces b)) b.before) (Joined (length (pieces b)) (length (segments a.lent) - length (pieces b)))
-  answered-alike e = answered a f ∙ (λ i. checked Refused (room (length (e i)) (same i)) (Joined (length (e i)) (length (segments a.lent) - length (e i))))
+  answered-alike : (e : pieces a ≡ pieces b) → a.returned ≡ checked Err (room (length (pieces b)) b.before) (Ok (record { pieces = length (pieces b); gone = length (segments a.lent) - length (pieces b) }))
+  answered-alike e = answered a f ∙ (λ i. checked Err (room (length (e i)) (same i)) (Ok (record { pieces = length (e i); gone = length (segments a.lent) - length (e i) })))
 
   one_list : (L : NumberLine) → SamePoints L (segments a.lent) (segments b.lent) → SamePieces a b
   one_list L p =
@@ -147,7 +145,7 @@ module _ (a b : JoinRun) (f : ListFit a) (g : ListFit b) (same : a.before ≡ b.
   any_order p =
       let q = lent_taken a.lent b.lent p in
       let e = lists.any_order (segments a.lent) (segments b.lent) (fit_all a f) q in
-      record { returned = answered-alike e ∙ (λ i. checked Refused (room (length (pieces b)) b.before) (Joined (length (pieces b)) (perm-length q i - length (pieces b)))) ∙ sym (answered b g); after = pieces_decide e }
+      record { returned = answered-alike e ∙ (λ i. checked Err (room (length (pieces b)) b.before) (Ok (record { pieces = length (pieces b); gone = perm-length q i - length (pieces b) }))) ∙ sym (answered b g); after = pieces_decide e }
 
 -- ---- two calls that differ only in directions
 module _ (s t : SegmentColumns) (a : SeenAlike s t) (out : SegmentColumns) where

@@ -19,6 +19,7 @@ use Rattle.drawing.specs.Checks.{segment_conditions}
 use Rattle.clearance.specs.Conditions.{clearance_conditions}
 use Rattle.separation.specs.Conditions.{separation_conditions}
 use Rattle.congestion.specs.declared.report.ParallelCongestion.{ParallelCongestion}
+use Rattle.congestion.specs.declared.report.CongestionReport.{CongestionReport}
 use Rattle.congestion.specs.Conditions.{congestion_conditions}
 use Rattle.congestion.specs.Answer.{density_answer, profile_answer, congestion_answer, without_density}
 use Rattle.demands.specs.Measures.{Measure, Run, result_of_run, earlier, visits_reach, Lists, clearance, separation, of_congestion, density, profile, congestion}

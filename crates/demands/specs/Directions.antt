@@ -1,9 +1,10 @@
 -- SCOPE 2.8, 9.6, request No. 1: "A segment with start above end is now taken as if its two ends had been given in rising order, by every measure and the tight pair, and no call, later ones included, gives 5 for that alone. Start equal to end still gives 5. A drawing that was accepted keeps its report".
 -- `proofs/Directions.antt` proves `Directions`.
-use Rattle.std.specs.Prelude.{◌≡◌, ◌↔◌, true, false, List, [], ◌∷◌, map, ◌≤◌, ltb, Float, Some}
+use Rattle.std.specs.Prelude.{◌≡◌, ◌↔◌, true, false, List, [], ◌∷◌, map, ◌≤◌, ltb, Float, Option, Some, Result}
 use Rattle.std.specs.Float.Ieee.{lt, eq}
 use Rattle.std.specs.Float.Ieee.Scale.{finite}
 use Rattle.laws.specs.Lists.{Mem, All, some_of}
+use Rattle.drawing.specs.declared.refusal.Refusal.{Refusal}
 use Rattle.drawing.specs.Entries.{Segment, SegmentColumns, NodeColumns, ExemptionColumns, segment_columns, node_columns, as_lent, ends_in_order, as_taken, segments, columns_of}
 use Rattle.drawing.specs.Conditions.{unfit_segment}
 use Rattle.tight_pair.specs.declared.TightPair.{TightPair}
@@ -89,7 +90,7 @@ pub record Directions : Type 0 where
   -- "by every measure", by columns and by records: two calls that differ only in directions return the same and leave the same, refusals, visits and scratch included; one of the two drawings may be the other with its segments turned (`columns_once`). So "no call .. gives 5 for that alone".
   pub every_measure : (call : Call) (a b : Run (measure_of call)) → OnlyDirections call a b → SameAnswer call a b
   -- "and the tight pair": its contract allows the same answers
-  pub tight-pair : (s t : SegmentColumns) (n : NodeColumns) (e : ExemptionColumns) (r : TightPair) → columns_as_taken t ≡ columns_as_taken s → Answered t n e r ↔ Answered s n e r
+  pub tight-pair : (s t : SegmentColumns) (n : NodeColumns) (e : ExemptionColumns) (r : Result (Option TightPair) Refusal) → columns_as_taken t ≡ columns_as_taken s → Answered t n e r ↔ Answered s n e r
   -- "Start equal to end still gives 5": of a segment that is fit otherwise, exactly then, in either direction, and of a list of them. They are compared as numbers: -0 equals +0.
   pub five_where_equal : (s : Segment) → FitOtherwise s → unfit_segment (as_taken s) ≡ eq s.start s.end
   pub five-of-a_list : (c : SegmentColumns) → All FitOtherwise (as_lent c) → some_of unfit_segment (segments c) ≡ some_of (λ s. eq s.start s.end) (as_lent c)

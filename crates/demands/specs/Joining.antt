@@ -1,5 +1,5 @@
 -- SCOPE 16, request No. 2: "Add a joiner: from segment columns it writes, into lent output columns, the fewest pieces of each net, orientation and fixed coordinate that cover the same points of the real line". What holds of the joined list is `JoinedLists`, in the crate `joining`; here it is said of every run of the call. `proofs/Joining.antt` proves `Joining`.
-use Rattle.std.specs.Prelude.{◌≡◌, ◌⊎◌, false, ℕ, ◌-◌, length, take, Ok}
+use Rattle.std.specs.Prelude.{◌≡◌, ◌⊎◌, false, ℕ, ◌-◌, length, take, Result, Ok}
 use Rattle.laws.specs.Lists.{All}
 use Rattle.laws.specs.Perm.{Perm}
 use Rattle.drawing.specs.declared.refusal.Refusal.{Refusal}
@@ -8,7 +8,7 @@ use Rattle.drawing.specs.Checks.{segment_list_conditions}
 use Rattle.drawing.specs.Entries.{SegmentColumns, segment_columns, as_lent, segments}
 use Rattle.drawing.specs.Held.{SegmentsHeld, FitSegment}
 use Rattle.drawing.specs.Refusals.{number_of, first_of}
-use Rattle.joining.specs.declared.answer.JoinAnswer.{JoinAnswer}
+use Rattle.joining.specs.declared.answer.Joined.{Joined}
 use Rattle.joining.specs.Points.{NumberLine, SamePoints}
 use Rattle.joining.specs.Joined.{joined}
 use Rattle.joining.specs.JoinedLists.{JoinedLists}
@@ -18,7 +18,7 @@ use Rattle.demands.specs.Applies.{First, NoneApplies, InOrder}
 use Rattle.demands.specs.Directions.{columns_as_taken}
 
 -- what the call's contract says (`readability`, specs/Calls) of the columns that it was lent to read, of what its output columns held before, of what it returned, and of what they hold after it
-pub record JoinSays (lent before : SegmentColumns) (returned : JoinAnswer) (after : SegmentColumns) : Type 0 where
+pub record JoinSays (lent before : SegmentColumns) (returned : Result Joined Refusal) (after : SegmentColumns) : Type 0 where
   pub answers : returned ≡ join_answer lent before
   pub leaves : after ≡ output_after lent before
   pub held : first_of (segment_list_conditions lent) ≡ Ok tt → SegmentsHeld lent
@@ -27,7 +27,7 @@ pub record JoinSays (lent before : SegmentColumns) (returned : JoinAnswer) (afte
 pub record JoinRun : Type 0 where
   pub lent : SegmentColumns
   pub before : SegmentColumns
-  pub returned : JoinAnswer
+  pub returned : Result Joined Refusal
   pub after : SegmentColumns
   pub says : JoinSays lent before returned after
 

@@ -12,7 +12,6 @@ use borrow.Author.Tests.{lt-ltb, le-ltb}
 use borrow.Rule.Slice.PartMut.{mid_of, put_mid, mid_len, take_put, same_len_mid}
 use lib.Dec.{ltb}
 use lib.Ieee.{Float}
-use Rattle.floats.specs.Grid.{of_units}
 use lib.ListN.{length, get_or, take, replicate, length-map, length-replicate, get_or-replicate, get_or-append}
 use lib.Seq.{take-take, length-take-le, get_or-append-add}
 use Rattle.laws.specs.Lists.{Mem, All}
@@ -35,13 +34,15 @@ use Rattle.rows.proofs.Oriented.{oriented-sorted}
 use Rattle.rows.proofs.LentRows.{rows-count, rows_few, rows_behind, rows-kept}
 use Rattle.rows.proofs.SpreadTables.{Spread, rows-spread}
 use Rattle.rows.proofs.EventTables.{EventsOrdered, later_column, events-placed}
+use Rattle.congestion.specs.declared.found.Found.{Found}
 use Rattle.congestion.specs.Wires.{Wire, cutoff_of}
 use Rattle.congestion.specs.Walk.{begin, sweep, along}
 use Rattle.congestion.specs.Inner.Keys.{Key}
 use Rattle.density_call.specs.Inner.Tables.{item_at, Tabled}
 use Rattle.density_call.specs.Inner.Ranges.{Rangeable, RangesOnly, FillsRanges}
 use Rattle.density_call.specs.Inner.Sweeping.{AtFirst, swept_of}
-use Rattle.density_call.specs.Inner.Measuring.{wire_of_row, Proper, Cutoff, AtRows, AtColumns}
+use Rattle.congestion.proofs.RoundedSums.{zero_units}
+use Rattle.density_call.specs.Inner.Measuring.{wire_of_row, Proper, Cutoff, AtRows, AtColumns, none_of}
 use Rattle.density_call.proofs.RowPlaces.{tables_stay}
 use Rattle.density_call.proofs.RowTabled.{coordinate-key, tabled}
 
@@ -183,11 +184,11 @@ module _ (s e : List ℕ) (o n : ℕ) (c : SegmentColumns) (a : AtColumns (lengt
   count = rows-count s e o n c a.agree narrow orders
 
   -- fewer than two wires cost nothing
-  pub few_swept : (b : Bool) (cut allowance : ℕ) (z : Float) → z ≡ of_units 0 → n < 2 → Ok (record { congested_length = z; pair_overlap_length = z; peak_close_neighbors = 0; minimum_positive = None; remaining = allowance }) ≡ swept_of (within allowance (along cut (map (wire_of_row b) l)))
+  pub few_swept : (b : Bool) (cut allowance : ℕ) → n < 2 → Ok (none_of allowance) ≡ swept_of (within allowance (along cut (map (wire_of_row b) l)))
   unfolding along swept_of
-  few_swept b cut allowance z u h =
+  few_swept b cut allowance h =
       let k : length (map (wire_of_row b) l) < 2 = omega (arith, length-map l (wire_of_row b), count) in
-      (λ i. Ok (record { congested_length = u i; pair_overlap_length = u i; peak_close_neighbors = 0; minimum_positive = None; remaining = allowance }))
+      (λ i. Ok (record { congested_length = sym zero_units i; pair_overlap_length = sym zero_units i; peak_close_neighbors = 0; minimum_positive = None; remaining = allowance }))
       ∙ sym (ap swept_of (within-free allowance (begin [])))
       ∙ ap (λ r. swept_of (within allowance r)) (sym (cond_true (ltb (length (map (wire_of_row b) l)) 2) (free (begin [])) (sweep cut (map (wire_of_row b) l)) (lt-ltb (length (map (wire_of_row b) l)) 2 k)))
 

@@ -66,10 +66,11 @@ figures st m = record {
   remaining = m;
 }
 
-spent-is : (o : Outcome State) → (Err WorkLimitExceeded) ≡ swept_of o → o ≡ spent
+-- a refusal is that of a spent allowance
+spent-is : (o : Outcome State) (why : Refusal) → Err why ≡ swept_of o → (o ≡ spent) × (◌≡◌ {A = Result Found Refusal} (Err why) (Err WorkLimitExceeded))
 unfolding swept_of
-spent-is spent e = refl
-spent-is (left st m) e = cc
+spent-is spent why e = (refl, e)
+spent-is (left st m) why e = let z : ◌≡◌ {A = ℕ} 0 1 = cc in absurd (omega arith)
 
 -- the allowance was enough, and these are the figures of the state that the sweep reached
 record Reached (m : ℕ) (c : Charged State) (f : Found) : Type 0 where
@@ -87,7 +88,7 @@ reached m c f e = elim (le_or_lt c.cost m) [
   | inr h ↦ absurd (never (e ∙ ap swept_of (within-short m c h)))
 ]
   where
-    one : (f g : Found) → Ok f ≡ Ok g → f ≡ g
+    one : (f g : Found) → ◌≡◌ {A = Result Found Refusal} (Ok f) (Ok g) → f ≡ g
     one f g e = cc
 
     never : Ok f ≡ Err WorkLimitExceeded → ⊥
@@ -108,10 +109,10 @@ module _ (c : ℕ) (some : 0 < c) (l : List Segment) where
   down = along c (map (wire_of_row false) (oriented 0 l))
 
   -- the figures of two states
-  abbrev together : State → State → ParallelCongestion × (Option Float)
+  abbrev together : State → State → ParallelCongestion × Option Float
   together h v = (lengths (total (wires_in_rows l)) (h.congested_length + v.congested_length) (h.pair_overlap_length + v.pair_overlap_length) (max h.peak_close_neighbors v.peak_close_neighbors), gap_of_units (lesser ltb h.minimum_positive v.minimum_positive))
 
-  abbrev second : State → ℕ → Outcome (ParallelCongestion × (Option Float))
+  abbrev second : State → ℕ → Outcome (ParallelCongestion × Option Float)
   second h r = onward (within r down) (λ v r. left (together h v) r)
 
   wires-within : (m : ℕ) → within m (sweep_wires c (wires_in_rows l)) ≡ onward (within m across) second
@@ -192,10 +193,10 @@ module _ (cutoff : Float) (grid : T (on_grid cutoff)) (l : List Segment) (fit : 
         let w = wires_in_rows l in
         let one : length (only true w) ≡ length (oriented 1 l) = ap length (only-across l) ∙ length-map (oriented 1 l) (wire_of_row true) in
         let other : length (only false w) ≡ length (oriented 0 l) = ap length (only-down l) ∙ length-map (oriented 0 l) (wire_of_row false) in
-        let cost : (sweep_wires c w).cost ≡ (along c (only true w)).cost + ((along c (only false w)).cost + 0) = ap (λ (x : Charged (ParallelCongestion × (Option Float))). x.cost) (cond_false (eqb c 0) _ _ (ne_eqb c 0 (λ e. omega arith))) in
+        let cost : (sweep_wires c w).cost ≡ (along c (only true w)).cost + ((along c (only false w)).cost + 0) = ap (λ (x : Charged (ParallelCongestion × Option Float)). x.cost) (cond_false (eqb c 0) _ _ (ne_eqb c 0 (λ e. omega arith))) in
         rw (← one, ← other, all-pairs_are) (omega (arith, cost, (right true).cost-right, (right false).cost-right))
 
-    pub too_few : (m n : ℕ) → n ≡ at_least_two (length (oriented 1 l)) + at_least_two (length (oriented 0 l)) → m < n → (Err WorkLimitExceeded) ≡ found_of (within m (all_pairs cutoff l))
+    pub too_few : (m n : ℕ) → n ≡ at_least_two (length (oriented 1 l)) + at_least_two (length (oriented 0 l)) → m < n → Err WorkLimitExceeded ≡ found_of (within m (all_pairs cutoff l))
     unfolding found_of
     too_few m n e k = sym (ap found_of (within-short m (all_pairs cutoff l) (omega (arith, cost-least))))
 
@@ -204,21 +205,23 @@ module _ (cutoff : Float) (grid : T (on_grid cutoff)) (l : List Segment) (fit : 
       whole : within m (all_pairs cutoff l) ≡ onward (within m (across c some l)) (second c some l)
       whole = ap (within m) all-pairs_are ∙ wires-within c some l m
 
-      pub stops : first ≡ Err WorkLimitExceeded → (Err WorkLimitExceeded) ≡ found_of (within m (all_pairs cutoff l))
+      pub stops : (why : Refusal) → first ≡ Err why → Err why ≡ found_of (within m (all_pairs cutoff l))
       unfolding found_of
-      stops e =
-          let z : onward (within m (across c some l)) (second c some l) ≡ spent = rw (spent-is (within m (across c some l)) (sym e ∙ one)) (onward-spent (second c some l)) in
-          sym (ap found_of (whole ∙ z))
+      stops why e =
+          let k = spent-is (within m (across c some l)) why (sym e ∙ one) in
+          let z : onward (within m (across c some l)) (second c some l) ≡ spent = rw k.0 (onward-spent (second c some l)) in
+          k.1 ∙ sym (ap found_of (whole ∙ z))
 
       module _ (a : Found) (went : first ≡ Ok a) (next : Result Found Refusal) (other : next ≡ swept_of (within a.remaining (down c some l))) where
         on : within m (all_pairs cutoff l) ≡ second c some l h a.remaining
         on = whole ∙ rw (reached m (across c some l) a (sym went ∙ one)).paid (onward-left h a.remaining (second c some l))
 
-        pub stops_later : next ≡ Err WorkLimitExceeded → (Err WorkLimitExceeded) ≡ found_of (within m (all_pairs cutoff l))
+        pub stops_later : (why : Refusal) → next ≡ Err why → Err why ≡ found_of (within m (all_pairs cutoff l))
         unfolding found_of
-        stops_later e =
-            let z : second c some l h a.remaining ≡ spent = rw (spent-is (within a.remaining (down c some l)) (sym e ∙ other)) (onward-spent (λ w r. left (together c some l h w) r)) in
-            sym (ap found_of (on ∙ z))
+        stops_later why e =
+            let k = spent-is (within a.remaining (down c some l)) why (sym e ∙ other) in
+            let z : second c some l h a.remaining ≡ spent = rw k.0 (onward-spent (λ w r. left (together c some l h w) r)) in
+            k.1 ∙ sym (ap found_of (on ∙ z))
 
         pub went_both : (d r : Found) → next ≡ Ok d → r ≡ combined_of a d → Ok r ≡ found_of (within m (all_pairs cutoff l))
         unfolding found_of lengths

@@ -42,7 +42,7 @@ use Rattle.congestion.proofs.Reaching.{Reached, at_first, one_more}
 use Rattle.congestion.proofs.RoundedSums.{zero_units}
 use Rattle.density_call.proofs.DueEvents.{due}
 use Rattle.density_call.proofs.GapFloats.{gap-again}
-use Rattle.density_call.proofs.EventSteps.{ends-at, starts-at}
+use Rattle.density_call.proofs.EventSteps.{ends-at, starts-at, same_refusal}
 
 -- ---- the items are the wires with their indices
 length-numbered : (k : ℕ) (L : List Wire) → length (numbered k L) ≡ length L
@@ -103,10 +103,10 @@ pub handled_start : (s t : List ℕ) (n e : ℕ) (state : Sweeping) (r : Result 
 handled_start s t n e state r h f = subst (λ (k : ℕ). Handles s t n k state r) (add-sub_of_le h) f
 
 -- ---- what the code's answer says
-never : {A : Type 0} (t : Sweeping) → Ok t ≡ Err WorkLimitExceeded → A
-never t e = let z : ◌≡◌ {A = ℕ} 0 1 = cc in absurd (omega arith)
+never : {A : Type 0} (t : Sweeping) (why : Refusal) → Ok t ≡ Err why → A
+never t why e = let z : ◌≡◌ {A = ℕ} 0 1 = cc in absurd (omega arith)
 
-same_state : (t u : Sweeping) → Ok t ≡ Ok u → t ≡ u
+same_state : (t u : Sweeping) → ◌≡◌ {A = Result Sweeping Refusal} (Ok t) (Ok u) → t ≡ u
 same_state t u e = cc
 
 -- ---- the loop over the events of the wires that the tables hold at the start
@@ -236,17 +236,17 @@ module _ (s₀ : List ℕ) (n allowance : ℕ) (a : AtFirst s₀ n) where
       taken = step a.c g.st now
 
       module _ (r : Result Sweeping Refusal) (t : List ℕ) (steps : Steps a.c a.L n g.st now t state.remaining r) where
-        pub going_stops : r ≡ Err WorkLimitExceeded → (Err WorkLimitExceeded) ≡ swept_of (within allowance all)
+        pub going_stops : (why : Refusal) → r ≡ Err why → Err why ≡ swept_of (within allowance all)
         unfolding swept_of
-        going_stops e = elim (le_or_lt taken.cost state.remaining) [
-          | inl h ↦ never (steps.1 h).to (sym (steps.1 h).went ∙ e)
-          | inr h ↦ sym (ap swept_of (loop_stops g.onwards ahead (within-short state.remaining taken h)))
+        going_stops why e = elim (le_or_lt taken.cost state.remaining) [
+          | inl h ↦ never (steps.1 h).to why (sym (steps.1 h).went ∙ e)
+          | inr h ↦ ap Err (same_refusal why WorkLimitExceeded (sym e ∙ steps.0 h)) ∙ sym (ap swept_of (loop_stops g.onwards ahead (within-short state.remaining taken h)))
         ]
 
         pub going_next : (to : Sweeping) → r ≡ Ok to → length t ≡ length s → Going to t (q + 1)
         unfolding runs
         going_next to e same = elim (le_or_lt taken.cost state.remaining) [
-          | inr h ↦ never to (sym e ∙ steps.0 h)
+          | inr h ↦ never to WorkLimitExceeded (sym e ∙ steps.0 h)
           | inl h ↦
               let o = steps.1 h in
               let is : o.to ≡ to = same_state o.to to (sym o.went ∙ e) in
@@ -284,9 +284,9 @@ module _ (s₀ : List ℕ) (n allowance : ℕ) where
     run_event a less = event_due s₀ n allowance a state s q (g a) less
 
     module _ (less : q < 2 * n) (r : Result Sweeping Refusal) (t : List ℕ) (f : Handles s t n (get_or s q 0) state r) where
-      pub run_stops : r ≡ Err WorkLimitExceeded → (a : AtFirst s₀ n) → (Err WorkLimitExceeded) ≡ swept_of (within allowance (sweep a.c a.L))
+      pub run_stops : (why : Refusal) → r ≡ Err why → (a : AtFirst s₀ n) → Err why ≡ swept_of (within allowance (sweep a.c a.L))
       unfolding event_due
-      run_stops e a = going_stops s₀ n allowance a state s q (g a) less r t (f (event_due s₀ n allowance a state s q (g a) less)) e
+      run_stops why e a = going_stops s₀ n allowance a state s q (g a) less r t (f (event_due s₀ n allowance a state s q (g a) less)) why e
 
       pub run_next : (to : Sweeping) → r ≡ Ok to → length t ≡ length s → Runs to t (q + 1)
       unfolding event_due

@@ -40,10 +40,6 @@ use Rattle.density_call.proofs.RowPlaces.{row-there, row-place, rows-length, own
 use Rattle.density_call.proofs.Marking.{activated-front, activated-rows, deactivated-front, deactivated-rows}
 
 -- ---- numbers
-pub bit-small : (b : Bool) → bit b ≤ 1
-bit-small true = omega arith
-bit-small false = omega arith
-
 pub exact-count : (n : ℕ) → n ≤ 2 ^ 53 → T (in_float binary64 (pos n))
 unfolding in_float
 exact-count n h = le→leb n (2 ^ 53) h
@@ -113,10 +109,14 @@ module _ (s : List ℕ) (n e : ℕ) (state : Sweeping) (a : AtEvent s n e state)
   tabled-then t u only e = tables_stay a.c a.L s u (subst (λ (m : ℕ). take (8 * m) u ≡ take (8 * m) s) (sym a.size) (e ∙ only.front)) a.tabled
 
 -- ---- a meeting's answer decides whether the sweep continues
-never : {A : Type 0} (m : Meeting) → Ok m ≡ Err WorkLimitExceeded → A
-never m e = let z : ◌≡◌ {A = ℕ} 0 1 = cc in absurd (omega arith)
+never : {A : Type 0} (m : Meeting) (why : Refusal) → Ok m ≡ Err why → A
+never m why e = let z : ◌≡◌ {A = ℕ} 0 1 = cc in absurd (omega arith)
 
-same_meeting : (m k : Meeting) → Ok m ≡ Ok k → m ≡ k
+-- whatever else the results hold
+pub same_refusal : {A : Type 0} (why other : Refusal) → ◌≡◌ {A = Result A Refusal} (Err why) (Err other) → why ≡ other
+same_refusal why other e = cc
+
+same_meeting : (m k : Meeting) → ◌≡◌ {A = Result Meeting Refusal} (Ok m) (Ok k) → m ≡ k
 same_meeting m k e = cc
 
 -- M is the meeting where the visits can be paid, and R what holds then
@@ -125,13 +125,13 @@ Answered m cost met M R = (m < cost → met ≡ Err WorkLimitExceeded) × (cost 
 
 module _ (c : ℕ) (L : List Wire) (n : ℕ) (st : State) (e : WireEvent) (m : ℕ) (met : Result Meeting Refusal) (M : Meeting) (R : Type 0) (answer : Answered m (step c st e).cost met M R) where
   known : (meeting : Meeting) → met ≡ Ok meeting → meeting ≡ M
-  known meeting h = elim (le_or_lt (step c st e).cost m) [ inl l ↦ same_meeting meeting M (sym h ∙ (answer.1 l).0) | inr l ↦ never meeting (sym h ∙ answer.0 l) ]
+  known meeting h = elim (le_or_lt (step c st e).cost m) [ inl l ↦ same_meeting meeting M (sym h ∙ (answer.1 l).0) | inr l ↦ never meeting WorkLimitExceeded (sym h ∙ answer.0 l) ]
 
-  stops : (t : List ℕ) → met ≡ Err WorkLimitExceeded → Steps c L n st e t m (Err WorkLimitExceeded)
-  stops t h = (λ l. refl, λ l. never M (sym (answer.1 l).0 ∙ h))
+  stops : (t : List ℕ) (why : Refusal) → met ≡ Err why → Steps c L n st e t m (Err why)
+  stops t why h = (λ l. ap Err (same_refusal why WorkLimitExceeded (sym h ∙ answer.0 l)), λ l. never M why (sym (answer.1 l).0 ∙ h))
 
   goes : (meeting : Meeting) (to : Sweeping) (t : List ℕ) → met ≡ Ok meeting → (meeting ≡ M → R → Onward c L n (step c st e).value t (m - (step c st e).cost) (Ok to)) → Steps c L n st e t m (Ok to)
-  goes meeting to t h f = (λ l. never meeting (sym h ∙ answer.0 l), λ l. f (known meeting h) (answer.1 l).1)
+  goes meeting to t h f = (λ l. never meeting WorkLimitExceeded (sym h ∙ answer.0 l), λ l. f (known meeting h) (answer.1 l).1)
 
 -- ---- a start
 module _ (s : List ℕ) (n j : ℕ) (state : Sweeping) where
@@ -187,10 +187,10 @@ module _ (s : List ℕ) (n j : ℕ) (state : Sweeping) where
         subst (λ (m : ℕ). Answered m (visits_of a.c a.L j a.st) met (met_at_start a m) (rows_at_start a t)) (ap (λ (z : Sweeping). z.remaining) pass)
         (meets a.c a.L a.st a.st.minimum_positive a.size a.tabled a.stored (ap (λ (z : Sweeping). z.minimum_positive) pass ∙ a.follows.least) a.follows.held)
 
-    pub start_stops : met ≡ Err WorkLimitExceeded → Handles s t n (n + j) state (Err WorkLimitExceeded)
-    start_stops h a =
-        subst (λ (e : WireEvent). Steps a.c a.L n a.st e t state.remaining (Err WorkLimitExceeded)) (sym (starts-at a.L n j a.size))
-        (stops a.c a.L n a.st (event false (starting a)) state.remaining met (met_at_start a state.remaining) (rows_at_start a t) (start-answer a) t h)
+    pub start_stops : (why : Refusal) → met ≡ Err why → Handles s t n (n + j) state (Err why)
+    start_stops why h a =
+        subst (λ (e : WireEvent). Steps a.c a.L n a.st e t state.remaining (Err why)) (sym (starts-at a.L n j a.size))
+        (stops a.c a.L n a.st (event false (starting a)) state.remaining met (met_at_start a state.remaining) (rows_at_start a t) (start-answer a) t why h)
 
     module _ (meeting : Meeting) (went : met ≡ Ok meeting) where
       -- the sums fit
@@ -284,10 +284,10 @@ module _ (s : List ℕ) (n j : ℕ) (state : Sweeping) (inside : j < n) where
         subst (λ (m : ℕ). Answered m (visits_of a.c a.L j a.st) met (met_at_end a m) (rows_at_end a t)) (ap (λ (z : Sweeping). z.remaining) pass)
         (meets a.c a.L a.st a.st.minimum_positive a.size a.tabled a.stored (ap (λ (z : Sweeping). z.minimum_positive) pass ∙ a.follows.least) a.follows.held)
 
-    pub end_stops : met ≡ Err WorkLimitExceeded → Handles s t n j state (Err WorkLimitExceeded)
-    end_stops h a =
-        subst (λ (e : WireEvent). Steps a.c a.L n a.st e t state.remaining (Err WorkLimitExceeded)) (sym (ends-at a.L j (place a)))
-        (stops a.c a.L n a.st (event true (ending a)) state.remaining met (met_at_end a state.remaining) (rows_at_end a t) (end-answer a) t h)
+    pub end_stops : (why : Refusal) → met ≡ Err why → Handles s t n j state (Err why)
+    end_stops why h a =
+        subst (λ (e : WireEvent). Steps a.c a.L n a.st e t state.remaining (Err why)) (sym (ends-at a.L j (place a)))
+        (stops a.c a.L n a.st (event true (ending a)) state.remaining met (met_at_end a state.remaining) (rows_at_end a t) (end-answer a) t why h)
 
     module _ (meeting : Meeting) (went : met ≡ Ok meeting) where
       -- the subtractions do not go below 0

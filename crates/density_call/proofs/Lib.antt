@@ -1,7 +1,6 @@
 -- What the functions' proofs use: the code's tables, and what a wire meets.
 mod RangeSearch
 mod PlaceFolds
-mod VisitLaws
 mod GapFloats
 mod MeetingLaws
 mod MeetingLoop

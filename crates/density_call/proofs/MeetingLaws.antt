@@ -1,6 +1,7 @@
 -- The loop over the wires that an event's wire meets: when the indices from p on are done, the figures are those of the rows of these indices, and their counts are the new ones. Assumes nothing.
 use Rattle.drawing.specs.declared.refusal.Refusal.TheVariants.{WorkLimitExceeded}
-use Rattle.std.specs.Prelude.{Option, Ok, Err, None}
+use Rattle.drawing.specs.declared.refusal.Refusal.{Refusal}
+use Rattle.std.specs.Prelude.{Option, Result, Ok, Err, None}
 use mathlib.Core.Path.{◌≡◌, refl, sym, ap, ap₂, ◌∙◌, subst}
 use mathlib.Core.Logic.{inl, inr}
 use mathlib.Core.List.{List, map, map-map}
@@ -355,7 +356,7 @@ module _ (starts : Bool) (n j : ℕ) (s₀ : List ℕ) (least₀ : Float) (allow
         remaining = allowance - visits;
       }
 
-      pub spent-meets : allowance < fold ◌+◌ 0 (λ k. bit (seen k)) (up_to n) → (m : Option ℕ) (t : List ℕ) → (allowance < visits → (Err WorkLimitExceeded) ≡ Err WorkLimitExceeded) × (visits ≤ allowance → ((Err WorkLimitExceeded) ≡ Ok (outcome m)) × (wire_states_from L (drop (8 * n) t) ≡ map (λ x. moved starts (neighbor c wire x) x) st.wires))
+      pub spent-meets : allowance < fold ◌+◌ 0 (λ k. bit (seen k)) (up_to n) → (m : Option ℕ) (t : List ℕ) → (allowance < visits → ◌≡◌ {A = Result Meeting Refusal} (Err WorkLimitExceeded) (Err WorkLimitExceeded)) × (visits ≤ allowance → (Err WorkLimitExceeded ≡ Ok (outcome m)) × (wire_states_from L (drop (8 * n) t) ≡ map (λ x. moved starts (neighbor c wire x) x) st.wires))
       spent-meets h m t = (λ a. refl, λ a. absurd (omega (arith, visits_are)))
 
       module _ (met : Meeting) (s : List ℕ) (p : ℕ) (g : Going met s p) (last : NoneIn (drop (9 * n) s) lo p) where
@@ -395,5 +396,5 @@ module _ (starts : Bool) (n j : ℕ) (s₀ : List ℕ) (least₀ : Float) (allow
             ∙ sym (map-map (λ x. moved starts (neighbor c wire x) x) row (up_to (length L)))
             ∙ ap (map (λ x. moved starts (neighbor c wire x) x)) (sym stored.wires)
 
-        pub went-meets : (m : Option ℕ) → least₀ ≡ least_float m → Representable m → (allowance < visits → Ok met ≡ Err WorkLimitExceeded) × (visits ≤ allowance → (Ok met ≡ Ok (outcome m)) × (wire_states_from L (drop (8 * n) s) ≡ map (λ x. moved starts (neighbor c wire x) x) st.wires))
+        pub went-meets : (m : Option ℕ) → least₀ ≡ least_float m → Representable m → (allowance < visits → Ok met ≡ Err WorkLimitExceeded) × (visits ≤ allowance → (◌≡◌ {A = Result Meeting Refusal} (Ok met) (Ok (outcome m))) × (wire_states_from L (drop (8 * n) s) ≡ map (λ x. moved starts (neighbor c wire x) x) st.wires))
         went-meets m e h = (λ a. absurd (omega (arith, left_is)), λ a. (ap Ok (met-is m e h), rows_are))

@@ -27,7 +27,7 @@ use Rattle.congestion.specs.Conditions.{congestion_conditions}
 use Rattle.congestion.specs.Wires.{wire_of, cutoff_of}
 use Rattle.congestion.specs.Figures.{total}
 use Rattle.congestion.specs.AllPairs.{lengths, all_pairs}
-use Rattle.density_call.specs.Inner.Measuring.{Proper, Cutoff, AtColumns, found_of}
+use Rattle.density_call.specs.Inner.Measuring.{Proper, Cutoff, AtColumns, found_of, none_of}
 use Rattle.congestion.proofs.Fitness.{zero_stands, segments_passed, agree, fit_list, fit-cutoff}
 use Rattle.congestion.proofs.RoundedSums.{zero_units}
 use Rattle.congestion.proofs.SweepTheorem.{no_cutoff}
@@ -53,7 +53,7 @@ module _ (x : Float) (g : T (on_grid x)) where
 -- ---- what the checks leave
 module _ (s : SegmentColumns) (cutoff : Float) (words : ℕ) (passed : first_of (congestion_conditions s cutoff words) ≡ Ok tt) where
   -- nothing is swept
-  pub nothing_swept : le cutoff plus_zero ≡ true → (m : ℕ) → Ok (record { congested_length = plus_zero; pair_overlap_length = plus_zero; peak_close_neighbors = 0; minimum_positive = None; remaining = m }) ≡ found_of (within m (all_pairs cutoff (segments s)))
+  pub nothing_swept : le cutoff plus_zero ≡ true → (m : ℕ) → Ok (none_of m) ≡ found_of (within m (all_pairs cutoff (segments s)))
   unfolding found_of lengths
   nothing_swept e m =
       let g = fit-cutoff s cutoff words passed in

@@ -10,7 +10,9 @@ use Rattle.drawing.specs.declared.refusal.Refusal.{Refusal}
 use Rattle.drawing.specs.declared.refusal.Refusal.TheVariants.{WorkLimitExceeded}
 use Rattle.drawing.specs.Entries.{SegmentColumns, segments}
 use Rattle.drawing.specs.Refusals.{first_of, checked}
+use Rattle.congestion.specs.declared.found.Found.{Found}
 use Rattle.congestion.specs.declared.report.ParallelCongestion.{ParallelCongestion}
+use Rattle.congestion.specs.declared.report.CongestionReport.{CongestionReport}
 use Rattle.congestion.specs.Conditions.{congestion_conditions}
 use Rattle.congestion.specs.AllPairs.{all_pairs}
 use Rattle.congestion.specs.Rounded.{rounded_total}
@@ -23,11 +25,11 @@ use Rattle.congestion.proofs.Answers.{Passes, density_settles}
 
 -- ---- the answer, by whether the allowance reached
 abbrev Profile : Type 0
-Profile = ParallelCongestion × (Option Float)
+Profile = ParallelCongestion × Option Float
 
 -- the code's answer for an outcome is the reply to that outcome, where the total length is the outcome's
 pub answer_replies : (o : Outcome Profile) (total : Float) (allowance : ℕ) → ((p : Profile) (m : ℕ) → o ≡ left p m → total ≡ p.0.total_length) → answer_of (found_of o) total allowance ≡ reply (λ p n. Ok (report_of p n)) (Err WorkLimitExceeded) allowance o
-unfolding answer_of reply found_of
+unfolding reply found_of
 answer_replies spent total allowance k = refl
 answer_replies (left p m) total allowance k =
     let t = k p m refl in

@@ -7,13 +7,26 @@ ghost use Rattle.rows.specs.Rows as Rows;
 ghost use Rattle.congestion.specs.Wires.{cutoff_of};
 ghost use Rattle.congestion.specs.Walk.{sweep, along};
 ghost use Rattle.density_call.specs.Inner.Sweeping.{swept_of};
-ghost use Rattle.density_call.specs.Inner.Measuring.{wire_of_row, Cutoff, AtRows, AtColumns};
+ghost use Rattle.density_call.specs.Inner.Measuring.{wire_of_row, Cutoff, AtRows, AtColumns, none_of};
 
 use crate::ranges::fill_ranges;
 use crate::run::run_events;
 use congestion::Found;
 use drawing::{Refusal, Segments, clear};
 use rows::{order_events, order_rows, spread_rows};
+
+// Nothing is swept, and no visit is paid.
+pub(crate) fn nothing_found(allowance: usize) -> Found
+    ensures { result ≡ none_of allowance }
+{
+    Found {
+        congested_length: 0.0,
+        pair_overlap_length: 0.0,
+        peak_close_neighbors: 0,
+        minimum_positive: None,
+        remaining: allowance,
+    }
+}
 
 // Makes the tables of n rows: their indices in order are stored from word `from` on, and the rows themselves `table` words later. The words after the tables are cleared: no wire is active yet. Then the sweep runs.
 fn sweep_rows(
@@ -51,13 +64,7 @@ pub(crate) fn sweep_along(
     let from = 16 * total;
     let n = order_rows(&mut s[from..], wanted, segments);
     if n < 2 {
-        return Ok(Found {
-            congested_length: 0.0,
-            pair_overlap_length: 0.0,
-            peak_close_neighbors: 0,
-            minimum_positive: None,
-            remaining: allowance,
-        });
+        return Ok(nothing_found(allowance));
     }
     sweep_rows(s, n, from, total, cutoff, allowance)
 }

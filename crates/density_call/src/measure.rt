@@ -10,7 +10,7 @@ ghost use Rattle.congestion.specs.AllPairs.{all_pairs};
 ghost use Rattle.congestion.specs.Answer.{density_answer};
 ghost use Rattle.density_call.specs.Inner.Measuring.{found_of, combined_of};
 
-use crate::along::sweep_along;
+use crate::along::{nothing_found, sweep_along};
 use congestion::{CongestionReport, Found, answer_of, check_congestion, total_length};
 use drawing::{Refusal, Segments, clear, minimum_option};
 use rows::segments_to_sweep;
@@ -40,14 +40,9 @@ fn walk_segments(
     ensures { result ≡ found_of (within allowance (all_pairs cutoff (Entries.segments (lent_segments segments.now)))) }
 {
     if cutoff <= 0.0 {
-        return Ok(Found {
-            congested_length: 0.0,
-            pair_overlap_length: 0.0,
-            peak_close_neighbors: 0,
-            minimum_positive: None,
-            remaining: allowance,
-        });
+        return Ok(nothing_found(allowance));
     }
+    segments.held();
     if allowance < segments_to_sweep(segments.orientation) {
         return Err(Refusal::WorkLimitExceeded);
     }
@@ -70,6 +65,7 @@ pub fn measure_parallel_density_profile_bounded(
         × (refusal ≡ Ok tt → SegmentsHeld lent × Binary64 cutoff) }
 {
     check_congestion(segments, cutoff, scratch.len())?;
+    segments.held();
     let total = total_length(segments);
     let swept = walk_segments(segments, cutoff, allowance, scratch);
     clear(scratch);

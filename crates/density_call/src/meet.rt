@@ -34,21 +34,18 @@ fn count_after(starts: bool, count: u64) -> u64
     if starts { count + 1 } else { count - 1 }
 }
 
-// The lesser of the counts before and after the event: it is 0 where the neighbor becomes congested or ceases to be.
-fn lower(starts: bool, count: u64, after: u64) -> u64
-    ensures { result ≡ cond starts count after }
-{
-    if starts { count } else { after }
-}
-
 // The greatest count so far; only a start's counts are needed.
 fn highest_after(starts: bool, highest: usize, after: u64) -> usize
     ensures { result ≡ cond starts (max highest after) highest }
 {
-    if starts { highest.max(after as usize) } else { highest }
+    if starts {
+        highest.max(after as usize)
+    } else {
+        highest
+    }
 }
 
-// A neighbor, whose count is in word `at`.
+// A neighbor, whose count is in word `at`. The lesser of its counts before and after the event is 0 where it becomes congested or ceases to be.
 // It has one path for starts and ends: with a path for each, the loop over the active wires took a fifth longer.
 fn meet_neighbor(s: &mut [u64], at: usize, starts: bool, gap: f64, meeting: Meeting) -> Meeting
     requires { Countable s.old at starts meeting }
@@ -60,7 +57,7 @@ fn meet_neighbor(s: &mut [u64], at: usize, starts: bool, gap: f64, meeting: Meet
     s[at] = after;
     Meeting {
         neighbors: meeting.neighbors + 1,
-        changed: meeting.changed + usize::from(lower(starts, count, after) == 0),
+        changed: meeting.changed + usize::from(count.min(after) == 0),
         highest: highest_after(starts, meeting.highest, after),
         least: with_gap(meeting.least, gap),
         remaining: meeting.remaining - 1,
@@ -68,6 +65,7 @@ fn meet_neighbor(s: &mut [u64], at: usize, starts: bool, gap: f64, meeting: Meet
 }
 
 // One visit, that of wire i: it is paid, and if the wire is of another net it is a neighbor.
+#[tactic(auto, unfolding(floats::specs::Values::gap_of))]
 fn visit(
     s: &mut [u64],
     n: usize,

@@ -48,7 +48,9 @@ fn with_start(state: Sweeping, meeting: Meeting) -> Sweeping
     Sweeping {
         congested_active: state.congested_active + usize::from(neighbors != 0) + meeting.changed,
         close_pairs: state.close_pairs + neighbors,
-        peak_close_neighbors: state.peak_close_neighbors.max(meeting.highest.max(neighbors)),
+        peak_close_neighbors: state
+            .peak_close_neighbors
+            .max(meeting.highest.max(neighbors)),
         minimum_positive: meeting.least,
         remaining: meeting.remaining,
         ..state
@@ -92,8 +94,14 @@ fn deactivate(s: &mut [u64], n: usize, j: usize)
     remove(&mut s[9 * n..], j);
 }
 
+// A start and an end are two functions: one for both, with a flag, would choose at each step, since they read other columns, raise or lower the counts, and mark the wire after the meeting in opposite ways.
 // Wire j starts: event n + j.
-pub(crate) fn start_event(s: &mut [u64], n: usize, j: usize, state: Sweeping) -> Result<Sweeping, Refusal>
+pub(crate) fn start_event(
+    s: &mut [u64],
+    n: usize,
+    j: usize,
+    state: Sweeping,
+) -> Result<Sweeping, Refusal>
     requires { AtEvent s.old n (n + j) state }
     ensures { Handles s.old s.new n (n + j) state result }
 {
@@ -105,7 +113,12 @@ pub(crate) fn start_event(s: &mut [u64], n: usize, j: usize, state: Sweeping) ->
 }
 
 // Wire j ends: event j.
-pub(crate) fn end_event(s: &mut [u64], n: usize, j: usize, state: Sweeping) -> Result<Sweeping, Refusal>
+pub(crate) fn end_event(
+    s: &mut [u64],
+    n: usize,
+    j: usize,
+    state: Sweeping,
+) -> Result<Sweeping, Refusal>
     requires at_event { AtEvent s.old n j state }
     requires j_lt_n { j < n }
     ensures { Handles s.old s.new n j state result }

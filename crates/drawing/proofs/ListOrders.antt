@@ -14,12 +14,12 @@ use Rattle.laws.proofs.Sorting.{sort_same, sort_perm}
 use Rattle.floats.specs.Values.{lesser_of, greater_of}
 use Rattle.floats.proofs.Extremes.{picked}
 use Rattle.floats.proofs.NumberKeys.{key-of-one}
-use Rattle.drawing.specs.Entries.{Segment, Node, SegmentColumns, as_taken, segments}
-use Rattle.drawing.specs.Inner.Entries.{segment_at}
-use Rattle.drawing.specs.Inner.Lengths.{SegmentsAgree}
-use Rattle.drawing.specs.Held.{Binary64, SegmentHeld, NodeHeld, SegmentsHeld}
+use Rattle.drawing.specs.Entries.{Segment, Node, SegmentColumns, NodeColumns, as_taken, segments, nodes}
+use Rattle.drawing.specs.Inner.Entries.{segment_at, node_at}
+use Rattle.drawing.specs.Inner.Lengths.{SegmentsAgree, NodesAgree}
+use Rattle.drawing.specs.Held.{Binary64, SegmentHeld, NodeHeld, SegmentsHeld, NodesHeld}
 use Rattle.drawing.specs.Orders.{segment_row, node_row, segments_in_order, nodes_in_order}
-use Rattle.drawing.proofs.EntryLaws.{length-segments, segments-at}
+use Rattle.drawing.proofs.EntryLaws.{length-segments, segments-at, length-nodes, nodes-at}
 
 abbrev head : List ℕ → ℕ
 head [] = 0
@@ -77,3 +77,6 @@ taken_held s h = record { fixed = h.fixed; start = picked Binary64 (lt s.end s.s
 
 pub segments-held : (c : SegmentColumns) → SegmentsAgree c → ((i : ℕ) → Binary64 (get_or c.fixed i nan)) → ((i : ℕ) → Binary64 (get_or c.start i nan)) → ((i : ℕ) → Binary64 (get_or c.end i nan)) → SegmentsHeld c
 segments-held c a f b e = segments-all SegmentHeld c a (λ i. taken_held _ (record { fixed = f i; start = b i; end = e i }))
+
+pub nodes-held : (c : NodeColumns) → NodesAgree c → ((i : ℕ) → Binary64 (get_or c.x i nan)) → ((i : ℕ) → Binary64 (get_or c.y i nan)) → ((i : ℕ) → Binary64 (get_or c.width i nan)) → ((i : ℕ) → Binary64 (get_or c.height i nan)) → NodesHeld c
+nodes-held c a x y w h = at_all NodeHeld (node_at c 0) (nodes c) (λ k b. subst NodeHeld (sym (nodes-at c a (node_at c 0) k (omega (arith, length-nodes c a)))) (record { x = x k; y = y k; width = w k; height = h k }))

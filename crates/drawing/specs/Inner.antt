@@ -2,4 +2,3 @@
 pub mod Entries
 pub mod Lengths
 pub mod LeastFloats
-pub mod Typed

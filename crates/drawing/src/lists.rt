@@ -1,10 +1,20 @@
 // The lists of a drawing as columns, as they are lent: a slice for each field of the entries. SCOPE 2.1 to 2.3, 2.5.
 // The columns of one list may differ in length. A call then refuses them (SCOPE 7.2).
-ghost use Rattle.std.specs.Prelude.{◌≡◌, ℕ, ◌^◌, ◌<◌, length, get_or};
+ghost use Rattle.std.specs.Prelude.{◌≡◌, ℕ, ◌^◌, ◌<◌, get_or, length};
+ghost use Rattle.std.specs.Float.{nan};
 ghost use Rattle.drawing.specs.Entries.{lent_segments, lent_nodes};
 ghost use Rattle.drawing.specs.Inner.Entries.{lent_at, node_at};
 ghost use Rattle.drawing.specs.Inner.Lengths.{SegmentsAgree, NodesAgree};
-ghost use Rattle.drawing.specs.Inner.Typed.{Floats, SegmentsTyped, NodesTyped};
+ghost use Rattle.drawing.specs.Held.{Binary64, SegmentsHeld, NodesHeld};
+
+// The type of a column says what its numbers can be, but a proof is told so only of a function's own slices. These two functions, and `held` of the lists, hand it on to where a list came as a struct. They do nothing.
+fn nets_held(column: &[u32])
+    ensures { (i : ℕ) → get_or column.now i 0 < 2 ^ 32 }
+{}
+
+fn floats_held(column: &[f64])
+    ensures { (i : ℕ) → Binary64 (get_or column.now i nan) }
+{}
 
 // A segment as an entry of these columns: the orientation byte is 1 where it is horizontal and 0 where it is vertical.
 #[derive(Clone, Copy)]
@@ -34,28 +44,7 @@ pub struct Segments<'a> {
     pub end: &'a [f64],
 }
 
-// What the types of a list's columns say of their entries: nets have 32 bits, and floats are values of binary64. Only proofs use these two functions and the methods that call them: they know it of a slice that is passed by itself, and not of one in a struct.
-fn segments_typed(net: &[u32], fixed: &[f64], start: &[f64], end: &[f64])
-    ensures net { (i : ℕ) → get_or net.now i 0 < 2 ^ 32 }
-    ensures fixed { Floats fixed.now }
-    ensures start { Floats start.now }
-    ensures end { Floats end.now }
-{}
-
-fn nodes_typed(x: &[f64], y: &[f64], width: &[f64], height: &[f64])
-    ensures x { Floats x.now }
-    ensures y { Floats y.now }
-    ensures width { Floats width.now }
-    ensures height { Floats height.now }
-{}
-
 impl Segments<'_> {
-    pub fn typed(&self)
-        ensures { SegmentsTyped (lent_segments self.now) }
-    {
-        segments_typed(self.net, self.fixed, self.start, self.end);
-    }
-
     // The entry at index i, its ends as they are lent.
     pub fn at(&self, i: usize) -> Segment
         requires agree { SegmentsAgree (lent_segments self.now) }
@@ -70,6 +59,17 @@ impl Segments<'_> {
             end: self.end[i],
         }
     }
+
+    // The floats of the segments, as they are taken, are values of binary64, and nets have 32 bits.
+    pub fn held(&self)
+        ensures floats { SegmentsAgree (lent_segments self.now) → SegmentsHeld (lent_segments self.now) }
+        ensures nets { (i : ℕ) → get_or (lent_segments self.now).net i 0 < 2 ^ 32 }
+    {
+        nets_held(self.net);
+        floats_held(self.fixed);
+        floats_held(self.start);
+        floats_held(self.end);
+    }
 }
 
 #[derive(Clone, Copy)]
@@ -82,12 +82,6 @@ pub struct Nodes<'a> {
 }
 
 impl Nodes<'_> {
-    pub fn typed(&self)
-        ensures { NodesTyped (lent_nodes self.now) }
-    {
-        nodes_typed(self.x, self.y, self.width, self.height);
-    }
-
     // The entry at index i.
     pub fn at(&self, i: usize) -> Node
         requires agree { NodesAgree (lent_nodes self.now) }
@@ -101,6 +95,16 @@ impl Nodes<'_> {
             width: self.width[i],
             height: self.height[i],
         }
+    }
+
+    // The floats of the nodes are values of binary64.
+    pub fn held(&self)
+        ensures { NodesAgree (lent_nodes self.now) → NodesHeld (lent_nodes self.now) }
+    {
+        floats_held(self.x);
+        floats_held(self.y);
+        floats_held(self.width);
+        floats_held(self.height);
     }
 }
 

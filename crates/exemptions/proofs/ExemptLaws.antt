@@ -6,8 +6,11 @@ use mathlib.Core.List.{List, [], ◌∷◌, map}
 use Prim.Native.Nat.{ℕ, zero, suc, ◌+◌, ◌-◌, ◌*◌, ◌/◌, ◌%◌, ◌^◌, ◌≤◌, ◌<◌}
 use native.Mathlib.Nat.{not-suc-le-zero, le_of_suc-le-suc, le_refl, zero-add, add-zero, mul-zero, mul-one}
 use native.Mathlib.Omega.{arith}
-use borrow.Author.Tests.{leb-true, le-leb, eqb-true, eqb-false, eq-eqb, not-false}
-use lib.Dec.{leb, eqb}
+use borrow.Author.Count.{below_more}
+use borrow.Author.Tests.{lt-ltb, ltb-true, ltb-false, leb-true, le-leb, eqb-true, eqb-false, eq-eqb, not-false}
+use lib.Dec.{leb, ltb, eqb}
+use Rattle.std.specs.List.Sorted.{IsPartitionPoint, IsPartitionedBy}
+use Rattle.std.proofs.lemmas.List.{get_or_default, get_or-drop, length-drop}
 use lib.ListN.{length, get_or, take, drop, set, length-map}
 use lib.Seq.{take_all, get_or-take, length-take-le, paste, take-paste, drop-paste}
 use Rattle.laws.specs.Lists.{All, some_of}
@@ -72,6 +75,37 @@ module _ (key : ℕ → ℕ) (a b v : ℕ) where
         | inl k ↦ subst (λ (x : ℕ). Halving key a b v (at + (n - n / 2) * x) (n / 2)) (sym (none k)) (rw (mul-zero, add-zero) (halving_stay k))
         | inr k ↦ subst (λ (x : ℕ). Halving key a b v (at + (n - n / 2) * x) (n / 2)) (sym (one k)) (rw mul-one (halving_up k))
       ]
+
+-- ---- the words at the indices from a on and before b as a part of their own: where they ascend, those below v come first, and the first of the others is the index sought
+module _ (words part : List ℕ) (a b v : ℕ) (e : part ≡ take (b - a) (drop a words)) (h : a ≤ b) (k : b ≤ length words) where
+  part-length : length part ≡ b - a
+  part-length = ap length e ∙ length-take-le (b - a) (drop a words) (omega (arith, length-drop a words))
+
+  part_get : (i d : ℕ) → i < b - a → get_or part i d ≡ word_at words (a + i)
+  part_get i d g =
+      ap (λ (l : List ℕ). get_or l i d) e
+      ∙ get_or-take (b - a) (drop a words) i d g
+      ∙ get_or-drop a words i d
+      ∙ get_or_default words (a + i) d 0 (omega arith)
+
+  pub part_lower_bound : (i : ℕ) → i ≤ length part → (IsPartitionedBy (λ y. ltb y v) part → IsPartitionPoint (λ y. ltb y v ≡ true) (λ y. ltb y v ≡ false) part i) → Ascending (word_at words) a b → LowerBound (word_at words) a b v (a + i)
+  part_lower_bound i g point o =
+      let q = point (λ m n d p l t.
+      let x = part_get m d (omega (arith, part-length)) in
+      let y = part_get n d (omega (arith, part-length)) in
+      lt-ltb (get_or part m d) v (omega (arith, x, y, ltb-true (get_or part n d) v t, o (a + m) (a + n) (omega arith) (omega arith) (omega (arith, part-length))))) in
+      record {
+        from = omega arith;
+        to = omega (arith, part-length);
+        below = λ j p l.
+            let m : a + (j - a) ≡ j = omega arith in
+            let x = part_get (j - a) 0 (omega (arith, part-length)) in
+            subst (λ (z : ℕ). word_at words z < v) m (omega (arith, x, ltb-true (get_or part (j - a) 0) v (q.0 (j - a) 0 (omega arith) (omega arith))));
+        above = λ j p l.
+            let m : a + (j - a) ≡ j = omega arith in
+            let x = part_get (j - a) 0 (omega arith) in
+            subst (λ (z : ℕ). v ≤ word_at words z) m (omega (arith, x, ltb-false (get_or part (j - a) 0) v (q.1 (j - a) 0 (omega arith) (omega (arith, part-length)))));
+      }
 
 -- for nodes the step is a quotient
 module _ (words : List ℕ) (a b id at n : ℕ) (s : Halving (node_of words) a b id at n) (h : 0 < n) (small : id < 4294967296) where
@@ -189,16 +223,18 @@ exemption_at c i = record { net = get_or c.net i 0; node = get_or c.node i 0 }
 
 pub record Packing (c : ExemptionColumns) (s₀ s : List ℕ) (i : ℕ) : Type 0 where
   pub agree : ExemptionsAgree c
+  pub small : (j : ℕ) → j < i → get_or c.node j 0 < 4294967296
   pub written : Written s₀ 0 (map packed (exemptions c)) s i
 
 module _ (c : ExemptionColumns) (s₀ : List ℕ) where
   pub packing_start : ExemptionsAgree c → length c.net ≤ length s₀ → Packing c s₀ s₀ 0
-  packing_start a h = record { agree = a; written = written_none packed s₀ 0 (exemptions c) (omega (arith, length-exemptions c a)) }
+  packing_start a h = record { agree = a; small = λ j g. absurd (omega arith); written = written_none packed s₀ 0 (exemptions c) (omega (arith, length-exemptions c a)) }
 
   module _ (s : List ℕ) (i : ℕ) (p : Packing c s₀ s i) where
-    pub packing_next : i < length c.net → (v : ℕ) → v ≡ packed (exemption_at c i) → Packing c s₀ (set s i v) (i + 1)
-    packing_next h v e = record {
+    pub packing_next : i < length c.net → get_or c.node i 0 < 4294967296 → (v : ℕ) → v ≡ packed (exemption_at c i) → Packing c s₀ (set s i v) (i + 1)
+    packing_next h g v e = record {
       agree = p.agree;
+      small = below_more (λ j. get_or c.node j 0 < 4294967296) i p.small g;
       written = rw zero-add at (written_next packed s₀ 0 (exemptions c) (exemption_at c i) s i v p.written (omega (arith, length-exemptions c p.agree)) (e ∙ sym (ap packed (exemptions_get c.net c.node p.agree.node (exemption_at c i) i h))));
     }
 
@@ -237,16 +273,16 @@ unpacked_packed (e ∷ l) h = λ i. one h.0 i ∷ unpacked_packed l h.1 i
         let q : packed e % 4294967296 ≡ e.node = omega arith in
         λ i. record { net = p i; node = q i }
 
-module _ (c : ExemptionColumns) (a : ExemptionsAgree c) (small : (i : ℕ) → get_or c.node i 0 < 4294967296) where
-  all_small : All (λ e. e.node < 4294967296) (exemptions c)
-  all_small = at_all (λ e. e.node < 4294967296) (exemption_at c 0) (exemptions c)
-      (λ i h. subst (λ (e : Exemption). e.node < 4294967296) (sym (exemptions_get c.net c.node a.node (exemption_at c 0) i (omega (arith, length-exemptions c a)))) (small i))
+module _ (c : ExemptionColumns) (a : ExemptionsAgree c) where
+  all_small : ((i : ℕ) → i < length c.net → get_or c.node i 0 < 4294967296) → All (λ e. e.node < 4294967296) (exemptions c)
+  all_small small = at_all (λ e. e.node < 4294967296) (exemption_at c 0) (exemptions c)
+      (λ i h. subst (λ (e : Exemption). e.node < 4294967296) (sym (exemptions_get c.net c.node a.node (exemption_at c 0) i (omega (arith, length-exemptions c a)))) (small i (omega (arith, length-exemptions c a))))
 
   pub gathered : (s₀ s s' : List ℕ) (i : ℕ) → Packing c s₀ s i → length c.net ≤ i → s' ≡ sorted s (length c.net) (length c.net) 0 → Gathered c s₀ s'
   gathered s₀ s s' i p h e = subst (Gathered c s₀) (sym (e ∙ ap (λ (k : ℕ). sorted s k k 0) (sym count))) (record {
     holds = record {
       rising = words-rising s m room;
-      same = via (perm-map unpacked (sorted-perm s m m 0 (words-sortable s m room))) (perm-eq (ap (map unpacked) front ∙ unpacked_packed ex all_small));
+      same = via (perm-map unpacked (sorted-perm s m m 0 (words-sortable s m room))) (perm-eq (ap (map unpacked) front ∙ unpacked_packed ex (all_small (λ j g. p.small j (omega arith)))));
     };
     count = count;
     rest = subst (λ (k : ℕ). drop k (sorted s m m 0) ≡ drop k s₀) count (sorted_rest s m m 0 (words-sortable s m room) ∙ back);

@@ -24,15 +24,16 @@ fn pack(net: u32, node: u32) -> u64
 pub fn gather(words: &mut [u64], exemptions: &Exemptions<'_>)
     ensures { ExemptionsAgree (lent_exemptions exemptions.now) → length exemptions.now.net.now ≤ length words.old → Gathered (lent_exemptions exemptions.now) words.old words.new }
 {
-    let k = exemptions.net.len();
-    if exemptions.node.len() != k {
+    let Exemptions { net, node } = *exemptions;
+    let k = net.len();
+    if node.len() != k {
         return;
     }
     if words.len() < k {
         return;
     }
     for i in 0..k {
-        words[i] = pack(exemptions.net[i], exemptions.node[i]);
+        words[i] = pack(net[i], node[i]);
     }
     sort_indices(words, k, k, 0);
 }
@@ -92,9 +93,5 @@ pub fn is_exempt(words: &[u64], range: &Range<usize>, id: u32) -> bool
         return false;
     }
     let at = first_node(words, from, to, id);
-    if at < to {
-        words[at] % HALF == id as u64
-    } else {
-        false
-    }
+    at < to && words[at] % HALF == id as u64
 }

@@ -1,7 +1,8 @@
 -- Results in words: how the exported calls write them (SCOPE 6.7).
-use Rattle.std.specs.Prelude.{◌≡◌, List, [], ◌∷◌, ℕ, Option, Some, None}
+use Rattle.std.specs.Prelude.{◌≡◌, List, [], ◌∷◌, ℕ, Option, Some, None, Result}
 use Rattle.std.specs.Float.{binary64}
 use Rattle.std.specs.Float.Ieee.{to_bits}
+use Rattle.drawing.specs.declared.refusal.Refusal.{Refusal}
 use Rattle.drawing.specs.Entries.{SegmentColumns, NodeColumns, ExemptionColumns}
 use Rattle.clearance.specs.declared.report.EdgeNodeClearance.{EdgeNodeClearance}
 use Rattle.tight_pair.specs.declared.TightPair.{TightPair}
@@ -38,13 +39,13 @@ unfoldable pub join_words : ℕ × ℕ × ℕ → List ℕ
 join_words result = result.1 ∷ result.2 ∷ []
 
 -- SCOPE 6.7, 12.2: the words of a tight pair: whether there is one, and its positions, "by segment and node position"; zeros where it is absent
-unfoldable pub pair_words : Option (ℕ × ℕ) → List ℕ
+unfoldable pub pair_words : Option TightPair → List ℕ
 pair_words None = 0 ∷ 0 ∷ 0 ∷ []
-pair_words (Some p) = 1 ∷ p.0 ∷ p.1 ∷ []
+pair_words (Some p) = 1 ∷ p.segment ∷ p.node ∷ []
 
 -- what is returned of the tight pair, a number, and what is written, words, are of one and the same answer, of which the call's promise holds. SCOPE 12.2: "any pair", so the choice is left to the program
 pub record PairWritten (s : SegmentColumns) (n : NodeColumns) (e : ExemptionColumns) (number : ℕ) (words : List ℕ) : Type 0 where
-  pub answer : TightPair
+  pub answer : Result (Option TightPair) Refusal
   pub answered : Answered s n e answer
   pub number_is : number ≡ (result_of answer).0
   pub words_are : words ≡ pair_words (result_of answer).1

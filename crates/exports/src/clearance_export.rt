@@ -6,44 +6,9 @@ ghost use Rattle.clearance.specs.Conditions.{clearance_conditions};
 ghost use Rattle.clearance.specs.Answer.{clearance_answer, result_of};
 ghost use Rattle.exports.specs.Words.{clearance_words};
 
-use crate::gap::{bits_word, present_word};
+use crate::words::write;
 use clearance_call::measure_edge_node_clearance_bounded;
-use drawing::number;
-
-// 0 where the call was accepted, else the refusal's number.
-fn clearance_status(answer: Result<EdgeNodeClearance, Refusal>) -> u32
-    ensures { result ≡ (result_of answer).0 }
-{
-    match answer {
-        Ok(_) => 0,
-        Err(why) => number(why) as u32,
-    }
-}
-
-// The report: the gap's two words, violations, visits. Zeros at a refusal.
-fn clearance_words(answer: Result<EdgeNodeClearance, Refusal>) -> [u64; 4]
-    ensures { result ≡ clearance_words (result_of answer).1 }
-{
-    let Ok(report) = answer else {
-        return [0; 4];
-    };
-    let least = report.minimum_clearance;
-    [
-        present_word(least),
-        bits_word(least),
-        report.violations as u64,
-        report.visits as u64,
-    ]
-}
-
-// Writes the words of the report, and returns the status.
-pub(crate) fn write_clearance(answer: Result<EdgeNodeClearance, Refusal>, out: &mut [u64; 4]) -> u32
-    ensures value { result ≡ (result_of answer).0 }
-    ensures out_after { out.new ≡ clearance_words (result_of answer).1 }
-{
-    *out = clearance_words(answer);
-    clearance_status(answer)
-}
+use drawing::{Exemptions, Nodes, Segments};
 
 pub fn readability_clearance(
     net: &[u32],
@@ -72,22 +37,31 @@ pub fn readability_clearance(
         × (out.new ≡ clearance_words told.1)
         × (scratch.new ≡ scratch_after (first_of (clearance_conditions lent_segments lent_nodes lent_exemptions threshold words)) scratch.old) }
 {
-    let answer = measure_edge_node_clearance_bounded(
+    let segments = Segments {
         net,
         orientation,
         fixed,
         start,
         end,
+    };
+    let nodes = Nodes {
         id,
         x,
         y,
         width,
         height,
-        exempt_net,
-        exempt_node,
+    };
+    let exemptions = Exemptions {
+        net: exempt_net,
+        node: exempt_node,
+    };
+    let answer = measure_edge_node_clearance_bounded(
+        &segments,
+        &nodes,
+        &exemptions,
         threshold,
         allowance,
         scratch,
     );
-    write_clearance(answer, out)
+    write(answer, out)
 }

@@ -7,51 +7,11 @@ ghost use Rattle.congestion.specs.Ratio as Ratio;
 ghost use Rattle.congestion.specs.Answer.{density_answer, profile_answer, congestion_answer, result_of};
 ghost use Rattle.exports.specs.Words.{congestion_words};
 
-use crate::gap::{bits_word, present_word};
+use crate::words::write;
 use congestion::ParallelCongestion;
 use congestion_call::{measure_parallel_congestion, measure_parallel_congestion_profile_bounded};
 use density_call::measure_parallel_density_profile_bounded;
-use drawing::number;
-use floats::bits_of;
-
-// 0 where the call was accepted, else the refusal's number.
-fn congestion_status(answer: Result<CongestionReport, Refusal>) -> u32
-    ensures { result ≡ (result_of answer).0 }
-{
-    match answer {
-        Ok(_) => 0,
-        Err(why) => number(why) as u32,
-    }
-}
-
-// The report: the bits of the three lengths, the peak, the gap's two words, visits. Zeros at a refusal.
-fn congestion_words(answer: Result<CongestionReport, Refusal>) -> [u64; 7]
-    ensures { result ≡ congestion_words (result_of answer).1 }
-{
-    let Ok(report) = answer else {
-        return [0; 7];
-    };
-    let figures = report.congestion;
-    let least = report.minimum_positive;
-    [
-        bits_of(figures.total_length),
-        bits_of(figures.congested_length),
-        bits_of(figures.pair_overlap_length),
-        figures.peak_close_neighbors as u64,
-        present_word(least),
-        bits_word(least),
-        report.visits as u64,
-    ]
-}
-
-// Writes the words of the report, and returns the status.
-pub(crate) fn write_congestion(answer: Result<CongestionReport, Refusal>, out: &mut [u64; 7]) -> u32
-    ensures value { result ≡ (result_of answer).0 }
-    ensures out_after { out.new ≡ congestion_words (result_of answer).1 }
-{
-    *out = congestion_words(answer);
-    congestion_status(answer)
-}
+use drawing::Segments;
 
 // The density profile: all figures, within an allowance.
 pub fn readability_density_profile(
@@ -72,17 +32,15 @@ pub fn readability_density_profile(
         × (out.new ≡ congestion_words told.1)
         × (scratch.new ≡ scratch_after (first_of (congestion_conditions lent cutoff words)) scratch.old) }
 {
-    let answer = measure_parallel_density_profile_bounded(
+    let segments = Segments {
         net,
         orientation,
         fixed,
         start,
         end,
-        cutoff,
-        allowance,
-        scratch,
-    );
-    write_congestion(answer, out)
+    };
+    let answer = measure_parallel_density_profile_bounded(&segments, cutoff, allowance, scratch);
+    write(answer, out)
 }
 
 // The congestion profile: the same with pair overlap and peak zero (SCOPE 6.2).
@@ -104,17 +62,15 @@ pub fn readability_congestion_profile(
         × (out.new ≡ congestion_words told.1)
         × (scratch.new ≡ scratch_after (first_of (congestion_conditions lent cutoff words)) scratch.old) }
 {
-    let answer = measure_parallel_congestion_profile_bounded(
+    let segments = Segments {
         net,
         orientation,
         fixed,
         start,
         end,
-        cutoff,
-        allowance,
-        scratch,
-    );
-    write_congestion(answer, out)
+    };
+    let answer = measure_parallel_congestion_profile_bounded(&segments, cutoff, allowance, scratch);
+    write(answer, out)
 }
 
 // All figures, without an allowance.
@@ -135,8 +91,15 @@ pub fn readability_congestion(
         × (out.new ≡ congestion_words told.1)
         × (scratch.new ≡ scratch_after (first_of (congestion_conditions lent cutoff words)) scratch.old) }
 {
-    let answer = measure_parallel_congestion(net, orientation, fixed, start, end, cutoff, scratch);
-    write_congestion(answer, out)
+    let segments = Segments {
+        net,
+        orientation,
+        fixed,
+        start,
+        end,
+    };
+    let answer = measure_parallel_congestion(&segments, cutoff, scratch);
+    write(answer, out)
 }
 
 // The ratio (SCOPE 3.17) does not depend on the two figures that are set to zero here.

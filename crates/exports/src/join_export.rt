@@ -4,29 +4,9 @@ ghost use Rattle.drawing.specs.Entries.{segment_columns};
 ghost use Rattle.joining.specs.Answer.{join_answer, output_after, result_of};
 ghost use Rattle.exports.specs.Words.{join_words};
 
-use drawing::number;
+use crate::words::write;
+use drawing::Segments;
 use join_call::join;
-use joining::JoinAnswer;
-
-// 0 where the call was accepted, else the refusal's number.
-fn join_status(answer: JoinAnswer) -> u32
-    ensures { result ≡ (result_of answer).0 }
-{
-    match answer {
-        JoinAnswer::Joined(_, _) => 0,
-        JoinAnswer::Refused(why) => number(why) as u32,
-    }
-}
-
-// How many pieces there are and how many went away. Zeros at a refusal.
-fn join_words(answer: JoinAnswer) -> [u64; 2]
-    ensures { result ≡ join_words (result_of answer) }
-{
-    let JoinAnswer::Joined(pieces, gone) = answer else {
-        return [0; 2];
-    };
-    [pieces as u64, gone as u64]
-}
 
 pub fn readability_join(
     net: &[u32],
@@ -48,18 +28,20 @@ pub fn readability_join(
         × (out.new ≡ join_words told)
         × (segment_columns to_net.new to_orientation.new to_fixed.new to_start.new to_end.new ≡ output_after lent output) }
 {
-    let answer = join(
+    let segments = Segments {
         net,
         orientation,
         fixed,
         start,
         end,
+    };
+    let answer = join(
+        &segments,
         to_net,
         to_orientation,
         to_fixed,
         to_start,
         to_end,
     );
-    *out = join_words(answer);
-    join_status(answer)
+    write(answer, out)
 }

@@ -3,13 +3,13 @@
 
 pub mod clearance_export;
 pub mod congestion_export;
-mod gap;
 pub mod join_export;
 pub mod records_export;
 pub mod separation_export;
 pub mod sheet_export;
 pub mod tight_pair_export;
 pub mod version_export;
+mod words;
 
 pub use clearance_export::readability_clearance;
 pub use congestion_export::{

@@ -11,9 +11,8 @@ ghost use Rattle.clearance.specs.Answer as Clearance;
 ghost use Rattle.records.specs.Records.{parallel_columns, edge_node_columns};
 ghost use Rattle.exports.specs.Words.{separation_words, congestion_words, clearance_words};
 
-use crate::clearance_export::write_clearance;
-use crate::congestion_export::write_congestion;
-use crate::separation_export::write_separation;
+use crate::words::write;
+use drawing::{Exemptions, Nodes};
 use records::{
     EdgeNodeSegment, ParallelSegment, measure_edge_node_clearance_bounded_by_records,
     measure_parallel_congestion_by_records, measure_parallel_congestion_profile_bounded_by_records,
@@ -35,7 +34,7 @@ pub fn readability_separation_by_records(
         × (scratch.new ≡ scratch_after (first_of (separation_conditions lent words)) scratch.old) }
 {
     let answer = measure_parallel_separation_bounded_by_records(records, allowance, scratch);
-    write_separation(answer, out)
+    write(answer, out)
 }
 
 pub fn readability_density_profile_by_records(
@@ -55,7 +54,7 @@ pub fn readability_density_profile_by_records(
     let answer = measure_parallel_density_profile_bounded_by_records(
         records, cutoff, allowance, scratch,
     );
-    write_congestion(answer, out)
+    write(answer, out)
 }
 
 pub fn readability_congestion_profile_by_records(
@@ -75,7 +74,7 @@ pub fn readability_congestion_profile_by_records(
     let answer = measure_parallel_congestion_profile_bounded_by_records(
         records, cutoff, allowance, scratch,
     );
-    write_congestion(answer, out)
+    write(answer, out)
 }
 
 pub fn readability_congestion_by_records(
@@ -92,7 +91,7 @@ pub fn readability_congestion_by_records(
         × (scratch.new ≡ scratch_after (first_of (congestion_conditions lent cutoff words)) scratch.old) }
 {
     let answer = measure_parallel_congestion_by_records(records, cutoff, scratch);
-    write_congestion(answer, out)
+    write(answer, out)
 }
 
 pub fn readability_clearance_by_records(
@@ -118,18 +117,24 @@ pub fn readability_clearance_by_records(
         × (out.new ≡ clearance_words told.1)
         × (scratch.new ≡ scratch_after (first_of (clearance_conditions lent_segments lent_nodes lent_exemptions threshold words)) scratch.old) }
 {
-    let answer = measure_edge_node_clearance_bounded_by_records(
-        records,
+    let nodes = Nodes {
         id,
         x,
         y,
         width,
         height,
-        exempt_net,
-        exempt_node,
+    };
+    let exemptions = Exemptions {
+        net: exempt_net,
+        node: exempt_node,
+    };
+    let answer = measure_edge_node_clearance_bounded_by_records(
+        records,
+        &nodes,
+        &exemptions,
         threshold,
         allowance,
         scratch,
     );
-    write_clearance(answer, out)
+    write(answer, out)
 }

@@ -6,46 +6,9 @@ ghost use Rattle.separation.specs.Conditions.{separation_conditions};
 ghost use Rattle.separation.specs.Answer.{separation_answer, result_of};
 ghost use Rattle.exports.specs.Words.{separation_words};
 
-use crate::gap::{bits_word, present_word};
-use drawing::number;
+use crate::words::write;
+use drawing::Segments;
 use separation_call::measure_parallel_separation_bounded;
-
-// 0 where the call was accepted, else the refusal's number.
-fn separation_status(answer: Result<ParallelSeparation, Refusal>) -> u32
-    ensures { result ≡ (result_of answer).0 }
-{
-    match answer {
-        Ok(_) => 0,
-        Err(why) => number(why) as u32,
-    }
-}
-
-// The report: the two words of each gap, visits. Zeros at a refusal.
-fn separation_words(answer: Result<ParallelSeparation, Refusal>) -> [u64; 5]
-    ensures { result ≡ separation_words (result_of answer).1 }
-{
-    let Ok(report) = answer else {
-        return [0; 5];
-    };
-    let least = report.minimum;
-    let positive = report.minimum_positive;
-    [
-        present_word(least),
-        bits_word(least),
-        present_word(positive),
-        bits_word(positive),
-        report.visits as u64,
-    ]
-}
-
-// Writes the words of the report, and returns the status.
-pub(crate) fn write_separation(answer: Result<ParallelSeparation, Refusal>, out: &mut [u64; 5]) -> u32
-    ensures value { result ≡ (result_of answer).0 }
-    ensures out_after { out.new ≡ separation_words (result_of answer).1 }
-{
-    *out = separation_words(answer);
-    separation_status(answer)
-}
 
 pub fn readability_separation(
     net: &[u32],
@@ -64,14 +27,13 @@ pub fn readability_separation(
         × (out.new ≡ separation_words told.1)
         × (scratch.new ≡ scratch_after (first_of (separation_conditions lent words)) scratch.old) }
 {
-    let answer = measure_parallel_separation_bounded(
+    let segments = Segments {
         net,
         orientation,
         fixed,
         start,
         end,
-        allowance,
-        scratch,
-    );
-    write_separation(answer, out)
+    };
+    let answer = measure_parallel_separation_bounded(&segments, allowance, scratch);
+    write(answer, out)
 }

@@ -1,5 +1,5 @@
 -- A list after its count, its entries all of one width: whether bytes are missing, and what it says. Assumes nothing.
-use Rattle.std.specs.Prelude.{Result, Ok, Err}
+use Rattle.std.specs.Prelude.{Ok, Err}
 use mathlib.Core.Path.{◌≡◌, refl, sym, ap, subst, ◌∙◌}
 use mathlib.Core.Logic.{inl, inr}
 use mathlib.Core.Bool.{Bool, true, false, cond}
@@ -144,8 +144,8 @@ module _ {A : Type 0} {w : ℕ} {bad : List ℕ → Bool} {value : List ℕ → 
       go (missing h k m) = so MalformedFile (counted_missing (fixed_number w) limit l (count_in l) h refl k m) (counted_missing f limit l (count_in l) h refl k m)
       go (here m t) = let g = counted-there (fixed_number w) limit l m t (some_never (places w m (drop 4 l))) in let d : Ok m ≡ count_of (counted limit (number w) l) = count-got _ _ _ m g.reads (length-map (places w m (drop 4 l)) _ ∙ length-places w m (drop 4 l)) in cc
 
-  pub refused-same : (x : (Result ℕ Refusal)) (r : Refusal) → x ≡ count_of (counted limit (number w) l) → x ≡ Err r → x ≡ count_of (counted limit entry l)
-  refused-same x r e g = g ∙ count-refused _ r (refused_as r (sym g ∙ e))
+  pub refused-same : (r : Refusal) → Err r ≡ count_of (counted limit (number w) l) → Err r ≡ count_of (counted limit entry l)
+  refused-same r e = count-refused _ r (refused_as r e)
 
 -- entries without a fault of their own
 pub listed_as : {A : Type 0} {w : ℕ} {value : List ℕ → A} {entry : List ℕ → Read A} (f : Fixed w no_fault value entry) (limit : ℕ) (l : List ℕ) (n : ℕ) → Ok n ≡ count_of (counted limit (number w) l) → Listed limit w value entry l n

@@ -10,7 +10,8 @@ use lib.Ieee.{Float, binary64, of_bits}
 use lib.ListN.{take, drop}
 use lib.Seq.{drop-drop}
 use Rattle.laws.proofs.Tests.{cond_true, cond_false, or_false}
-use Rattle.drawing.specs.Entries.{Segment, Node, Exemption}
+use Rattle.drawing.specs.declared.lists.Segment.{Segment}
+use Rattle.drawing.specs.Entries.{Node, Exemption}
 use Rattle.drawing.specs.declared.refusal.Refusal.TheVariants.{MalformedFile}
 use Rattle.file.specs.Reading.{got, refused, big_endian, float, version_byte, orientation, segment, node, exemption, Settings, settings}
 use Rattle.file.proofs.Fixed.{Fixed, fixed_number, fixed-got, fixed_then, fixed_as}

@@ -1,5 +1,5 @@
 -- Of a file that is read: its parts are where their counts say, and nothing follows them. Assumes nothing.
-use Rattle.std.specs.Prelude.{Result}
+use Rattle.std.specs.Prelude.{Ok, Err}
 use mathlib.Core.Path.{◌≡◌, refl, sym, ap, subst, ◌∙◌}
 use mathlib.Core.Logic.{inl, inr}
 use mathlib.Core.Bool.{Bool}
@@ -11,7 +11,6 @@ use Rattle.laws.proofs.Tests.{le_or_lt, decide}
 use Rattle.drawing.specs.declared.refusal.Refusal.{Refusal}
 use Rattle.drawing.specs.declared.refusal.Refusal.TheVariants.{MalformedFile}
 use Rattle.file.specs.declared.reading.Header.{Header}
-use Rattle.file.specs.declared.reading.Reading.TheVariants as answers
 use Rattle.file.specs.Reading.{Read, got, refused, then, counted, Drawing, parts, ended, read}
 use Rattle.file.specs.Inner.Places.{places}
 use Rattle.file.specs.Columns.{reading_of}
@@ -104,14 +103,14 @@ laid_read l d r e = go (parts l) refl
     go (got a rest) g = laid_parts l a rest g (ended_inverse a d rest r (sym (then-got (parts l) ended a rest g) ∙ e))
 
 -- the counts are those that the call returns
-pub laid : (l : List ℕ) (x : Result Header Refusal) (h : Header) → x ≡ reading_of (read l) → x ≡ answers.Read h → Laid l h.segments h.nodes h.exemptions
+pub laid : (l : List ℕ) (h : Header) → Ok h ≡ reading_of (read l) → Laid l h.segments h.nodes h.exemptions
 unfolding reading_of
-laid l x h e g = go (read l) refl
+laid l h e = go (read l) refl
   where
     go : (y : Read Drawing) → read l ≡ y → Laid l h.segments h.nodes h.exemptions
-    go (refused q) k = let d : answers.Read h ≡ answers.Refused q = sym g ∙ e ∙ ap reading_of k in let z : ◌≡◌ {A = ℕ} 0 1 = cc in absurd (omega arith)
+    go (refused q) k = let d : Ok h ≡ Err q = e ∙ ap reading_of k in let z : ◌≡◌ {A = ℕ} 0 1 = cc in absurd (omega arith)
     go (got d r) k =
         let c = laid_read l d r k in
-        let same : answers.Read h ≡ answers.Read (header_at l c.s c.n c.e) = sym g ∙ e ∙ ap reading_of c.laid.is ∙ ap answers.Read (header_is l c.s c.n c.e) in
+        let same : Ok h ≡ Ok (header_at l c.s c.n c.e) = e ∙ ap reading_of c.laid.is ∙ ap Ok (header_is l c.s c.n c.e) in
         let q : header_at l c.s c.n c.e ≡ h = cc in
         subst (λ (t : Header). Laid l t.segments t.nodes t.exemptions) q c.laid

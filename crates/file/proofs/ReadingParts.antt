@@ -1,5 +1,5 @@
 -- The parts of the file in sequence: which one refuses it, and what is read where none does. Assumes nothing.
-use Rattle.std.specs.Prelude.{Result, Ok, Err}
+use Rattle.std.specs.Prelude.{Ok, Err}
 use mathlib.Core.Path.{◌≡◌, refl, sym, ap, ◌∙◌}
 use mathlib.Core.Logic.{inl, inr}
 use mathlib.Core.Bool.{Bool, true, not}
@@ -15,25 +15,24 @@ use Rattle.laws.proofs.Tests.{le_or_lt}
 use Rattle.drawing.specs.declared.refusal.Refusal.{Refusal}
 use Rattle.drawing.specs.declared.refusal.Refusal.TheVariants.{MalformedFile}
 use Rattle.file.specs.declared.reading.Header.{Header}
-use Rattle.file.specs.declared.reading.Reading.TheVariants as answers
 use Rattle.file.specs.Reading.{got, refused, number, version_byte, counted, segment, node, exemption, Drawing, parts, ended, read}
-use Rattle.file.specs.Inner.Places.{places, count_of, Room}
+use Rattle.file.specs.Inner.Places.{places, count_of}
 use Rattle.file.specs.Columns.{header_of, reading_of}
 use Rattle.file.proofs.Fixed.{then-got, then-refused, fixed_number}
 use Rattle.file.proofs.FixedParts.{number_at, float_at, segment_of, node_of, exemption_of, settings_of, bad_orientation, fixed-version, fixed-segment, fixed-node, fixed-exemption, fixed-settings}
-use Rattle.file.proofs.FixedPlaces.{length-places, some-from}
+use Rattle.file.proofs.FixedPlaces.{length-places}
 use Rattle.file.proofs.FixedLists.{There, PartAt, listed_of, listed_as, part_of, refused-of, refused_as}
-use Rattle.file.proofs.ColumnsFilled.{above, byte_is}
+use Rattle.file.proofs.ColumnsFilled.{byte_is}
 
 -- ---- the orientation bytes of the segments
-pub counted_of : (l : List ℕ) (x : (Result ℕ Refusal)) (n : ℕ) → x ≡ count_of (counted 120 (number 29) l) → x ≡ Ok n → There 120 29 l n
-counted_of l x n e g = (listed_of (fixed_number 29) 120 l n (sym g ∙ e)).there
+pub counted_of : (l : List ℕ) (n : ℕ) → Ok n ≡ count_of (counted 120 (number 29) l) → There 120 29 l n
+counted_of l n e = (listed_of (fixed_number 29) 120 l n e).there
 
-pub orientation-room : (l : List ℕ) (n : ℕ) → 1 ≤ length l → There 120 29 (drop 1 l) n → Room 1 29 n 9 l
-orientation-room l n h t = λ i k. let w : 4 + 29 * n ≤ length l - 1 = simp length-drop at t.whole in omega arith
+pub entries_inside : (l : List ℕ) (n : ℕ) → 1 ≤ length l → There 120 29 (drop 1 l) n → 5 + 29 * n ≤ length l
+entries_inside l n h t = let w : 4 + 29 * n ≤ length l - 1 = simp length-drop at t.whole in omega arith
 
-pub orientation_as : (l : List ℕ) (n : ℕ) (b : Bool) → some_of above (places 29 n (drop 9 l)) ≡ b → some_of bad_orientation (places 29 n (drop 4 (drop 1 l))) ≡ b
-orientation_as l n b e = ap (λ (r : List ℕ). some_of bad_orientation (places 29 n r)) (drop-drop 4 1 l) ∙ sym (some-from above 4 29 n (drop 5 l)) ∙ ap (λ (r : List ℕ). some_of above (places 29 n r)) (drop-drop 4 5 l) ∙ e
+pub orientation_as : (l : List ℕ) (n : ℕ) (b : Bool) → some_of bad_orientation (places 29 n (drop 5 l)) ≡ b → some_of bad_orientation (places 29 n (drop 4 (drop 1 l))) ≡ b
+orientation_as l n b e = ap (λ (r : List ℕ). some_of bad_orientation (places 29 n r)) (drop-drop 4 1 l) ∙ e
 
 -- ---- where the parts are
 abbrev pub nodes_place : ℕ → ℕ
@@ -87,7 +86,7 @@ header_is l s n e =
     }
 
 -- ---- what a part's refusal means for the file
-refused_reading : (l : List ℕ) (r : Refusal) → parts l ≡ refused r → answers.Refused r ≡ reading_of (read l)
+refused_reading : (l : List ℕ) (r : Refusal) → parts l ≡ refused r → Err r ≡ reading_of (read l)
 unfolding read reading_of
 refused_reading l r e = sym (ap reading_of (then-refused (parts l) ended r e))
 
@@ -101,11 +100,11 @@ unfolding ended
 ended-there a [] h = refl
 ended-there a (b ∷ r) h = absurd (omega arith)
 
-pub no_version : (l : List ℕ) → length l ≡ 0 → answers.Refused MalformedFile ≡ reading_of (read l)
+pub no_version : (l : List ℕ) → length l < 1 → Err MalformedFile ≡ reading_of (read l)
 unfolding parts
 no_version l h = refused_reading l MalformedFile (then-refused _ _ MalformedFile (fixed-version.short l (omega arith)))
 
-pub other-version : (l : List ℕ) → (length l ≡ 0 → ⊥) → (get_or l 0 0 ≡ 1 → ⊥) → answers.Refused MalformedFile ≡ reading_of (read l)
+pub other-version : (l : List ℕ) → 1 ≤ length l → (get_or l 0 0 ≡ 1 → ⊥) → Err MalformedFile ≡ reading_of (read l)
 unfolding parts
 other-version l h k =
     let some : 0 < length l = omega arith in
@@ -116,39 +115,39 @@ pub record HasVersion (l : List ℕ) : Type 0 where
   pub some : 1 ≤ length l
   pub reads : version_byte l ≡ got (number_at 1 0 l) (drop 1 l)
 
-pub has_version : (l : List ℕ) → (length l ≡ 0 → ⊥) → get_or l 0 0 ≡ 1 → HasVersion l
+pub has_version : (l : List ℕ) → 1 ≤ length l → get_or l 0 0 ≡ 1 → HasVersion l
 has_version l h k =
     let some : 0 < length l = omega arith in
     record { some = some; reads = fixed-version.reads l some (ap not (eq-eqb (number_at 1 0 l) 1 (sym (byte_is 0 l some) ∙ k))) }
 
 -- ---- what is known from the counts that were found
 module _ (l : List ℕ) where
-  pub segments-of : HasVersion l → (x : (Result ℕ Refusal)) (s : ℕ) → x ≡ count_of (counted 120 segment (drop 1 l)) → x ≡ Ok s → HasSegments l s
-  segments-of v x s e g = part_of v.some (listed_of fixed-segment 120 (drop 1 l) s (sym g ∙ e))
+  pub segments-of : HasVersion l → (s : ℕ) → Ok s ≡ count_of (counted 120 segment (drop 1 l)) → HasSegments l s
+  segments-of v s e = part_of v.some (listed_of fixed-segment 120 (drop 1 l) s e)
 
-  pub nodes-of : (s : ℕ) → HasSegments l s → (x : (Result ℕ Refusal)) (n : ℕ) → x ≡ count_of (counted 120 (number 36) (drop (nodes_place s) l)) → x ≡ Ok n → HasNodes l s n
-  nodes-of s a x n e g = part_of a.room (listed_as fixed-node 120 (drop (nodes_place s) l) n (sym g ∙ e))
+  pub nodes-of : (s : ℕ) → HasSegments l s → (n : ℕ) → Ok n ≡ count_of (counted 120 (number 36) (drop (nodes_place s) l)) → HasNodes l s n
+  nodes-of s a n e = part_of a.room (listed_as fixed-node 120 (drop (nodes_place s) l) n e)
 
-  pub exemptions-of : (s n : ℕ) → HasNodes l s n → (x : (Result ℕ Refusal)) (e : ℕ) → x ≡ count_of (counted 240 (number 8) (drop (exemptions_place s n) l)) → x ≡ Ok e → HasExemptions l s n e
-  exemptions-of s n b x k e g = part_of b.room (listed_as fixed-exemption 240 (drop (exemptions_place s n) l) k (sym g ∙ e))
+  pub exemptions-of : (s n : ℕ) → HasNodes l s n → (e : ℕ) → Ok e ≡ count_of (counted 240 (number 8) (drop (exemptions_place s n) l)) → HasExemptions l s n e
+  exemptions-of s n b k e = part_of b.room (listed_as fixed-exemption 240 (drop (exemptions_place s n) l) k e)
 
 module _ (l : List ℕ) (v : HasVersion l) where
-  pub no_segments : (x : (Result ℕ Refusal)) (r : Refusal) → x ≡ count_of (counted 120 segment (drop 1 l)) → x ≡ Err r → answers.Refused r ≡ reading_of (read l)
+  pub no_segments : (r : Refusal) → Err r ≡ count_of (counted 120 segment (drop 1 l)) → Err r ≡ reading_of (read l)
   unfolding parts
-  no_segments x r e g = refused_reading l r (then-got _ _ _ _ v.reads ∙ then-refused _ _ r (refused-of (counted 120 segment (drop 1 l)) r (sym g ∙ e)))
+  no_segments r e = refused_reading l r (then-got _ _ _ _ v.reads ∙ then-refused _ _ r (refused-of (counted 120 segment (drop 1 l)) r e))
 
   module _ (s : ℕ) (a : HasSegments l s) where
-    pub no_nodes : (x : (Result ℕ Refusal)) (r : Refusal) → x ≡ count_of (counted 120 (number 36) (drop (nodes_place s) l)) → x ≡ Err r → answers.Refused r ≡ reading_of (read l)
+    pub no_nodes : (r : Refusal) → Err r ≡ count_of (counted 120 (number 36) (drop (nodes_place s) l)) → Err r ≡ reading_of (read l)
     unfolding parts
-    no_nodes x r e g = refused_reading l r (then-got _ _ _ _ v.reads ∙ then-got _ _ _ _ a.reads ∙ then-refused _ _ r (refused_as fixed-node 120 (drop (nodes_place s) l) r (sym g ∙ e)))
+    no_nodes r e = refused_reading l r (then-got _ _ _ _ v.reads ∙ then-got _ _ _ _ a.reads ∙ then-refused _ _ r (refused_as fixed-node 120 (drop (nodes_place s) l) r e))
 
     module _ (n : ℕ) (b : HasNodes l s n) where
-      pub no_exemptions : (x : (Result ℕ Refusal)) (r : Refusal) → x ≡ count_of (counted 240 (number 8) (drop (exemptions_place s n) l)) → x ≡ Err r → answers.Refused r ≡ reading_of (read l)
+      pub no_exemptions : (r : Refusal) → Err r ≡ count_of (counted 240 (number 8) (drop (exemptions_place s n) l)) → Err r ≡ reading_of (read l)
       unfolding parts
-      no_exemptions x r e g = refused_reading l r (then-got _ _ _ _ v.reads ∙ then-got _ _ _ _ a.reads ∙ then-got _ _ _ _ b.reads ∙ then-refused _ _ r (refused_as fixed-exemption 240 (drop (exemptions_place s n) l) r (sym g ∙ e)))
+      no_exemptions r e = refused_reading l r (then-got _ _ _ _ v.reads ∙ then-got _ _ _ _ a.reads ∙ then-got _ _ _ _ b.reads ∙ then-refused _ _ r (refused_as fixed-exemption 240 (drop (exemptions_place s n) l) r e))
 
       module _ (e : ℕ) (c : HasExemptions l s n e) where
-        no_settings : length l < settings_place s n e + 40 → answers.Refused MalformedFile ≡ reading_of (read l)
+        no_settings : length l < settings_place s n e + 40 → Err MalformedFile ≡ reading_of (read l)
         unfolding parts
         no_settings h = refused_reading l MalformedFile (then-got _ _ _ _ v.reads ∙ then-got _ _ _ _ a.reads ∙ then-got _ _ _ _ b.reads ∙ then-got _ _ _ _ c.reads ∙ then-refused _ _ MalformedFile (fixed-settings.short (drop (settings_place s n e) l) (simp length-drop (omega arith))))
 
@@ -156,7 +155,7 @@ module _ (l : List ℕ) (v : HasVersion l) where
         unfolding parts
         all-parts h = then-got _ _ _ _ v.reads ∙ then-got _ _ _ _ a.reads ∙ then-got _ _ _ _ b.reads ∙ then-got _ _ _ _ c.reads ∙ then-got _ _ _ _ (fixed-settings.reads (drop (settings_place s n e) l) (simp length-drop (omega arith)) refl) ∙ ap (got (drawing_of l s n e)) (drop-drop 40 (settings_place s n e) l)
 
-        pub other_length : (length l ≡ settings_place s n e + 40 → ⊥) → answers.Refused MalformedFile ≡ reading_of (read l)
+        pub other_length : (length l ≡ settings_place s n e + 40 → ⊥) → Err MalformedFile ≡ reading_of (read l)
         unfolding read reading_of
         other_length h = elim (le_or_lt (settings_place s n e + 40) (length l)) [
           | inr k ↦ no_settings k
@@ -168,6 +167,6 @@ module _ (l : List ℕ) (v : HasVersion l) where
         whole_file h = then-got (parts l) ended _ _ (all-parts (omega arith)) ∙ ended-there (drawing_of l s n e) (drop (settings_place s n e + 40) l) (simp length-drop (omega arith))
 
         -- the header of the drawing, where its parts are those of the file
-        pub right_header : (h : Header) → length l ≡ settings_place s n e + 40 → h ≡ header_at l s n e → answers.Read h ≡ reading_of (read l)
+        pub right_header : (h : Header) → length l ≡ settings_place s n e + 40 → h ≡ header_at l s n e → Ok h ≡ reading_of (read l)
         unfolding reading_of
-        right_header h k g = sym (ap reading_of (whole_file k) ∙ ap answers.Read (header_is l s n e ∙ sym g))
+        right_header h k g = sym (ap reading_of (whole_file k) ∙ ap Ok (header_is l s n e ∙ sym g))

@@ -1,10 +1,9 @@
 -- What reading a drawing file returns, with the number and values of each case (SCOPE 8.5, 10.3), and what the lent columns hold then.
 use Rattle.drawing.specs.declared.refusal.Refusal.{Refusal}
-use Rattle.std.specs.Prelude.{List, ℕ, length, Option, Result, None, Some}
+use Rattle.std.specs.Prelude.{List, ℕ, length, Option, Result, None, Some, Ok, Err}
 use Rattle.drawing.specs.Refusals.{number_of}
 use Rattle.drawing.specs.Outputs.{written_over}
 use Rattle.file.specs.declared.reading.Header.{Header}
-use Rattle.file.specs.declared.reading.Reading.TheVariants as answers
 use Rattle.file.specs.Reading.{Read, got, refused, Drawing}
 
 -- the counts of the lists and the settings
@@ -15,13 +14,13 @@ header_of d =
 
 -- the answer: the counts and settings of a file that is read, or the refusal
 unfoldable pub reading_of : Read Drawing → Result Header Refusal
-reading_of (got d rest) = answers.Read (header_of d)
-reading_of (refused r) = answers.Refused r
+reading_of (got d rest) = Ok (header_of d)
+reading_of (refused r) = Err r
 
 -- each case of the answer by its number, 0 for a file that is read, and its values. SCOPE 8.5, 10.3: "A refusal returns its number", and there is no header
 unfoldable pub result_of : Result Header Refusal → ℕ × Option Header
-result_of (answers.Read h) = (0, Some h)
-result_of (answers.Refused w) = (number_of w, None)
+result_of (Ok h) = (0, Some h)
+result_of (Err w) = (number_of w, None)
 
 -- the number and values of a file
 unfoldable pub file_result : Read Drawing → ℕ × Option Header

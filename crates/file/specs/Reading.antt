@@ -4,7 +4,8 @@ use Rattle.std.specs.Float.{binary64}
 use Rattle.std.specs.Float.Ieee.{of_bits}
 use Rattle.drawing.specs.declared.refusal.Refusal.{Refusal}
 use Rattle.drawing.specs.declared.refusal.Refusal.TheVariants.{MalformedFile, TooManyEntries}
-use Rattle.drawing.specs.Entries.{Segment, Node, Exemption}
+use Rattle.drawing.specs.declared.lists.Segment.{Segment}
+use Rattle.drawing.specs.Entries.{Node, Exemption}
 
 -- the outcome of reading a part: what the part says and the bytes after it, or the refusal. SCOPE 10.2: "Within the file the first fault in byte order counts": a part is read from the end of the one before it, and only if that one had no fault.
 pub data Read (A : Type 0) : Type 0 where

@@ -1,25 +1,66 @@
-// Big-endian numbers of four and of eight bytes.
-ghost use Rattle.std.specs.Prelude.{◌≡◌, [], ◌∷◌, ◌+◌, ◌≤◌, length, take, drop};
+// The values of a file: numbers and floats of a fixed width, the most significant byte first.
+ghost use Rattle.std.specs.Prelude.{◌≡◌, ◌+◌, ◌≤◌, ℕ, List, length, take, drop};
+ghost use Rattle.std.specs.Float.{binary64};
+ghost use Rattle.std.specs.Float.Ieee.{of_bits};
 ghost use Rattle.file.specs.Reading.{big_endian};
 
-fn from_bytes(a: u8, b: u8, c: u8, d: u8) -> u32
-    ensures { result ≡ big_endian 0 (a ∷ b ∷ c ∷ d ∷ []) }
-{
-    256 * (256 * (256 * (a as u32) + (b as u32)) + (c as u32)) + (d as u32)
+use floats::float_of_bits;
+
+// A value that is read from `width` bytes.
+pub(crate) trait Field: Copy {
+    ghost width: { ℕ };
+
+    ghost value: { List ℕ → Self };
+
+    fn read_at(bytes: &[u8], at: usize) -> Self
+        requires { at + width ≤ length bytes.now }
+        ensures { result ≡ value (take width (drop at bytes.now)) };
 }
 
-pub(crate) fn be32(bytes: &[u8], at: usize) -> u32
-    requires { at + 4 ≤ length bytes.now }
-    ensures { result ≡ big_endian 0 (take 4 (drop at bytes.now)) }
-{
-    from_bytes(bytes[at], bytes[at + 1], bytes[at + 2], bytes[at + 3])
+impl Field for u8 {
+    ghost width = { 1 };
+
+    ghost value = { big_endian 0 };
+
+    fn read_at(bytes: &[u8], at: usize) -> u8 {
+        bytes[at]
+    }
 }
 
-pub(crate) fn be64(bytes: &[u8], at: usize) -> u64
-    requires { at + 8 ≤ length bytes.now }
-    ensures { result ≡ big_endian 0 (take 8 (drop at bytes.now)) }
+impl Field for u32 {
+    ghost width = { 4 };
+
+    ghost value = { big_endian 0 };
+
+    fn read_at(bytes: &[u8], at: usize) -> u32 {
+        u32::from_be_bytes(chunk(bytes, at))
+    }
+}
+
+impl Field for u64 {
+    ghost width = { 8 };
+
+    ghost value = { big_endian 0 };
+
+    fn read_at(bytes: &[u8], at: usize) -> u64 {
+        u64::from_be_bytes(chunk(bytes, at))
+    }
+}
+
+impl Field for f64 {
+    ghost width = { 8 };
+
+    ghost value = { λ l. of_bits binary64 (big_endian 0 l) };
+
+    fn read_at(bytes: &[u8], at: usize) -> f64 {
+        float_of_bits(u64::read_at(bytes, at))
+    }
+}
+
+// The N bytes from an index on.
+fn chunk<const N: usize>(bytes: &[u8], at: usize) -> [u8; N]
+    requires { at + N ≤ length bytes.now }
+    ensures { result ≡ take N (drop at bytes.now) }
 {
-    let high = be32(bytes, at);
-    let low = be32(bytes, at + 4);
-    0x1_0000_0000 * (high as u64) + (low as u64)
+    *bytes[at..].first_chunk().unwrap()
 }

@@ -2,10 +2,12 @@
 #![tactic(auto)]
 
 mod bytes;
-mod fill;
+pub mod columns;
+mod entries;
 pub mod read;
 pub mod reading;
 mod scan;
 
+pub use columns::DrawingColumns;
 pub use read::read_drawing;
 pub use reading::Header;

@@ -1,5 +1,4 @@
 // What reading a drawing file returns.
-use drawing::Refusal;
 
 // The counts of the three lists, and the settings.
 #[derive(Clone, Copy)]
@@ -12,10 +11,4 @@ pub struct Header {
     pub clearance: usize,
     pub separation: usize,
     pub congestion: usize,
-}
-
-#[derive(Clone, Copy)]
-pub enum Reading {
-    Read(Header),
-    Refused(Refusal),
 }

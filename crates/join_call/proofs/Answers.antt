@@ -4,11 +4,11 @@ use mathlib.Core.Path.{◌≡◌, refl, sym, ap, ◌∙◌}
 use mathlib.Core.Logic.{inl, inr}
 use mathlib.Core.Bool.{Bool, true, false, not}
 use mathlib.Core.List.{List, [], ◌∷◌, ◌++◌, map}
-use Prim.Native.Nat.{ℕ, ◌+◌, ◌-◌, ◌*◌, ◌/◌, ◌%◌, ◌≤◌, ◌<◌}
+use Prim.Native.Nat.{ℕ, ◌+◌, ◌-◌, ◌*◌, ◌/◌, ◌%◌, ◌^◌, ◌≤◌, ◌<◌}
 use native.Mathlib.Omega.{arith}
 use lib.Dec.{ltb}
 use lib.Ieee.{Float}
-use lib.ListN.{length, drop, length-map}
+use lib.ListN.{length, drop, length-map, get_or}
 use borrow.Author.Tests.{ltb-false, le-ltb}
 use Rattle.laws.specs.Lists.{Mem, All, put}
 use Rattle.laws.specs.Sort.{sort_by}
@@ -25,7 +25,6 @@ use Rattle.drawing.specs.Conditions.{short_output}
 use Rattle.drawing.specs.Checks.{segment_list_conditions}
 use Rattle.drawing.specs.Held.{SegmentsHeld}
 use Rattle.drawing.specs.Inner.Lengths.{SegmentsAgree}
-use Rattle.drawing.specs.Inner.Typed.{SegmentsTyped}
 use Rattle.drawing.specs.Outputs.{written_over}
 use Rattle.drawing.proofs.EntryLaws.{length-segments}
 use Rattle.drawing.proofs.ListOrders.{segments-all, segments-held}
@@ -155,7 +154,7 @@ module _ (c out : SegmentColumns) where
   finished new l count m p t n s w =
       let j = n ∙ joined-count c l t in
       let r = all-written (ap (λ (z : ℕ). short_output z (output_lengths out)) (sym (joined-count c l t)) ∙ s) in
-      let small = segments-all Small c p.agree p.typed.net in
+      let small = segments-all Small c p.agree p.nets in
       let back = ap (λ (z : List Piece). written_pieces z out) (joined_words c l t) ∙ written_back (joined (segments c)) out (joined_canonical (segments c) p.fit) (joined_small (segments c) small) in
       ((λ i. Ok (record { pieces = j i; gone = sym (length-segments c p.agree) i - j i })) ∙ r.0, w ∙ back ∙ r.1)
 
@@ -183,11 +182,11 @@ module _ (c out : SegmentColumns) where
   passed r new p h e = let q = rest-is p in (e.0 ∙ q.0, e.1 ∙ q.1, λ z. h)
 
 -- ---- what the checks leave known
-pub held_of : (c : SegmentColumns) → first_of (segment_list_conditions c) ≡ Ok tt → SegmentsTyped c → SegmentsHeld c
-held_of c e t = segments-held c (segment_list_passes c e).agree t.fixed t.start t.end
+pub held_of : (c : SegmentColumns) → first_of (segment_list_conditions c) ≡ Ok tt → (SegmentsAgree c → SegmentsHeld c) → SegmentsHeld c
+held_of c e h = h (segment_list_passes c e).agree
 
-pub lists_of : (c : SegmentColumns) (m : ℕ) → first_of (segment_list_conditions c) ≡ Ok tt → SegmentsTyped c → 5 * length c.net ≤ m → Lists c m
-lists_of c m e t r = let p = segment_list_passes c e in record { agree = p.agree; few = p.few-segments; fit = fit-segments (segments c) (held_of c e t) p.fit; typed = t; room = r }
+pub lists_of : (c : SegmentColumns) (m : ℕ) → first_of (segment_list_conditions c) ≡ Ok tt → (SegmentsAgree c → SegmentsHeld c) → ((i : ℕ) → get_or c.net i 0 < 2 ^ 32) → 5 * length c.net ≤ m → Lists c m
+lists_of c m e h t r = let p = segment_list_passes c e in record { agree = p.agree; few = p.few-segments; fit = fit-segments (segments c) (held_of c e h) p.fit; nets = t; room = r }
 
 pub passes-few : (c : SegmentColumns) → first_of (segment_list_conditions c) ≡ Ok tt → length c.net ≤ 4096
 passes-few c e = (segment_list_passes c e).few-segments

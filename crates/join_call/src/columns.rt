@@ -64,7 +64,7 @@ pub fn join(
         × (first_of (segment_list_conditions lent) ≡ Ok tt → SegmentsHeld lent) }
 {
     check_segment_list(segments)?;
-    segments.typed();
+    segments.held();
     let mut output = Output {
         net: to_net,
         orientation: to_orientation,

@@ -18,7 +18,7 @@ fn step_down(keys: &[u64], v: u64, near: usize) -> usize
     0
 }
 
-// The first index whose key is at least v; the number of keys where there is none. The search begins at `near`, and takes as many steps as the answer is away from there.
+// The first index whose key is at least v; the number of keys where there is none. The search begins at `near`, and takes as many steps as the answer is away from there: all searches for one end together go once over the keys, while `partition_point` would halve all of them for each wire.
 fn first_at_least(keys: &[u64], v: u64, near: usize) -> usize
     requires { near ≤ length keys.now }
     ensures { Ascending keys.now → LowerBound keys.now v result }

@@ -1,2 +1,2 @@
--- What the proof of `Columns::of` uses.
+-- What the proof of `Columns::copy_from` uses.
 mod Copying

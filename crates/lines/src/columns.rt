@@ -1,14 +1,14 @@
-// The columns of a list of records. A call refuses more than 4,096 entries whatever they are (SCOPE 7.3), so the first 4,097 records are enough, and the columns need no heap.
-ghost use Rattle.std.specs.Prelude.{◌≡◌, ◌≤◌, map, take};
+// The columns of a list of records. A call refuses more than 4,096 entries whatever they are (SCOPE 7.3), so the first 4,097 records are enough, and no heap is needed.
+ghost use Rattle.std.specs.Prelude.{◌≡◌, ◌≤◌, [], map, take};
 ghost use Rattle.drawing.specs.Entries.{SegmentColumns, segment_columns, lent_segments, columns_of};
 
 use crate::record::SegmentRecord;
 use drawing::Segments;
 use std::marker::Model;
 
-// How many records are copied at most.
-pub const PLACES: usize = 4097;
+const PLACES: usize = 4097;
 
+#[derive(Drop)]
 pub struct Columns {
     count: usize,
     net: [u32; PLACES],
@@ -18,6 +18,7 @@ pub struct Columns {
     end: [f64; PLACES],
 }
 
+// The first `count` places of each column.
 impl Model for Columns {
     ghost Value = { SegmentColumns };
 
@@ -27,28 +28,37 @@ impl Model for Columns {
 }
 
 impl Columns {
-    pub fn of<R: SegmentRecord>(records: &[R]) -> Columns
-        ensures { result ≡ columns_of (take 4097 (map R.segment records.now)) }
+    #[tactic(auto, unfolding(drawing::specs::Entries::columns_of))]
+    pub fn empty() -> Columns
+        ensures { result ≡ columns_of [] }
     {
-        let count = records.len().min(PLACES);
-        let mut columns = Columns {
-            count,
+        Columns {
+            count: 0,
             net: [0; PLACES],
             orientation: [0; PLACES],
             fixed: [0.0; PLACES],
             start: [0.0; PLACES],
             end: [0.0; PLACES],
-        };
-        for (i, record) in records[..count].iter().enumerate() {
-            columns.net[i] = record.net();
-            columns.orientation[i] = u8::from(record.is_horizontal());
-            columns.fixed[i] = record.fixed();
-            columns.start[i] = record.start();
-            columns.end[i] = record.end();
         }
-        columns
     }
 
+    // The columns of the list, or of its first 4,097 records, in place of what was held. A function that returned them filled would take the stack for them twice.
+    pub fn copy_from<R: SegmentRecord>(&mut self, records: &[R])
+        ensures { self.new ≡ columns_of (take 4097 (map R.segment records.now)) }
+    {
+        let count = records.len().min(PLACES);
+        for (i, record) in records[..count].iter().enumerate() {
+            let segment = record.segment();
+            self.net[i] = segment.net;
+            self.orientation[i] = segment.orientation;
+            self.fixed[i] = segment.fixed;
+            self.start[i] = segment.start;
+            self.end[i] = segment.end;
+        }
+        self.count = count;
+    }
+
+    // As a call by columns takes them.
     pub fn segments(&self) -> Segments<'_>
         ensures { lent_segments result ≡ self.now }
     {

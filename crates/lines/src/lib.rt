@@ -4,5 +4,5 @@
 pub mod columns;
 pub mod record;
 
-pub use columns::{Columns, PLACES};
+pub use columns::Columns;
 pub use record::SegmentRecord;

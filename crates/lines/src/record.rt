@@ -1,24 +1,14 @@
-// A record of a list: one segment, its orientation a `bool` (SCOPE 2.6).
+// A record of a list: it stands for one segment (SCOPE 2.6).
 ghost use Rattle.std.specs.Prelude.{◌≡◌};
 ghost use Rattle.drawing.specs.Entries.{Segment};
-ghost use Rattle.lines.specs.Orientation.{orientation_byte};
 
+use drawing::Segment;
+
+// A trait of its own, and not `Into<Segment>`: contracts name a record's segment as a function, and of a conversion std has a relation alone, so that they would be longer.
 pub trait SegmentRecord: Copy {
-    // The entry that the record stands for.
     ghost segment: { Self → Segment };
 
-    fn net(self) -> u32
-        ensures { result ≡ (segment self).net };
-
-    fn is_horizontal(self) -> bool
-        ensures { orientation_byte result ≡ (segment self).orientation };
-
-    fn fixed(self) -> f64
-        ensures { result ≡ (segment self).fixed };
-
-    fn start(self) -> f64
-        ensures { result ≡ (segment self).start };
-
-    fn end(self) -> f64
-        ensures { result ≡ (segment self).end };
+    // The record as an entry of the columns.
+    fn segment(self) -> Segment
+        ensures { result ≡ segment self };
 }

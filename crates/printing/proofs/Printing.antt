@@ -1,16 +1,15 @@
 -- From a file's reading to its sheet: what the columns hold where the file is read, and which text follows from each answer of the reader. Assumes nothing.
-use Rattle.std.specs.Prelude.{Result}
-use mathlib.Core.Path.{◌≡◌, refl, sym, ap, subst, ◌∙◌}
+use Rattle.std.specs.Prelude.{Result, Ok, Err}
+use mathlib.Core.Path.{◌≡◌, refl, sym, ap, ◌∙◌}
 use mathlib.Core.List.{List, ◌++◌, map}
-use Prim.Native.Nat.{ℕ, ◌+◌, ◌≤◌}
-use native.Mathlib.Omega.{arith}
-use lib.ListN.{length, take, drop, length-append, length-map}
+use Prim.Native.Nat.{ℕ}
+use lib.ListN.{length, take, drop, length-map}
 use lib.Ieee.{Float}
-use lib.Seq.{take-append_seam, length-take-le}
+use lib.Seq.{take-append_seam}
 use Rattle.drawing.specs.declared.refusal.Refusal.{Refusal}
-use Rattle.drawing.specs.Entries.{Segment, Node, Exemption, SegmentColumns, NodeColumns, ExemptionColumns, segment_columns, node_columns, exemption_columns, columns_of, node_columns_of, exemption_columns_of}
+use Rattle.drawing.specs.declared.lists.Segment.{Segment}
+use Rattle.drawing.specs.Entries.{Node, Exemption, SegmentColumns, NodeColumns, ExemptionColumns, segment_columns, node_columns, exemption_columns, columns_of, node_columns_of, exemption_columns_of}
 use Rattle.file.specs.declared.reading.Header.{Header}
-use Rattle.file.specs.declared.reading.Reading.TheVariants as answers
 use Rattle.file.specs.Reading.{Read, got, refused, Drawing}
 use Rattle.file.specs.Columns.{header_of, reading_of, column_after}
 use Rattle.file.specs.Inner.Columns.{settings_of}
@@ -18,27 +17,18 @@ use Rattle.clearance.specs.Answer.{clearance_answer}
 use Rattle.separation.specs.Answer.{separation_answer}
 use Rattle.congestion.specs.Answer.{density_answer}
 use Rattle.printing.specs.Sheet.{file_label, refusal, clearance_line, separation_line, congestion_line, scratch_words, lines_of_columns, lines_of_drawing, printed}
+use Rattle.clearance.specs.declared.report.EdgeNodeClearance.{EdgeNodeClearance}
+use Rattle.separation.specs.declared.report.ParallelSeparation.{ParallelSeparation}
+use Rattle.congestion.specs.declared.report.CongestionReport.{CongestionReport}
+use Rattle.text.specs.declared.put.TextBuffer.{TextBuffer}
 use Rattle.text.specs.Inner.TextPut.{Put}
 use Rattle.text.proofs.TextPuts.{put_same}
 
--- the two answers of the reader differ
-abbrev IsRead : Result Header Refusal → Type 0
-IsRead (answers.Read h) = Unit {0}
-IsRead (answers.Refused r) = ⊥
-
-abbrev header_from : Header → Result Header Refusal → Header
-header_from other (answers.Read h) = h
-header_from other (answers.Refused r) = other
-
-abbrev refusal_from : Refusal → Result Header Refusal → Refusal
-refusal_from other (answers.Read h) = other
-refusal_from other (answers.Refused r) = r
-
 -- a refused file's text
-pub refused-sheet : (r : Read Drawing) (why : Refusal) → answers.Refused why ≡ reading_of r → refusal file_label why ≡ printed r
+pub refused-sheet : (r : Read Drawing) (why : Refusal) → Err why ≡ reading_of r → refusal file_label why ≡ printed r
 unfolding reading_of printed
-refused-sheet (got d rest) why e = absurd (subst IsRead (sym e) tt)
-refused-sheet (refused w) why e = ap (refusal file_label) (ap (refusal_from why) e)
+refused-sheet (got d rest) why e = cc
+refused-sheet (refused w) why e = let q : why ≡ w = cc in ap (refusal file_label) q
 
 -- the front of a filled column is f of its list
 column-front : {A B : Type 0} (f : A → B) (l : List A) (old : List B) → take (length l) (map f l ++ drop (length l) old) ≡ map f l
@@ -51,10 +41,10 @@ pub record Said (r : Read Drawing) (h : Header) : Type 0 where
   pub is : r ≡ got drawing rest
   pub header : h ≡ header_of drawing
 
-pub said : (r : Read Drawing) (h : Header) → answers.Read h ≡ reading_of r → Said r h
+pub said : (r : Read Drawing) (h : Header) → Ok h ≡ reading_of r → Said r h
 unfolding reading_of
-said (got d rest) h e = record { drawing = d; rest = rest; is = refl; header = ap (header_from h) e }
-said (refused w) h e = absurd (subst IsRead e tt)
+said (got d rest) h e = record { drawing = d; rest = rest; is = refl; header = cc }
+said (refused w) h e = cc
 
 -- equal columns make equal lists
 five : {A B C D E R : Type 0} (f : A → B → C → D → E → R) {a p : A} {b q : B} {c r : C} {d s : D} {e t : E} → a ≡ p → b ≡ q → c ≡ r → d ≡ s → e ≡ t → f a b c d e ≡ f p q r s t
@@ -62,10 +52,6 @@ five f {a} {p} {b} {q} {c} {r} {d} {s} {e} {t} x y z u v = ap (λ k. f k b c d e
 
 four : {A B C D R : Type 0} (f : A → B → C → D → R) {a p : A} {b q : B} {c r : C} {d s : D} → a ≡ p → b ≡ q → c ≡ r → d ≡ s → f a b c d ≡ f p q r s
 four f {a} {p} {b} {q} {c} {r} {d} {s} x y z u = ap (λ k. f k b c d) x ∙ ap (λ k. f p k c d) y ∙ ap (λ k. f p q k d) z ∙ ap (f p q r) u
-
--- the lent part of a column has n entries
-pub prefix_count : {A : Type 0} (n : ℕ) (l : List A) → n ≤ length l → n ≡ length (take n l)
-prefix_count n l h = sym (length-take-le n l h)
 
 module _ {r : Read Drawing} {h : Header} (q : Said r h) where
   -- the lent part of a column that the reader filled: as many entries as the header says
@@ -75,15 +61,6 @@ module _ {r : Read Drawing} {h : Header} (q : Said r h) where
       ap (λ (k : ℕ). take k column) same
       ∙ ap (take (length (list q.drawing))) (e ∙ ap (λ (o : Read Drawing). column_after list f o old) q.is)
       ∙ column-front f (list q.drawing) old
-
-  -- a column has room for its entries
-  lent-room : {A B : Type 0} (list : Drawing → List A) (f : A → B) (n : ℕ) → n ≡ length (list q.drawing) → (column old : List B) → column ≡ column_after list f r old → n ≤ length column
-  unfolding column_after
-  lent-room list f n same column old e =
-      let l : List _ = list q.drawing in
-      let whole : length column ≡ length (map f l) + length (drop (length l) old) = ap length (e ∙ ap (λ (o : Read Drawing). column_after list f o old) q.is) ∙ length-append (map f l) (drop (length l) old) in
-      let count : length (map f l) ≡ length l = length-map l f in
-      omega arith
 
   segment-count : h.segments ≡ length q.drawing.segments
   unfolding header_of
@@ -96,15 +73,6 @@ module _ {r : Read Drawing} {h : Header} (q : Said r h) where
   exemption-count : h.exemptions ≡ length q.drawing.exemptions
   unfolding header_of
   exemption-count = ap (λ (z : Header). z.exemptions) q.header
-
-  pub segment-room : {B : Type 0} (f : Segment → B) (column old : List B) → column ≡ column_after (λ d. d.segments) f r old → h.segments ≤ length column
-  segment-room f column old e = lent-room (λ d. d.segments) f h.segments segment-count column old e
-
-  pub node-room : {B : Type 0} (f : Node → B) (column old : List B) → column ≡ column_after (λ d. d.nodes) f r old → h.nodes ≤ length column
-  node-room f column old e = lent-room (λ d. d.nodes) f h.nodes node-count column old e
-
-  pub exemption-room : {B : Type 0} (f : Exemption → B) (column old : List B) → column ≡ column_after (λ d. d.exemptions) f r old → h.exemptions ≤ length column
-  exemption-room f column old e = lent-room (λ d. d.exemptions) f h.exemptions exemption-count column old e
 
   pub segments-lent : (n o : List ℕ) (f s e : List Float) (n' o' : List ℕ) (f' s' e' : List Float)
       → n ≡ column_after (λ d. d.segments) (λ x. x.net) r n' → o ≡ column_after (λ d. d.segments) (λ x. x.orientation) r o' → f ≡ column_after (λ d. d.segments) (λ x. x.fixed) r f' → s ≡ column_after (λ d. d.segments) (λ x. x.start) r s' → e ≡ column_after (λ d. d.segments) (λ x. x.end) r e'
@@ -141,12 +109,12 @@ pub three : {a b c d e f : List ℕ} → a ≡ d → b ≡ e → c ≡ f → a +
 three {a} {b} {c} {d} {e} {f} p q r = ap (λ l. l ++ (b ++ c)) p ∙ ap (λ l. d ++ (l ++ c)) q ∙ ap (λ l. d ++ (e ++ l)) r
 
 -- the lines of three answers, each of a call with the program's scratch, are the lines of the columns
-pub lines-put : (s : SegmentColumns) (n : NodeColumns) (e : ExemptionColumns) (h : Header) (x : Result EdgeNodeClearance Refusal) (y : Result ParallelSeparation Refusal) (z : Result CongestionReport Refusal) (i j k : ℕ) {before after : List ℕ} {next : ℕ}
+pub lines-put : (s : SegmentColumns) (n : NodeColumns) (e : ExemptionColumns) (h : Header) (x : Result EdgeNodeClearance Refusal) (y : Result ParallelSeparation Refusal) (z : Result CongestionReport Refusal) (i j k : ℕ) {before after : TextBuffer}
     → 7744 ≡ i → x ≡ clearance_answer s n e h.threshold h.clearance i
     → 7744 ≡ j → y ≡ separation_answer s h.separation j
     → 7744 ≡ k → z ≡ density_answer s h.cutoff h.congestion k
-    → Put 256 before 0 (clearance_line x ++ (separation_line y ++ congestion_line z)) after next
-    → Put 256 before 0 (lines_of_columns s n e (settings_of h)) after next
+    → Put 256 before (clearance_line x ++ (separation_line y ++ congestion_line z)) after
+    → Put 256 before (lines_of_columns s n e (settings_of h)) after
 unfolding lines_of_columns settings_of scratch_words
 lines-put s n e h x y z i j k li lx lj ly lk lz p =
     put_same

@@ -1,5 +1,5 @@
 -- The fields of a sheet's lines, as the bytes of text.
-use Rattle.std.specs.Prelude.{List, [], ◌∷◌, ◌++◌, ℕ, Option, Some, None}
+use Rattle.std.specs.Prelude.{List, [], ◌∷◌, ◌++◌, ℕ, Option, Some, None, Float}
 use Rattle.text.specs.Text.{float_text}
 
 -- SCOPE 11.3: "an absent gap is `none`"

@@ -1,13 +1,13 @@
 -- The text of a sheet. SCOPE 11.1, 11.4: "three lines", or "a refused file only `file refused` and the number".
-use Rattle.std.specs.Prelude.{List, [], ◌∷◌, ◌++◌, ℕ, Result}
+use Rattle.std.specs.Prelude.{List, [], ◌∷◌, ◌++◌, ℕ, Result, Ok, Err}
 use Rattle.drawing.specs.declared.refusal.Refusal.{Refusal}
 use Rattle.drawing.specs.Entries.{SegmentColumns, NodeColumns, ExemptionColumns, columns_of, node_columns_of, exemption_columns_of}
 use Rattle.drawing.specs.Refusals.{number_of}
-use Rattle.clearance.specs.declared.report.ClearanceAnswer.TheVariants as ofClearance
+use Rattle.clearance.specs.declared.report.EdgeNodeClearance.{EdgeNodeClearance}
 use Rattle.clearance.specs.Answer.{clearance_answer}
-use Rattle.separation.specs.declared.report.SeparationAnswer.TheVariants as ofSeparation
+use Rattle.separation.specs.declared.report.ParallelSeparation.{ParallelSeparation}
 use Rattle.separation.specs.Answer.{separation_answer}
-use Rattle.congestion.specs.declared.report.CongestionAnswer.TheVariants as of_congestion
+use Rattle.congestion.specs.declared.report.CongestionReport.{CongestionReport}
 use Rattle.congestion.specs.Answer.{density_answer}
 use Rattle.file.specs.Reading.{Settings, Drawing, Read, got, refused, read}
 use Rattle.text.specs.Text.{decimal, float_text}
@@ -35,20 +35,20 @@ refusal name r = name ++ fields (refused_label ∷ decimal (number_of r) ∷ [])
 
 -- SCOPE 11.2: "least, violations, visits"
 unfoldable pub clearance_line : Result EdgeNodeClearance Refusal → List ℕ
-clearance_line (ofClearance.Report r) = clearance_label ++ fields (gap_text r.minimum_clearance ∷ decimal r.violations ∷ decimal r.visits ∷ [])
-clearance_line (ofClearance.Refused r) = refusal clearance_label r
+clearance_line (Ok r) = clearance_label ++ fields (gap_text r.minimum_clearance ∷ decimal r.violations ∷ decimal r.visits ∷ [])
+clearance_line (Err r) = refusal clearance_label r
 
 -- SCOPE 11.2: "least, least nonzero, visits"
 unfoldable pub separation_line : Result ParallelSeparation Refusal → List ℕ
-separation_line (ofSeparation.Report r) = separation_label ++ fields (gap_text r.minimum ∷ gap_text r.minimum_positive ∷ decimal r.visits ∷ [])
-separation_line (ofSeparation.Refused r) = refusal separation_label r
+separation_line (Ok r) = separation_label ++ fields (gap_text r.minimum ∷ gap_text r.minimum_positive ∷ decimal r.visits ∷ [])
+separation_line (Err r) = refusal separation_label r
 
 -- SCOPE 11.2: "total, congested, pair overlap, peak, least nonzero close gap, visits"
 unfoldable pub congestion_line : Result CongestionReport Refusal → List ℕ
-congestion_line (of_congestion.Report r) =
+congestion_line (Ok r) =
     let c = r.congestion in
     congestion_label ++ fields (float_text c.total_length ∷ float_text c.congested_length ∷ float_text c.pair_overlap_length ∷ decimal c.peak_close_neighbors ∷ gap_text r.minimum_positive ∷ decimal r.visits ∷ [])
-congestion_line (of_congestion.Refused r) = refusal congestion_label r
+congestion_line (Err r) = refusal congestion_label r
 
 -- the words of scratch that the program lends to each call. SCOPE 2.7, 11.6: "32 times (segments + nodes) plus 64 words" for 120 segments and 120 nodes
 unfoldable pub scratch_words : ℕ

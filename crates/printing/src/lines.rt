@@ -1,4 +1,4 @@
-// The lines of a sheet, put into a lent buffer from an index on (SCOPE 11.2 to 11.4). Each function returns the index after its text.
+// The lines of a sheet, put into a text buffer (SCOPE 11.2 to 11.4).
 ghost use Rattle.std.specs.Prelude.{[], ◌∷◌, ◌++◌};
 ghost use Rattle.drawing.specs.Refusals.{number_of};
 ghost use Rattle.text.specs.Text as Text;
@@ -6,124 +6,122 @@ ghost use Rattle.text.specs.Inner.TextPut.{Put};
 ghost use Rattle.printing.specs.Fields as Fields;
 ghost use Rattle.printing.specs.Sheet as Sheet;
 
-use drawing::{Refusal, number};
-use text::{put_byte, put_decimal, put_float, put_word};
+use clearance::EdgeNodeClearance;
+use congestion::CongestionReport;
+use drawing::Refusal;
+use separation::ParallelSeparation;
+use text::TextBuffer;
 
-fn put_gap(gap: Option<f64>, text: &mut [u8], at: usize) -> usize
-    ensures { Put 16 text.old at (Fields.gap_text gap) text.new result }
+fn put_gap(buffer: &mut TextBuffer<'_>, gap: Option<f64>)
+    ensures { Put 16 buffer.old (Fields.gap_text gap) buffer.new }
 {
     match gap {
-        None => put_word(b"none", text, at),
-        Some(x) => put_float(x, text, at),
+        None => buffer.put_word(b"none"),
+        Some(x) => buffer.put_float(x),
     }
 }
 
 // Fields, each with the space before it.
-fn gap_field(gap: Option<f64>, text: &mut [u8], at: usize) -> usize
-    ensures { Put 17 text.old at (32 ∷ Fields.gap_text gap) text.new result }
+fn gap_field(buffer: &mut TextBuffer<'_>, gap: Option<f64>)
+    ensures { Put 17 buffer.old (32 ∷ Fields.gap_text gap) buffer.new }
 {
-    let next = put_byte(b' ', text, at);
-    put_gap(gap, text, next)
+    buffer.put_byte(b' ');
+    put_gap(buffer, gap);
 }
 
-fn float_field(x: f64, text: &mut [u8], at: usize) -> usize
-    ensures { Put 17 text.old at (32 ∷ Text.float_text x) text.new result }
+fn float_field(buffer: &mut TextBuffer<'_>, x: f64)
+    ensures { Put 17 buffer.old (32 ∷ Text.float_text x) buffer.new }
 {
-    let next = put_byte(b' ', text, at);
-    put_float(x, text, next)
+    buffer.put_byte(b' ');
+    buffer.put_float(x);
 }
 
-fn count_field(count: usize, text: &mut [u8], at: usize) -> usize
-    ensures { Put 21 text.old at (32 ∷ Text.decimal «count») text.new result }
+fn count_field(buffer: &mut TextBuffer<'_>, count: usize)
+    ensures { Put 21 buffer.old (32 ∷ Text.decimal «count») buffer.new }
 {
-    let next = put_byte(b' ', text, at);
-    put_decimal(count as u64, text, next)
+    buffer.put_byte(b' ');
+    buffer.put_decimal(count as u64);
 }
 
 // The end of a line: a gap and the visits.
-fn gap_and_visits(gap: Option<f64>, visits: usize, text: &mut [u8], at: usize) -> usize
-    ensures { Put 39 text.old at (Fields.fields (Fields.gap_text gap ∷ Text.decimal visits ∷ [])) text.new result }
+fn gap_and_visits(buffer: &mut TextBuffer<'_>, gap: Option<f64>, visits: usize)
+    ensures { Put 39 buffer.old (Fields.fields (Fields.gap_text gap ∷ Text.decimal visits ∷ [])) buffer.new }
 {
-    let next = gap_field(gap, text, at);
-    let end = count_field(visits, text, next);
-    put_byte(b'\n', text, end)
+    gap_field(buffer, gap);
+    count_field(buffer, visits);
+    buffer.put_byte(b'\n');
 }
 
 // What follows the name in the line of a refused measure or file.
-fn refused_fields(why: Refusal, text: &mut [u8], at: usize) -> usize
-    ensures { Put 30 text.old at (Fields.fields (Sheet.refused_label ∷ Text.decimal (number_of why) ∷ [])) text.new result }
+fn refused_fields(buffer: &mut TextBuffer<'_>, why: Refusal)
+    ensures { Put 30 buffer.old (Fields.fields (Sheet.refused_label ∷ Text.decimal (number_of why) ∷ [])) buffer.new }
 {
-    let at = put_word(b" refused", text, at);
-    let next = count_field(number(why) as usize, text, at);
-    put_byte(b'\n', text, next)
+    buffer.put_word(b" refused");
+    count_field(buffer, u8::from(why) as usize);
+    buffer.put_byte(b'\n');
 }
 
-pub(crate) fn file_refused(why: Refusal, text: &mut [u8], at: usize) -> usize
-    ensures { Put 34 text.old at (Sheet.refusal Sheet.file_label why) text.new result }
+pub(crate) fn file_refused(buffer: &mut TextBuffer<'_>, why: Refusal)
+    ensures { Put 34 buffer.old (Sheet.refusal Sheet.file_label why) buffer.new }
 {
-    let at = put_word(b"file", text, at);
-    refused_fields(why, text, at)
+    buffer.put_word(b"file");
+    refused_fields(buffer, why);
 }
 
-pub(crate) fn clearance_line(answer: Result<EdgeNodeClearance, Refusal>, text: &mut [u8], at: usize) -> usize
-    ensures { Put 69 text.old at (Sheet.clearance_line answer) text.new result }
+fn clearance_line(buffer: &mut TextBuffer<'_>, answer: Result<EdgeNodeClearance, Refusal>)
+    ensures { Put 69 buffer.old (Sheet.clearance_line answer) buffer.new }
 {
-    let at = put_word(b"clearance", text, at);
+    buffer.put_word(b"clearance");
     match answer {
         Ok(report) => {
-            let least = report.minimum_clearance;
-            let at = gap_field(least, text, at);
-            let at = count_field(report.violations, text, at);
-            let at = count_field(report.visits, text, at);
-            put_byte(b'\n', text, at)
+            gap_field(buffer, report.minimum_clearance);
+            count_field(buffer, report.violations);
+            count_field(buffer, report.visits);
+            buffer.put_byte(b'\n');
         }
-        Err(why) => refused_fields(why, text, at),
+        Err(why) => refused_fields(buffer, why),
     }
 }
 
-pub(crate) fn separation_line(answer: Result<ParallelSeparation, Refusal>, text: &mut [u8], at: usize) -> usize
-    ensures { Put 66 text.old at (Sheet.separation_line answer) text.new result }
+fn separation_line(buffer: &mut TextBuffer<'_>, answer: Result<ParallelSeparation, Refusal>)
+    ensures { Put 66 buffer.old (Sheet.separation_line answer) buffer.new }
 {
-    let at = put_word(b"separation", text, at);
+    buffer.put_word(b"separation");
     match answer {
         Ok(report) => {
-            let least = report.minimum;
-            let positive = report.minimum_positive;
-            let at = gap_field(least, text, at);
-            gap_and_visits(positive, report.visits, text, at)
+            gap_field(buffer, report.minimum);
+            gap_and_visits(buffer, report.minimum_positive, report.visits);
         }
-        Err(why) => refused_fields(why, text, at),
+        Err(why) => refused_fields(buffer, why),
     }
 }
 
-pub(crate) fn congestion_line(answer: Result<CongestionReport, Refusal>, text: &mut [u8], at: usize) -> usize
-    ensures { Put 121 text.old at (Sheet.congestion_line answer) text.new result }
+fn congestion_line(buffer: &mut TextBuffer<'_>, answer: Result<CongestionReport, Refusal>)
+    ensures { Put 121 buffer.old (Sheet.congestion_line answer) buffer.new }
 {
-    let at = put_word(b"congestion", text, at);
+    buffer.put_word(b"congestion");
     match answer {
         Ok(report) => {
             let lengths = report.congestion;
-            let positive = report.minimum_positive;
-            let at = float_field(lengths.total_length, text, at);
-            let at = float_field(lengths.congested_length, text, at);
-            let at = float_field(lengths.pair_overlap_length, text, at);
-            let at = count_field(lengths.peak_close_neighbors, text, at);
-            gap_and_visits(positive, report.visits, text, at)
+            float_field(buffer, lengths.total_length);
+            float_field(buffer, lengths.congested_length);
+            float_field(buffer, lengths.pair_overlap_length);
+            count_field(buffer, lengths.peak_close_neighbors);
+            gap_and_visits(buffer, report.minimum_positive, report.visits);
         }
-        Err(why) => refused_fields(why, text, at),
+        Err(why) => refused_fields(buffer, why),
     }
 }
 
-// The three lines, from the first byte of the buffer on.
 pub(crate) fn three_lines(
+    buffer: &mut TextBuffer<'_>,
     clearance: Result<EdgeNodeClearance, Refusal>,
     separation: Result<ParallelSeparation, Refusal>,
     congestion: Result<CongestionReport, Refusal>,
-    text: &mut [u8],
-) -> usize
-    ensures { Put 256 text.old 0 (Sheet.clearance_line clearance ++ (Sheet.separation_line separation ++ Sheet.congestion_line congestion)) text.new result }
+)
+    ensures { Put 256 buffer.old (Sheet.clearance_line clearance ++ (Sheet.separation_line separation ++ Sheet.congestion_line congestion)) buffer.new }
 {
-    let at = clearance_line(clearance, text, 0);
-    let at = separation_line(separation, text, at);
-    congestion_line(congestion, text, at)
+    clearance_line(buffer, clearance);
+    separation_line(buffer, separation);
+    congestion_line(buffer, congestion);
 }

@@ -1,4 +1,4 @@
-// The thin entries (SCOPE 2.6): each measure takes the lent list of segment records, as the Rust does, and answers what its call by columns answers of the same segments.
+// The thin entries (SCOPE 2.6): each measure takes the lent list of segment records, as the Rust does, and answers what its call by columns answers of the same segments. The records are copied into columns, and the call by columns does all else, its refusals included.
 #![tactic(auto)]
 
 pub mod edge_node;

@@ -1,18 +1,20 @@
-// Separation and congestion of a lent list of records (SCOPE 2.6, 15.9). The borrow checker does not cover a slice of structs, so these functions are thin: they make a list of lines, and a covered function does the work.
-ghost use Rattle.std.specs.Prelude.{◌≡◌, map, ◌<◌, length, take, get_or, Ok};
+// Separation and congestion of a lent list of records (SCOPE 2.6, 15.9).
+ghost use Rattle.std.specs.Prelude.{◌≡◌, length, Ok};
 ghost use Rattle.drawing.specs.Refusals.{first_of, scratch_after};
 ghost use Rattle.drawing.specs.Held.{Binary64, SegmentsHeld};
 ghost use Rattle.separation.specs.Conditions.{separation_conditions};
 ghost use Rattle.separation.specs.Answer.{separation_answer};
 ghost use Rattle.congestion.specs.Conditions.{congestion_conditions};
 ghost use Rattle.congestion.specs.Answer.{density_answer, profile_answer, congestion_answer};
-ghost use Rattle.lines.specs.Inner.Lines.{entry_of};
 ghost use Rattle.records.specs.Records.{of_parallel, parallel_columns};
-ghost use Rattle.records.specs.Inner.NoRecord.{no_parallel};
 
-use congestion_lines::{congestion_of_lines, density_of_lines, profile_of_lines};
-use lines::{Line, orientation_byte, unpack_count};
-use separation_lines::separation_of_lines;
+use congestion::CongestionReport;
+use congestion_call::{measure_parallel_congestion, measure_parallel_congestion_profile_bounded};
+use density_call::measure_parallel_density_profile_bounded;
+use drawing::{Refusal, Segment};
+use lines::{Columns, SegmentRecord};
+use separation::ParallelSeparation;
+use separation_call::measure_parallel_separation_bounded;
 
 // A straight wire segment, as separation and congestion take it.
 #[repr(C)]
@@ -25,45 +27,19 @@ pub struct ParallelSegment {
     pub end: f64,
 }
 
-pub(crate) fn parallel_at(records: &[ParallelSegment], i: usize) -> ParallelSegment
-    requires { i < length records.now }
-    ensures { result ≡ get_or records.now i no_parallel }
-{
-    records[i]
-}
+#[tactic(auto, unfolding(crate::specs::Records::of_parallel, lines::specs::Orientation::orientation_byte))]
+impl SegmentRecord for ParallelSegment {
+    ghost segment = { of_parallel };
 
-pub(crate) fn parallel_line(p: ParallelSegment) -> Line
-    ensures { entry_of result ≡ of_parallel p }
-{
-    Line {
-        net: p.net,
-        orientation: orientation_byte(p.horizontal),
-        fixed: p.fixed,
-        start: p.start,
-        end: p.end,
+    fn segment(self) -> Segment {
+        Segment {
+            net: self.net,
+            orientation: u8::from(self.horizontal),
+            fixed: self.fixed,
+            start: self.start,
+            end: self.end,
+        }
     }
-}
-
-// The lines of the list, or of its first 4,097 records.
-pub(crate) fn parallel_lines(records: &[ParallelSegment]) -> [Line; 4097]
-    ensures { map entry_of (take (length records.now) result) ≡ take 4097 (map of_parallel records.now) }
-{
-    let n = unpack_count(records.len());
-    let blank = Line {
-        net: 0,
-        orientation: 0,
-        fixed: 0.0,
-        start: 0.0,
-        end: 0.0,
-    };
-    let mut lines = [blank; 4097];
-    let mut i = 0;
-    while i < n {
-        let p = parallel_at(records, i);
-        lines[i] = parallel_line(p);
-        i += 1;
-    }
-    lines
 }
 
 pub fn measure_parallel_separation_bounded_by_records(
@@ -78,9 +54,9 @@ pub fn measure_parallel_separation_bounded_by_records(
         × (scratch.new ≡ scratch_after refusal scratch.old)
         × (refusal ≡ Ok tt → SegmentsHeld lent) }
 {
-    let n = records.len();
-    let lines = parallel_lines(records);
-    separation_of_lines(lines, n, allowance, scratch)
+    let mut columns = Columns::empty();
+    columns.copy_from(records);
+    measure_parallel_separation_bounded(&columns.segments(), allowance, scratch)
 }
 
 pub fn measure_parallel_density_profile_bounded_by_records(
@@ -96,9 +72,9 @@ pub fn measure_parallel_density_profile_bounded_by_records(
         × (scratch.new ≡ scratch_after refusal scratch.old)
         × (refusal ≡ Ok tt → SegmentsHeld lent × Binary64 cutoff) }
 {
-    let n = records.len();
-    let lines = parallel_lines(records);
-    density_of_lines(lines, n, cutoff, allowance, scratch)
+    let mut columns = Columns::empty();
+    columns.copy_from(records);
+    measure_parallel_density_profile_bounded(&columns.segments(), cutoff, allowance, scratch)
 }
 
 pub fn measure_parallel_congestion_profile_bounded_by_records(
@@ -114,9 +90,9 @@ pub fn measure_parallel_congestion_profile_bounded_by_records(
         × (scratch.new ≡ scratch_after refusal scratch.old)
         × (refusal ≡ Ok tt → SegmentsHeld lent × Binary64 cutoff) }
 {
-    let n = records.len();
-    let lines = parallel_lines(records);
-    profile_of_lines(lines, n, cutoff, allowance, scratch)
+    let mut columns = Columns::empty();
+    columns.copy_from(records);
+    measure_parallel_congestion_profile_bounded(&columns.segments(), cutoff, allowance, scratch)
 }
 
 pub fn measure_parallel_congestion_by_records(
@@ -131,7 +107,7 @@ pub fn measure_parallel_congestion_by_records(
         × (scratch.new ≡ scratch_after refusal scratch.old)
         × (refusal ≡ Ok tt → SegmentsHeld lent × Binary64 cutoff) }
 {
-    let n = records.len();
-    let lines = parallel_lines(records);
-    congestion_of_lines(lines, n, cutoff, scratch)
+    let mut columns = Columns::empty();
+    columns.copy_from(records);
+    measure_parallel_congestion(&columns.segments(), cutoff, scratch)
 }

@@ -1,5 +1,4 @@
 -- The events of one orientation, one after another, over the scratch that holds its tables: what an event reads there, what it makes of the scratch, and the outcome of all events. Assumes nothing.
-use Rattle.drawing.specs.declared.refusal.Refusal.TheVariants.{WorkLimitExceeded}
 use Rattle.drawing.specs.declared.refusal.Refusal.{Refusal}
 use Rattle.std.specs.Prelude.{Result, Ok, Err}
 use mathlib.Core.Path.{◌≡◌, refl, sym, ap, ◌∙◌, subst}
@@ -29,7 +28,7 @@ use Rattle.separation.proofs.ActiveRows.{remove_mem}
 use Rattle.separation.specs.declared.state.Sweeping.{Sweeping}
 use Rattle.separation_call.specs.Inner.ActiveTree.{summary_at, Leaves, Covers}
 use Rattle.separation.specs.Inner.States.{met_by, Gives}
-use Rattle.separation_call.specs.Inner.Sweeping.{Searchable, Lined, WithNearest, Working, At, Enterable, Leavable, Pays, Entered, TakenOut, Ready, AtStart, figures_of, Begins, Finishes}
+use Rattle.separation_call.specs.Inner.Sweeping.{Searchable, Lined, WithNearest, Working, At, Enterable, Leavable, Pays, Entered, TakenOut, Ready, AtStart, Placed, figures_of, Begins, Finishes}
 use Rattle.separation_call.proofs.ActiveNets.{countable, endable}
 use Rattle.separation_call.proofs.LineNumbering.{lines-few}
 use Rattle.separation.proofs.States.{went_on, stopped, gives_on}
@@ -273,6 +272,9 @@ module _ (s : List ℕ) (n leaves j : ℕ) (a : AtStart s n leaves j) where
 
   pub start-net-small : get_or s (5 * n + j) 0 < 2 ^ 32
   start-net-small = at_n (λ n. get_or s (5 * n + j) 0 < 2 ^ 32) (λ h. omega (arith, net-word a.l a.F a.H a.b a.active s a.ready j h, net-small a.l a.F a.H a.b a.active s a.ready j h))
+
+  pub start_placed : Placed s n j
+  start_placed = record { room = let g = a.ready.room in let e = a.size in omega arith; inside = a.inside; small = start-net-small }
 
   pub start_lookable : Searchable (tail (12 * n) s) (tail (6 * n) s) leaves (get_or s (4 * n + j) 0)
   start_lookable = at_n (λ n. Searchable (tail (12 * n) s) (tail (6 * n) s) leaves (get_or s (4 * n + j) 0)) (λ h. lookable a.l a.F a.H a.b a.active s a.ready leaves a.count j h)

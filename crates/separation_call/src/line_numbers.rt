@@ -2,7 +2,7 @@
 ghost use Rattle.std.specs.Prelude.{◌≡◌, ◌*◌, ◌≤◌, length};
 ghost use Rattle.separation_call.specs.Inner.Numbered.{line_of, LinesNumbered};
 
-// The number of the line of a key, where m lines have begun, the last of them with the key `last`.
+// The number of the line of a key, where m lines have begun, the last of them with the key `last`. The last key is no Option: m is counted anyway, and says whether there is one.
 fn line_of(m: usize, last: u64, key: u64) -> usize
     ensures { result ≡ line_of m last key }
 {

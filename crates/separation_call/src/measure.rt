@@ -1,5 +1,5 @@
 // The separation measure by columns.
-ghost use Rattle.std.specs.Prelude.{◌≡◌, length, Ok};
+ghost use Rattle.std.specs.Prelude.{◌≡◌, ℕ, ◌^◌, ◌<◌, length, get_or, Ok};
 ghost use Rattle.laws.specs.Inner.Allowance.{within};
 ghost use Rattle.drawing.specs.Refusals.{first_of, scratch_after};
 ghost use Rattle.drawing.specs.Entries as Entries;
@@ -9,17 +9,11 @@ ghost use Rattle.separation.specs.Conditions.{separation_conditions};
 ghost use Rattle.separation.specs.Walk.{walk_all};
 ghost use Rattle.separation.specs.Answer.{separation_answer};
 ghost use Rattle.separation.specs.Inner.States.{swept_of};
-ghost use Rattle.separation_call.specs.Inner.Sweeping.{Typed};
 
 use crate::along::sweep_along;
 use drawing::{Refusal, Segments, clear};
 use rows::segments_to_sweep;
 use separation::{Found, ParallelSeparation, answer_of, check_separation, combined, too_few};
-
-// What the types of the columns say of their entries: nets have 32 bits, and floats are values of binary64. Only proofs use it: they know it of a slice that is passed by itself, and not of one in a struct.
-fn columns_typed(net: &[u32], fixed: &[f64], start: &[f64], end: &[f64])
-    ensures { Typed net.now fixed.now start.now end.now }
-{}
 
 // The walk over a fit drawing: horizontal segments first, then vertical ones with the remaining visits.
 // Where the allowance is below the least that the segments cost, it counts as spent before any table is made.
@@ -29,7 +23,8 @@ fn walk_segments(
     scratch: &mut [u64],
 ) -> Result<Found, Refusal>
     requires passed { first_of (separation_conditions (lent_segments segments.now) (length scratch.old)) ≡ Ok tt }
-    requires typed { let lent = lent_segments segments.now in Typed lent.net lent.fixed lent.start lent.end }
+    requires held { SegmentsHeld (lent_segments segments.now) }
+    requires nets { (i : ℕ) → get_or (lent_segments segments.now).net i 0 < 2 ^ 32 }
     ensures { result ≡ swept_of (within allowance (walk_all (Entries.segments (lent_segments segments.now)))) }
 {
     if too_few(allowance, segments_to_sweep(segments.orientation)) {
@@ -53,7 +48,7 @@ pub fn measure_parallel_separation_bounded(
         × (refusal ≡ Ok tt → SegmentsHeld lent) }
 {
     check_separation(segments, scratch.len())?;
-    columns_typed(segments.net, segments.fixed, segments.start, segments.end);
+    segments.held();
     let swept = walk_segments(segments, allowance, scratch);
     clear(scratch);
     answer_of(swept, allowance)

@@ -4,6 +4,14 @@ ghost use Rattle.separation_call.specs.Inner.ActiveNets.{summary_of_line, Counta
 
 use separation::NetSummary;
 
+// Where a segment is counted: its slot, the number of its line, and its net.
+#[derive(Clone, Copy)]
+pub(crate) struct Place {
+    pub slot: usize,
+    pub line: usize,
+    pub net: u32,
+}
+
 // The summary of the nets that are active on a line. Where there is one, the sum is that net, which is below 2^32: the remainder leaves it as it is, and the cast loses nothing.
 fn line_summary(c: &[u64], n: usize, line: usize) -> NetSummary
     requires { (3 * n ≤ length c.now) × (line < n) }
@@ -21,35 +29,36 @@ fn line_summary(c: &[u64], n: usize, line: usize) -> NetSummary
 }
 
 // A segment starts: the first of its slot adds its net to the line.
-pub(crate) fn start_net(c: &mut [u64], n: usize, slot: usize, line: usize, net: u32) -> NetSummary
-    requires { Countable n slot line net c.old }
-    ensures counted { Starts n slot line net c.old c.new result }
+pub(crate) fn start_net(c: &mut [u64], n: usize, at: Place) -> NetSummary
+    requires { Countable n at.slot at.line at.net c.old }
+    ensures counted { Starts n at.slot at.line at.net c.old c.new result }
     ensures rest { drop (3 * n) c.new ≡ drop (3 * n) c.old }
 {
-    let count = c[slot];
+    let count = c[at.slot];
     if count == 0 {
-        let many = c[n + line];
-        let total = c[2 * n + line];
-        c[n + line] = many + 1;
-        c[2 * n + line] = total + net as u64;
+        let many = c[n + at.line];
+        let total = c[2 * n + at.line];
+        c[n + at.line] = many + 1;
+        c[2 * n + at.line] = total + at.net as u64;
     }
-    c[slot] = count + 1;
-    line_summary(c, n, line)
+    c[at.slot] = count + 1;
+    line_summary(c, n, at.line)
 }
 
+// A function of its own beside `start_net`: every step has the other sign, and a different count is asked for, so that one function for both would have a case at each step.
 // A segment ends: the last of its slot removes its net from the line.
-pub(crate) fn end_net(c: &mut [u64], n: usize, slot: usize, line: usize, net: u32) -> NetSummary
-    requires { Endable n slot line net c.old }
-    ensures counted { Ends n slot line net c.old c.new result }
+pub(crate) fn end_net(c: &mut [u64], n: usize, at: Place) -> NetSummary
+    requires { Endable n at.slot at.line at.net c.old }
+    ensures counted { Ends n at.slot at.line at.net c.old c.new result }
     ensures rest { drop (3 * n) c.new ≡ drop (3 * n) c.old }
 {
-    let count = c[slot];
+    let count = c[at.slot];
     if count == 1 {
-        let many = c[n + line];
-        let total = c[2 * n + line];
-        c[n + line] = many - 1;
-        c[2 * n + line] = total - net as u64;
+        let many = c[n + at.line];
+        let total = c[2 * n + at.line];
+        c[n + at.line] = many - 1;
+        c[2 * n + at.line] = total - at.net as u64;
     }
-    c[slot] = count - 1;
-    line_summary(c, n, line)
+    c[at.slot] = count - 1;
+    line_summary(c, n, at.line)
 }

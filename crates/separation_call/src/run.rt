@@ -40,6 +40,7 @@ pub(crate) fn run_events(
     ensures { (l : List Row) (F : List ℕ) (H : ℕ) → length l ≡ n → leaves ≡ 2 ^ H → Ready l F H 0 [] s.old → ((a : Row) → Mem a l → a.start < a.end) → H ≡ levels (length (lines l)) → result ≡ swept_of (within allowance (sweep l)) }
 {
     let mut state = Sweeping::at_start(allowance);
+    // By an index and not over the slice: each event is read while the words after the tables are written.
     for q in 0..2 * n {
         let e = s[q] as usize;
         state = handle_event(s, n, leaves, e, state)?;

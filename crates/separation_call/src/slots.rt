@@ -6,10 +6,10 @@ ghost use Rattle.separation_call.specs.Inner.Numbered.{Slottable, WordsFilled, W
 use sorting::sort_indices;
 
 // A word is made of a line, a net and a segment's index. The index has the lowest 12 bits, so the net is multiplied by 2^12.
-const NET: u64 = 4096;
+const NET: u64 = 1 << 12;
 
 // The net has the next 32 bits, so the line is multiplied by 2^44.
-const LINE: u64 = 17592186044416;
+const LINE: u64 = 1 << 44;
 
 // Column 8 takes a word for each segment.
 fn fill_words(s: &mut [u64], n: usize)

@@ -3,9 +3,9 @@ ghost use Rattle.std.specs.Prelude.{◌≡◌, List, ℕ, ◌+◌, ◌*◌, leng
 ghost use Rattle.laws.specs.Inner.Allowance.{Outcome};
 ghost use Rattle.separation.specs.Inner.Searches.{search_of};
 ghost use Rattle.separation.specs.Inner.States.{met_by, Gives};
-ghost use Rattle.separation_call.specs.Inner.Sweeping.{WithinLines, Gapped, joined, Searchable, WithNearest, Enterable, Leavable, Pays, Entered, TakenOut, AtStart, AtEnd, Begins, Finishes};
+ghost use Rattle.separation_call.specs.Inner.Sweeping.{WithinLines, Gapped, joined, Searchable, WithNearest, Enterable, Leavable, Pays, Entered, TakenOut, Placed, place_at, AtStart, AtEnd, Begins, Finishes};
 
-use crate::nets::{end_net, start_net};
+use crate::nets::{Place, end_net, start_net};
 use crate::tree::{has_other_at, leftmost_other, rightmost_other, set};
 use drawing::Refusal;
 use floats::float_of_key;
@@ -61,17 +61,21 @@ fn enter(
     work: &mut [u64],
     n: usize,
     leaves: usize,
-    slot: usize,
-    line: usize,
-    net: u32,
+    at: Place,
     state: Sweeping,
 ) -> Result<Sweeping, Refusal>
-    requires { Enterable n leaves slot line net work.old }
+    requires { Enterable n leaves at.slot at.line at.net work.old }
     ensures pays { Pays leaves state result }
-    ensures entered { Entered n leaves slot line net work.old work.new result }
+    ensures entered { Entered n leaves at.slot at.line at.net work.old work.new result }
 {
-    let summary = start_net(work, n, slot, line, net);
-    let remaining = set(&mut work[3 * n..], leaves, line, summary, state.remaining)?;
+    let summary = start_net(work, n, at);
+    let remaining = set(
+        &mut work[3 * n..],
+        leaves,
+        at.line,
+        summary,
+        state.remaining,
+    )?;
     Ok(Sweeping { remaining, ..state })
 }
 
@@ -80,18 +84,34 @@ fn leave(
     work: &mut [u64],
     n: usize,
     leaves: usize,
-    slot: usize,
-    line: usize,
-    net: u32,
+    at: Place,
     state: Sweeping,
 ) -> Result<Sweeping, Refusal>
-    requires { Leavable n leaves slot line net work.old }
+    requires { Leavable n leaves at.slot at.line at.net work.old }
     ensures pays { Pays leaves state result }
-    ensures taken_out { TakenOut n leaves slot line net work.old work.new result }
+    ensures taken_out { TakenOut n leaves at.slot at.line at.net work.old work.new result }
 {
-    let summary = end_net(work, n, slot, line, net);
-    let remaining = set(&mut work[3 * n..], leaves, line, summary, state.remaining)?;
+    let summary = end_net(work, n, at);
+    let remaining = set(
+        &mut work[3 * n..],
+        leaves,
+        at.line,
+        summary,
+        state.remaining,
+    )?;
     Ok(Sweeping { remaining, ..state })
+}
+
+// Where segment j is counted, as the tables say.
+fn place_at(s: &[u64], n: usize, j: usize) -> Place
+    requires { Placed s.now n j }
+    ensures { result ≡ place_at s.now n j }
+{
+    Place {
+        slot: s[7 * n + j] as usize,
+        line: s[4 * n + j] as usize,
+        net: s[5 * n + j] as u32,
+    }
 }
 
 // Segment j starts: event n + j.
@@ -105,11 +125,9 @@ pub(crate) fn start_event(
     requires { AtStart s.old n leaves j }
     ensures { Begins s.old s.new n leaves j state result }
 {
-    let line = s[4 * n + j] as usize;
-    let net = s[5 * n + j] as u32;
-    let slot = s[7 * n + j] as usize;
-    let seen = with_nearest(&s[12 * n..], leaves, &s[6 * n..], line, net, state)?;
-    enter(&mut s[9 * n..], n, leaves, slot, line, net, seen)
+    let at = place_at(s, n, j);
+    let seen = with_nearest(&s[12 * n..], leaves, &s[6 * n..], at.line, at.net, state)?;
+    enter(&mut s[9 * n..], n, leaves, at, seen)
 }
 
 // Segment j ends: event j.
@@ -123,8 +141,6 @@ pub(crate) fn end_event(
     requires { AtEnd s.old n leaves j }
     ensures { Finishes s.old s.new n leaves j state result }
 {
-    let line = s[4 * n + j] as usize;
-    let net = s[5 * n + j] as u32;
-    let slot = s[7 * n + j] as usize;
-    leave(&mut s[9 * n..], n, leaves, slot, line, net, state)
+    let at = place_at(s, n, j);
+    leave(&mut s[9 * n..], n, leaves, at, state)
 }

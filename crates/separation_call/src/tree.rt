@@ -11,7 +11,7 @@ ghost use Rattle.separation_call.specs.Inner.ActiveTree.{summary_at, other_net_o
 use drawing::Refusal;
 use separation::{NetSummary, Search, merged_word};
 
-// The least power of two that is not below the count: its exponent, the levels of the tree, is the number of binary digits of the count minus one (SCOPE 15.4).
+// The least power of two that is not below the count: its exponent, the levels of the tree, is the number of binary digits of the count minus one. By the leading zeros, and not by `next_power_of_two`: SCOPE 15.4 says so.
 pub(crate) fn leaf_count(coordinate_count: usize) -> usize
     requires at_least_one { 1 ≤ coordinate_count }
     requires at_most_4096 { coordinate_count ≤ 4096 }
@@ -50,6 +50,8 @@ pub(crate) fn has_other_at(
     Ok((other, remaining - 1))
 }
 
+// The two searches mirror each other and stay two functions: they differ in the bound that they test, in the child that they take first and in all arguments of both calls, so one function would ask for its direction at each of these steps.
+// The node, its first leaf and their end are parameters of their own: both calls make all three anew, so that a struct of them would be built and taken apart at every step.
 // The last line below `query_end` with another active net, among those from `start` on, before `end`, which are the leaves below the node.
 fn search_rightmost(
     tree: &[u64],
@@ -200,6 +202,7 @@ pub(crate) fn set(
     let leaf = leaves + index;
     tree[leaf] = u64::from(summary);
     let mut cursor = leaf / 2;
+    // No range counts these nodes: each has half the number of the one before, up to the root.
     while cursor != 0 {
         if rest == 0 {
             return Err(Refusal::WorkLimitExceeded);

@@ -1,27 +1,20 @@
 -- What holds of the columns of a call of the tight pair once the checks have passed. Assumes nothing.
 use Rattle.std.specs.Prelude.{Ok}
-use mathlib.Core.Path.{◌≡◌, sym, ◌∙◌, subst}
+use mathlib.Core.Path.{◌≡◌, ◌∙◌}
 use mathlib.Core.Bool.{Bool, false}
 use mathlib.Core.List.{List, [], ◌∷◌, ◌++◌}
-use Prim.Native.Nat.{ℕ, ◌≤◌}
-use native.Mathlib.Omega.{arith}
-use lib.Dec.{T}
-use lib.Ieee.{Float, binary64, nan, fits}
-use lib.ListN.{length, get_or}
+use Prim.Native.Nat.{◌≤◌}
+use lib.ListN.{length}
 use Rattle.laws.specs.Lists.{All, some_of}
 use Rattle.laws.proofs.ListLaws.{all_mem, mem_all, none-all}
-use Rattle.laws.proofs.Places.{at_all}
 use Rattle.drawing.specs.declared.refusal.Refusal.{Refusal}
 use Rattle.drawing.specs.Entries.{Node, SegmentColumns, NodeColumns, ExemptionColumns, segments, nodes}
-use Rattle.drawing.specs.Inner.Entries.{node_at}
 use Rattle.drawing.specs.Inner.Lengths.{SegmentsAgree, NodesAgree, ExemptionsAgree}
 use Rattle.drawing.specs.Refusals.{first_of}
 use Rattle.drawing.specs.Conditions.{unfit_node}
 use Rattle.drawing.specs.Checks.{list_conditions, entry_conditions}
-use Rattle.drawing.proofs.EntryLaws.{length-nodes, nodes-at}
-use Rattle.drawing.proofs.ListOrders.{segments-held}
 use Rattle.drawing.proofs.FirstRefusal.{ListsPass, lists_pass, passed_head, first_no}
-use Rattle.drawing.specs.Held.{NodeHeld, FitSegment}
+use Rattle.drawing.specs.Held.{NodeHeld, SegmentsHeld, NodesHeld, FitSegment}
 use Rattle.drawing.proofs.Fit.{FitNode, fit-segments}
 use Rattle.tight_pair.specs.Conditions.{tight_pair_conditions}
 use Rattle.exemptions.proofs.ExemptLaws.{exemptions-agree}
@@ -34,24 +27,6 @@ passed_both (c ∷ l) m e =
     let h = passed_head c.0 c.1 (l ++ m) e in
     let r = passed_both l m h.1 in
     (first_no c.0 c.1 l h.0 ∙ r.0, r.1)
-
--- the floats of a column are values of binary64
-abbrev Floats : List Float → Type 0
-Floats l = (i : ℕ) → T (fits binary64 (get_or l i nan))
-
-pub record FloatsLent (s : SegmentColumns) (n : NodeColumns) : Type 0 where
-  pub fixed : Floats s.fixed
-  pub start : Floats s.start
-  pub end : Floats s.end
-  pub x : Floats n.x
-  pub y : Floats n.y
-  pub width : Floats n.width
-  pub height : Floats n.height
-
-module _ (s : SegmentColumns) (n : NodeColumns) (l : FloatsLent s n) where
-  nodes-held : NodesAgree n → All NodeHeld (nodes n)
-  nodes-held a = at_all NodeHeld (node_at n 0) (nodes n) (λ i b.
-      subst NodeHeld (sym (nodes-at n a (node_at n 0) i (omega (arith, length-nodes n a)))) (record { x = l.x i; y = l.y i; width = l.width i; height = l.height i }))
 
 -- entries of which none is unfit
 fit-nodes : (l : List Node) → All NodeHeld l → some_of unfit_node l ≡ false → All FitNode l
@@ -74,10 +49,10 @@ module _ (s : SegmentColumns) (n : NodeColumns) (e : ExemptionColumns) (p : firs
   pub pair_columns : SegmentsAgree s × NodesAgree n
   pair_columns = (lists.segments, lists.nodes)
 
-  pub pair-segments : FloatsLent s n → All FitSegment (segments s)
+  pub pair-segments : SegmentsHeld s → All FitSegment (segments s)
   unfolding entry_conditions
-  pair-segments l = fit-segments (segments s) (segments-held s lists.segments l.fixed l.start l.end) (passed_head _ _ _ parts.1).0
+  pair-segments h = fit-segments (segments s) h (passed_head _ _ _ parts.1).0
 
-  pub pair-nodes : FloatsLent s n → All FitNode (nodes n)
+  pub pair-nodes : NodesHeld n → All FitNode (nodes n)
   unfolding entry_conditions
-  pair-nodes l = fit-nodes (nodes n) (nodes-held s n l lists.nodes) (passed_head _ _ _ (passed_head _ _ _ parts.1).1).0
+  pair-nodes h = fit-nodes (nodes n) h (passed_head _ _ _ (passed_head _ _ _ parts.1).1).0

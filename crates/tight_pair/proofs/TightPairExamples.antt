@@ -1,5 +1,5 @@
 -- Examples of the tight pair, by computing the definitions. Assumes nothing.
-use Rattle.std.specs.Prelude.{Option, None, Some}
+use Rattle.std.specs.Prelude.{Option, None, Some, Result, Ok}
 use mathlib.Core.Path.{◌≡◌, refl, sym, ap, ◌∙◌}
 use mathlib.Core.List.{[], ◌∷◌}
 use Prim.Native.Nat.{ℕ, zero, suc}
@@ -15,7 +15,7 @@ use Rattle.drawing.specs.Refusals.{number_of, first_of}
 use Rattle.drawing.specs.Conditions.{differ, too_many, unfit_fields, unfit_segment, unfit_extent, unfit_box, unfit_node}
 use Rattle.drawing.specs.Checks.{segments_differ, nodes_differ, exemptions_differ, list_conditions, entry_conditions}
 use Rattle.tight_pair.specs.declared.TightPair.{TightPair}
-use Rattle.tight_pair.specs.declared.TightPair.TheVariants.{Pair, Absent}
+use Rattle.drawing.specs.declared.refusal.Refusal.{Refusal}
 use Rattle.boxes.specs.Boxes.{from_node, from_segment, node_box, segment_box, axis_gap, distance}
 use Rattle.clearance.specs.Figures.{exempt, distances}
 use Rattle.tight_pair.specs.Conditions.{tight_pair_conditions}
@@ -42,23 +42,26 @@ d-exemptions = exemption_columns (2 ∷ []) (7 ∷ [])
 abbrev no_nodes : NodeColumns
 no_nodes = node_columns [] [] [] [] []
 
-abbrev refusal : ℕ → ℕ × Option (ℕ × ℕ)
+abbrev refusal : ℕ → ℕ × Option TightPair
 refusal n = (n, None)
+
+abbrev pair_at : ℕ → ℕ → TightPair
+pair_at i j = record { segment = i; node = j }
 
 pub record PairExamples : Type 0 where
   -- in D there is a pair, whichever is chosen
-  pub d : (i j : ℕ) → tight_pair_answer d-segments d-nodes d-exemptions (i, j) ≡ Pair i j
+  pub d : (i j : ℕ) → tight_pair_answer d-segments d-nodes d-exemptions (pair_at i j) ≡ Ok (Some (pair_at i j))
   -- segment 0 and node 0 are tight
   pub d-tight : Tight (exemptions d-exemptions) (segments d-segments) (nodes d-nodes) 0 0
   -- SCOPE 2.8: the same with both wires given from their greater ends
-  pub d_reversed : (i j : ℕ) → tight_pair_answer d_reversed_segments d-nodes d-exemptions (i, j) ≡ Pair i j
+  pub d_reversed : (i j : ℕ) → tight_pair_answer d_reversed_segments d-nodes d-exemptions (pair_at i j) ≡ Ok (Some (pair_at i j))
   pub d_reversed_tight : Tight (exemptions d-exemptions) (segments d_reversed_segments) (nodes d-nodes) 0 0
   -- without nodes, and where every pair is exempt, there is none
-  pub no_nodes_absent : (pair : ℕ × ℕ) → tight_pair_answer d-segments no_nodes d-exemptions pair ≡ Absent
-  pub all-exempt_absent : (pair : ℕ × ℕ) → tight_pair_answer d-segments d-nodes (exemption_columns (1 ∷ 2 ∷ []) (7 ∷ 7 ∷ [])) pair ≡ Absent
+  pub no_nodes_absent : (pair : TightPair) → tight_pair_answer d-segments no_nodes d-exemptions pair ≡ Ok None
+  pub all-exempt_absent : (pair : TightPair) → tight_pair_answer d-segments d-nodes (exemption_columns (1 ∷ 2 ∷ []) (7 ∷ 7 ∷ [])) pair ≡ Ok None
   -- columns of different lengths are refused by 2, and a segment of no length by 5, with an absent pair
-  pub columns_differ : (pair : ℕ × ℕ) → result_of (tight_pair_answer d-segments d-nodes (exemption_columns (2 ∷ []) []) pair) ≡ refusal 2
-  pub no_length : (pair : ℕ × ℕ) → result_of (tight_pair_answer (segment_columns (1 ∷ []) (1 ∷ []) (float 0 ∷ []) (float 0 ∷ []) (float 0 ∷ [])) d-nodes d-exemptions pair) ≡ refusal 5
+  pub columns_differ : (pair : TightPair) → result_of (tight_pair_answer d-segments d-nodes (exemption_columns (2 ∷ []) []) pair) ≡ refusal 2
+  pub no_length : (pair : TightPair) → result_of (tight_pair_answer (segment_columns (1 ∷ []) (1 ∷ []) (float 0 ∷ []) (float 0 ∷ []) (float 0 ∷ [])) d-nodes d-exemptions pair) ≡ refusal 5
 
 pub pair_examples : PairExamples
 unfolding of_bits to_bits add sub lt some_of chosen cross lesser least greater_of lesser_of segments segments_of nodes_of exemptions_of least_gap number_of first_of differ too_many unfit_fields unfit_segment unfit_extent unfit_box unfit_node segments_differ nodes_differ exemptions_differ list_conditions entry_conditions tight_pair_conditions from_node from_segment node_box segment_box axis_gap distance exempt distances pair_if_any tight_pair_answer result_of
@@ -82,7 +85,7 @@ id-of None = 0
 id-of (Some n) = n.id
 
 -- no other pair of D is tight: segment 1 and node 0 are exempt
-only-tight : (i j : ℕ) → Tight (exemptions d-exemptions) (segments d-segments) (nodes d-nodes) i j → Pair i j ≡ Pair 0 0
+only-tight : (i j : ℕ) → Tight (exemptions d-exemptions) (segments d-segments) (nodes d-nodes) i j → pair_at i j ≡ pair_at 0 0
 unfolding greater_of lesser_of segments segments_of nodes_of exemptions_of exempt some_of
 only-tight zero zero t = refl
 only-tight zero (suc j) t = let z : ◌≡◌ {A = ℕ} 0 1 = cc t.node_at in absurd (omega arith)
@@ -91,7 +94,9 @@ only-tight (suc zero) (suc j) t = let z : ◌≡◌ {A = ℕ} 0 1 = cc t.node_at
 only-tight (suc (suc i)) j t = let z : ◌≡◌ {A = ℕ} 0 1 = cc t.segment_at in absurd (omega arith)
 
 -- so a call for D answers segment 0 and node 0
-pub d-answers : (r : TightPair) → Answered d-segments d-nodes d-exemptions r → r ≡ Pair 0 0
+pub d-answers : (r : Result (Option TightPair) Refusal) → Answered d-segments d-nodes d-exemptions r → r ≡ Ok (Some (pair_at 0 0))
 d-answers r a =
-    let e = a.is ∙ pair_examples.d a.choice.0 a.choice.1 in
-    e ∙ only-tight a.choice.0 a.choice.1 (a.tight a.choice.0 a.choice.1 e)
+    let i = a.choice.segment in
+    let j = a.choice.node in
+    let e = a.is ∙ pair_examples.d i j in
+    e ∙ ap (λ (p : TightPair). Ok (Some p)) (only-tight i j (a.tight (pair_at i j) e))

@@ -4,7 +4,7 @@ ghost use Rattle.drawing.specs.Refusals.{first_of};
 ghost use Rattle.drawing.specs.Entries.{lent_segments, lent_nodes, lent_exemptions};
 ghost use Rattle.tight_pair.specs.Conditions.{tight_pair_conditions};
 
-use drawing::{Segments, Nodes, Exemptions};
+use drawing::{Exemptions, Nodes, Refusal, Segments};
 use list_checks::{check_entries, check_lists};
 
 // The checks of the lists, then those of the entries.
@@ -15,13 +15,6 @@ pub(crate) fn check_tight_pair(
 ) -> Result<(), Refusal>
     ensures { result ≡ first_of (tight_pair_conditions (lent_segments segments.now) (lent_nodes nodes.now) (lent_exemptions exemptions.now)) }
 {
-    let first = check_lists(
-        segments,
-        nodes,
-        exemptions,
-    );
-    let Ok(()) = first else {
-        return first;
-    };
+    check_lists(segments, nodes, exemptions)?;
     check_entries(segments, nodes)
 }

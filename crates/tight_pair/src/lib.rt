@@ -7,7 +7,7 @@ ghost use Rattle.drawing.specs.Entries.{Exemption, lent_segments, lent_nodes, le
 ghost use Rattle.drawing.specs.Inner.Lengths.{SegmentsAgree, NodesAgree};
 ghost use Rattle.clearance.specs.Figures.{exempt};
 ghost use Rattle.exemptions.specs.Inner.Exempting.{Holds, Listed};
-ghost use Rattle.tight_pair.specs.TightPair.{pair_if_any, Answered};
+ghost use Rattle.tight_pair.specs.TightPair.{Answered};
 ghost use Rattle.tight_pair.specs.Inner.Looking.{nearer, best_with, look_nodes, look_segments};
 
 mod checks;
@@ -15,79 +15,78 @@ mod checks;
 use crate::checks::check_tight_pair;
 use boxes::Aabb;
 use drawing::{Exemptions, Nodes, Refusal, Segments};
-use exemptions::{Range, gather, is_exempt, net_range};
+use exemptions::{gather, is_exempt, net_range};
+use std::ops::Range;
 
 // Positions of a segment and of a node in the given lists.
 #[derive(Clone, Copy)]
-pub enum TightPair {
-    Pair(usize, usize),
-    Absent,
-    Refused(Refusal),
+pub struct TightPair {
+    pub segment: usize,
+    pub node: usize,
 }
 
-// The least distance so far, and the positions of the first pair at that distance.
+// A pair and its distance.
 #[derive(Clone, Copy)]
 struct Best {
-    least: Option<f64>,
-    segment: usize,
-    node: usize,
+    distance: f64,
+    pair: TightPair,
 }
 
-// Whether a distance is strictly below the least so far.
-fn is_nearer(distance: f64, least: Option<f64>) -> bool
-    ensures { result ≡ nearer distance least }
+// Whether a distance is strictly below that of the best pair so far, if there is one.
+fn is_nearer(distance: f64, best: Option<Best>) -> bool
+    ensures { result ≡ nearer distance best }
 {
-    match least {
+    match best {
         None => true,
-        Some(d) => distance < d,
+        Some(best) => distance < best.distance,
     }
 }
 
-// The best so far with one pair more. The exemption is searched only where the pair would be the best.
+// The best so far, which is the first pair at the least distance, with one pair more. The exemption is searched only where the pair would be the best.
 fn with_pair(
     words: &[u64],
-    range: Range,
+    range: &Range<usize>,
     id: u32,
     distance: f64,
-    segment: usize,
-    node: usize,
-    best: Best,
-) -> Best
-    ensures { (ex : List Exemption) (net : ℕ) → Listed words.now ex net range → result ≡ best_with (exempt ex net id) distance segment node best }
+    pair: TightPair,
+    best: Option<Best>,
+) -> Option<Best>
+    ensures { (ex : List Exemption) (net : ℕ) → Listed words.now ex net range.now → result ≡ best_with (exempt ex net id) distance pair best }
 {
-    let least = best.least;
-    if !is_nearer(distance, least) {
+    if !is_nearer(distance, best) {
         return best;
     }
     if is_exempt(words, range, id) {
         return best;
     }
-    Best {
-        least: Some(distance),
-        segment: segment,
-        node: node,
-    }
+    Some(Best {
+        distance: distance,
+        pair: pair,
+    })
 }
 
 // One segment and each node in turn.
 fn look_at_nodes(
     words: &[u64],
-    range: Range,
+    range: &Range<usize>,
     bounds: Aabb,
     segment: usize,
     nodes: &Nodes<'_>,
-    so_far: Best,
-) -> Best
+    so_far: Option<Best>,
+) -> Option<Best>
     requires { NodesAgree (lent_nodes nodes.now) }
-    ensures { (ex : List Exemption) (net : ℕ) → Listed words.now ex net range → result ≡ look_nodes ex net bounds segment (Entries.nodes (lent_nodes nodes.now)) so_far }
+    ensures { (ex : List Exemption) (net : ℕ) → Listed words.now ex net range.now → result ≡ look_nodes ex net bounds segment (Entries.nodes (lent_nodes nodes.now)) so_far }
 {
     let mut best = so_far;
-    let mut node = 0;
-    while node < nodes.id.len() {
-        let other = Aabb::from_node(nodes.x[node], nodes.y[node], nodes.width[node], nodes.height[node]);
+    for node in 0..nodes.id.len() {
+        let entry = nodes.at(node);
+        let other = Aabb::from_node(entry.x, entry.y, entry.width, entry.height);
         let distance = bounds.distance(other);
-        best = with_pair(words, range, nodes.id[node], distance, segment, node, best);
-        node += 1;
+        let pair = TightPair {
+            segment: segment,
+            node: node,
+        };
+        best = with_pair(words, range, entry.id, distance, pair, best);
     }
     best
 }
@@ -98,39 +97,27 @@ fn look_at_segments(
     k: usize,
     segments: &Segments<'_>,
     nodes: &Nodes<'_>,
-) -> Best
+) -> Option<Best>
     requires { SegmentsAgree (lent_segments segments.now) × NodesAgree (lent_nodes nodes.now) }
     ensures { (ex : List Exemption) → Holds words.now ex → k ≡ length ex → result ≡ look_segments ex (Entries.segments (lent_segments segments.now)) (Entries.nodes (lent_nodes nodes.now)) }
 {
-    let mut best = Best {
-        least: None,
-        segment: 0,
-        node: 0,
-    };
-    let mut segment = 0;
-    while segment < segments.net.len() {
+    let mut best = None;
+    for position in 0..segments.net.len() {
         // No distance is below 0, so no later pair is nearer.
-        let least = best.least;
-        if !is_nearer(0.0, least) {
+        if !is_nearer(0.0, best) {
             return best;
         }
-        let range = net_range(words, k, segments.net[segment]);
-        let horizontal = segments.orientation[segment] == 1;
-        let bounds = Aabb::from_segment(horizontal, segments.fixed[segment], segments.start[segment], segments.end[segment]);
-        best = look_at_nodes(words, range, bounds, segment, nodes, best);
-        segment += 1;
+        let segment = segments.at(position);
+        let range = net_range(words, k, segment.net);
+        let bounds = Aabb::from_segment(
+            segment.orientation == 1,
+            segment.fixed,
+            segment.start,
+            segment.end,
+        );
+        best = look_at_nodes(words, &range, bounds, position, nodes, best);
     }
     best
-}
-
-fn pair_of(best: Best) -> TightPair
-    ensures { result ≡ pair_if_any best.least (best.segment, best.node) }
-{
-    let least = best.least;
-    match least {
-        None => TightPair::Absent,
-        Some(_) => TightPair::Pair(best.segment, best.node),
-    }
 }
 
 // The pair is the first one: the lowest segment position and then the lowest node position of those at the least distance. The contract leaves the choice open.
@@ -138,24 +125,14 @@ pub fn tight_pair(
     segments: &Segments<'_>,
     nodes: &Nodes<'_>,
     exemptions: &Exemptions<'_>,
-) -> TightPair
+) -> Result<Option<TightPair>, Refusal>
     ensures { Answered (lent_segments segments.now) (lent_nodes nodes.now) (lent_exemptions exemptions.now) result }
 {
-    let check = check_tight_pair(
-        segments,
-        nodes,
-        exemptions,
-    );
-    if let Err(why) = check {
-        return TightPair::Refused(why);
-    }
+    check_tight_pair(segments, nodes, exemptions)?;
+    segments.held();
+    nodes.held();
     let mut words = [0; 4096];
     gather(&mut words, exemptions);
-    let best = look_at_segments(
-        &words,
-        exemptions.net.len(),
-        segments,
-        nodes,
-    );
-    pair_of(best)
+    let best = look_at_segments(&words, exemptions.net.len(), segments, nodes);
+    Ok(best.map(|best| best.pair))
 }

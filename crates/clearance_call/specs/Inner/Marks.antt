@@ -1,5 +1,5 @@
 -- What only the contracts of the inner functions around marks cite: the leaves' ids in order, the groups of leaves that share an id, and a bit for each group that is exempt for a net.
-use Rattle.std.specs.Prelude.{◌≡◌, ◌⊎◌, true, List, ℕ, ◌+◌, ◌*◌, ◌/◌, ◌≤◌, ◌<◌, length, get_or, drop}
+use Rattle.std.specs.Prelude.{◌≡◌, ◌⊎◌, true, IfSome, Option, List, ℕ, ◌+◌, ◌*◌, ◌/◌, ◌≤◌, ◌<◌, length, get_or, drop}
 use Rattle.bitset.specs.Inner.Members.{member}
 use Rattle.drawing.specs.Entries.{Exemption}
 use Rattle.clearance.specs.Figures.{exempt}
@@ -41,6 +41,6 @@ pub record Added (ids : List ℕ) (m id : ℕ) (before after : List ℕ) : Type 
 pub record MarksOf (marks groups w : List ℕ) (ex : List Exemption) (net : ℕ) : Type 0 where
   pub leaf : (j : ℕ) → 9 * (j + 1) ≤ length w → member marks (get_or groups j 0) ≡ exempt ex net (leaf_at w j).id
 
--- the same of a number that is a net only if it has 32 bits
-abbrev pub MarksOfWord : List ℕ → List ℕ → List ℕ → List Exemption → ℕ → Type 0
-MarksOfWord marks groups w ex net = net < 4294967296 → MarksOf marks groups w ex net
+-- the same where there is a net
+abbrev pub MarksIfAny : List ℕ → List ℕ → List ℕ → List Exemption → Option ℕ → Type 0
+MarksIfAny marks groups w ex marked = IfSome marked (λ net. MarksOf marks groups w ex net)

@@ -1,5 +1,4 @@
 -- What the walk of one segment requires and returns. Only inner contracts cite this.
-use Rattle.drawing.specs.declared.refusal.Refusal.TheVariants.{WorkLimitExceeded}
 use Rattle.drawing.specs.declared.refusal.Refusal.{Refusal}
 use Rattle.std.specs.Prelude.{◌≡◌, true, List, map, ℕ, suc, ◌+◌, ◌*◌, ◌^◌, ◌≤◌, ◌<◌, Float, length, take, Result, Ok, Err}
 use Rattle.laws.specs.Lists.{All}
@@ -14,7 +13,7 @@ use Rattle.clearance.specs.declared.visit.Walking.{Walking}
 use Rattle.clearance.specs.declared.halves.Subtree.{Subtree}
 use Rattle.clearance.specs.declared.halves.Halves.{Halves}
 use Rattle.clearance_call.specs.declared.walk.Step.{Step}
-use Rattle.clearance_call.specs.declared.walk.Step.TheVariants.{Stopped, Done, Split}
+use Rattle.clearance_call.specs.declared.walk.Step.TheVariants.{Done, Split}
 use Rattle.boxes.specs.Boxes.{segment_box, distance}
 use Rattle.boxes.specs.Inner.Fitting.{FitBox}
 use Rattle.clearance.specs.Figures.{Figures}
@@ -73,16 +72,11 @@ abbrev pub Walks : List Exemption → Float → List ℕ → ℕ → ℕ → Aab
 Walks ex threshold w i n p net state r =
     (s : Segment) → segment_box s ≡ p → s.net ≡ net → (k : ℕ) → n ≤ k → outcome_of r ≡ within state.remaining (walk ex threshold s (stored_tree k w i n) (so_far state))
 
--- the step at a part whose leaves were visited: the part is done, or the walk stopped there
-abbrev pub step_of : Result Walking Refusal → Step
-step_of (Err WorkLimitExceeded) = Stopped
-step_of (Ok v) = Done v
-
 -- what the step at a part returns: the outcome of its walk, or, where it is not pruned, the halves whose walks are its walk
-abbrev pub Steps : List Exemption → Float → List ℕ → Aabb → ℕ → Subtree → Walking → Step → Type 0
-Steps ex t w p net part state Stopped = Walks ex t w part.first part.count p net state (Err WorkLimitExceeded)
-Steps ex t w p net part state (Done v) = Walks ex t w part.first part.count p net state (Ok v)
-Steps ex t w p net part state (Split h) = Halved w part.first part.count p h × (contributes part.lower t (gap_of_float state.least) ≡ true) × (1 < part.count)
+abbrev pub Steps : List Exemption → Float → List ℕ → Aabb → ℕ → Subtree → Walking → Result Step Refusal → Type 0
+Steps ex t w p net part state (Err r) = Walks ex t w part.first part.count p net state (Err r)
+Steps ex t w p net part state (Ok (Done v)) = Walks ex t w part.first part.count p net state (Ok v)
+Steps ex t w p net part state (Ok (Split h)) = Halved w part.first part.count p h × (contributes part.lower t (gap_of_float state.least) ≡ true) × (1 < part.count)
 
 -- the words hold k exemptions
 pub record HoldsCount (packed : List ℕ) (k : ℕ) : Type 0 where

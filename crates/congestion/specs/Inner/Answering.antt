@@ -6,7 +6,7 @@ use Rattle.congestion.specs.declared.found.Found.{Found}
 use Rattle.congestion.specs.declared.report.CongestionReport.{CongestionReport}
 
 -- the answer of a call whose checks passed, for this total length
-unfoldable pub answer_of : Result Found Refusal → Float → ℕ → Result CongestionReport Refusal
+abbrev pub answer_of : Result Found Refusal → Float → ℕ → Result CongestionReport Refusal
 answer_of (Ok f) total allowance = Ok (record {
   congestion = record { total_length = total; congested_length = f.congested_length; pair_overlap_length = f.pair_overlap_length; peak_close_neighbors = f.peak_close_neighbors };
   minimum_positive = f.minimum_positive;

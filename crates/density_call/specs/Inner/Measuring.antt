@@ -1,13 +1,13 @@
 -- What only inner contracts cite: the rows of one orientation as wires that can be swept, and both orientations.
 use Rattle.drawing.specs.declared.refusal.Refusal.TheVariants.{WorkLimitExceeded}
 use Rattle.drawing.specs.declared.refusal.Refusal.{Refusal}
-use Rattle.std.specs.Prelude.{◌≡◌, Bool, List, ℕ, ◌+◌, ◌*◌, ◌≤◌, ◌<◌, max, T, Float, length, drop, Option, Result, Ok, Err}
+use Rattle.std.specs.Prelude.{◌≡◌, Bool, List, ℕ, ◌+◌, ◌*◌, ◌≤◌, ◌<◌, max, T, Float, length, drop, Option, None, Result, Ok, Err}
 use Rattle.std.specs.Float.{binary64}
 use Rattle.std.specs.Float.Ieee.{fits, add}
 use Rattle.laws.specs.Lists.{Mem}
 use Rattle.laws.specs.Inner.Sort.{Sorted}
 use Rattle.laws.specs.Inner.Allowance.{Outcome, spent, left}
-use Rattle.floats.specs.Values.{canonical_zero}
+use Rattle.floats.specs.Values.{plus_zero, canonical_zero}
 use Rattle.floats.specs.TotalOrder.{key_of, float_at}
 use Rattle.floats.specs.Grid.{on_grid, unit}
 use Rattle.drawing.specs.Entries.{SegmentColumns, segments}
@@ -65,7 +65,7 @@ pub record AtColumns (words wanted : ℕ) (c : SegmentColumns) : Type 0 where
   pub proper : (r : Row) → Mem r (oriented wanted (segments c)) → Proper r
 
 -- the code's answer for the outcome of figures within an allowance
-unfoldable pub found_of : Outcome (ParallelCongestion × (Option Float)) → Result Found Refusal
+unfoldable pub found_of : Outcome (ParallelCongestion × Option Float) → Result Found Refusal
 found_of spent = Err WorkLimitExceeded
 found_of (left p m) = Ok (record {
   congested_length = p.0.congested_length;
@@ -74,6 +74,10 @@ found_of (left p m) = Ok (record {
   minimum_positive = p.1;
   remaining = m;
 })
+
+-- what is found where nothing is swept, with m remaining visits
+abbrev pub none_of : ℕ → Found
+none_of m = record { congested_length = plus_zero; pair_overlap_length = plus_zero; peak_close_neighbors = 0; minimum_positive = None; remaining = m }
 
 -- both orientations' figures
 abbrev pub combined_of : Found → Found → Found

@@ -12,6 +12,7 @@ use Rattle.floats.specs.TotalOrder.{float_at}
 use Rattle.floats.specs.Grid.{of_units}
 use Rattle.density_call.specs.declared.meet.Meeting.{Meeting}
 use Rattle.density_call.specs.declared.sweep.Sweeping.{Sweeping}
+use Rattle.congestion.specs.declared.found.Found.{Found}
 use Rattle.congestion.specs.Wires.{Wire}
 use Rattle.congestion.specs.Walk.{Item, WireEvent, WireState, State, at, neighbor, neighbors, was_congested, step, gap_of_units}
 use Rattle.congestion.specs.Inner.Keys.{Key, Representable}

@@ -1,11 +1,10 @@
 -- The table of n pieces in a slice of words: n indices, and behind them the pieces, four words each.
-use Rattle.std.specs.Prelude.{◌≡◌, List, [], ◌∷◌, map, ℕ, zero, suc, ◌+◌, ◌*◌, ◌≤◌, ◌<◌, length, get_or, take, drop}
+use Rattle.std.specs.Prelude.{◌≡◌, List, [], ◌∷◌, map, ℕ, zero, suc, ◌+◌, ◌*◌, ◌^◌, ◌≤◌, ◌<◌, length, get_or, take, drop}
 use Rattle.laws.specs.Lists.{All}
 use Rattle.laws.specs.Sort.{sort_by}
 use Rattle.drawing.specs.Entries.{SegmentColumns, segments}
 use Rattle.drawing.specs.Inner.Entries.{segment_at}
 use Rattle.drawing.specs.Inner.Lengths.{SegmentsAgree}
-use Rattle.drawing.specs.Inner.Typed.{SegmentsTyped}
 use Rattle.drawing.specs.Held.{FitSegment}
 use Rattle.joining.specs.declared.piece.Piece.{Piece}
 use Rattle.joining.specs.Inner.Pieces.{piece_of}
@@ -33,7 +32,7 @@ pub record Lists (c : SegmentColumns) (m : ℕ) : Type 0 where
   pub agree : SegmentsAgree c
   pub few : length c.net ≤ 4096
   pub fit : All FitSegment (segments c)
-  pub typed : SegmentsTyped c
+  pub nets : (i : ℕ) → get_or c.net i 0 < 2 ^ 32
   pub room : 5 * length c.net ≤ m
 
 -- the first i segments are in the table

@@ -21,6 +21,7 @@ use Rattle.separation.specs.Lines.{lines, index}
 use Rattle.separation.specs.Searches.{set_run}
 use Rattle.separation.specs.Walk.{Sweep, remove, other_line, with_nearest, starts_at, ends_at, step}
 use Rattle.separation.specs.declared.state.Sweeping.{Sweeping}
+use Rattle.separation_call.specs.declared.nets.Place.{Place}
 use Rattle.separation_call.specs.Inner.ActiveTree.{summary_at, Leaves, Covers}
 use Rattle.separation_call.specs.Inner.ActiveNets.{Slots, Counted, Countable, Endable}
 use Rattle.separation_call.specs.Inner.Prepared.{Prepared}
@@ -136,6 +137,15 @@ pub record AtEnd (s : List ℕ) (n leaves j : ℕ) : Type 0 where
 abbrev pub figures_of : Outcome Sweep → Outcome Figures
 figures_of o = onward o (λ t m. left t.met m)
 
+-- where segment j is counted, and that the tables can be read there
+abbrev pub place_at : List ℕ → ℕ → ℕ → Place
+place_at s n j = record { slot = get_or s (7 * n + j) 0; line = get_or s (4 * n + j) 0; net = get_or s (5 * n + j) 0 }
+
+pub record Placed (s : List ℕ) (n j : ℕ) : Type 0 where
+  pub room : 8 * n ≤ length s
+  pub inside : j < n
+  pub small : get_or s (5 * n + j) 0 < 2 ^ 32
+
 -- what a start makes of the scratch s, which becomes t, and of the state
 abbrev pub Begins : List ℕ → List ℕ → ℕ → ℕ → ℕ → Sweeping → Result Sweeping Refusal → Type 0
 Begins s t n leaves j state r =
@@ -211,10 +221,3 @@ pub record AtColumns (words wanted : ℕ) (c : SegmentColumns) : Type 0 where
   pub room : 32 * length c.net + 64 ≤ words
   pub proper : (r : Row) → Mem r (oriented wanted (segments c)) → (r.net < 2 ^ 32) × (r.start < r.end)
   pub gaps : Gapped (lines (oriented wanted (segments c)))
-
--- what the types of the columns say of their entries
-pub record Typed (ns : List ℕ) (fs ss es : List Float) : Type 0 where
-  pub net : (i : ℕ) → get_or ns i 0 < 2 ^ 32
-  pub fixed : (i : ℕ) → Binary64 (get_or fs i nan)
-  pub start : (i : ℕ) → Binary64 (get_or ss i nan)
-  pub end : (i : ℕ) → Binary64 (get_or es i nan)

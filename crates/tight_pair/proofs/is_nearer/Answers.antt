@@ -2,10 +2,10 @@
 use Rattle.tight_pair.specs.Inner.Looking.{nearer}
 use Rattle.tight_pair.proofs.is_nearer.Goals as goal
 
-pub returns-in-Absent : goal.returns-in-Absent
+pub returns-in-None : goal.returns-in-None
 unfolding nearer
-returns-in-Absent c = rw c.in-Absent.is
+returns-in-None c = rw c.in-None.is
 
-pub returns-in-Present : goal.returns-in-Present
+pub returns-in-Some : goal.returns-in-Some
 unfolding nearer
-returns-in-Present c = rw c.in-Present.is
+returns-in-Some c = rw c.in-Some.is

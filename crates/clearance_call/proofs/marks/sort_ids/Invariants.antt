@@ -1,10 +1,6 @@
 -- `clearance_call::marks::sort_ids` meets its contract: at leaf j the ids of the leaves before it are written. Assumes nothing.
-use Prim.Native.Nat.{◌-◌}
 use Rattle.clearance_call.proofs.LeafGroups.{Copying}
 use Rattle.clearance_call.proofs.marks.sort_ids.Given as goal
 
 abbrev pub invariant-loop-j : goal.invariant-loop-j
 invariant-loop-j l = Copying l.initial.s l.m l.s l.j
-
-abbrev pub decreases-loop-j : goal.decreases-loop-j
-decreases-loop-j l = l.m - l.j

@@ -1,12 +1,8 @@
 -- `clearance_call::walk_all::walk_all` meets its contract: after q segments the walks of the others, from the state, have the outcome of all walks, and the marks are those of the last segment's net. Assumes nothing.
-use Prim.Native.Nat.{◌-◌}
 use lib.ListN.{length}
-use Rattle.drawing.specs.Entries.{segment_columns}
+use Rattle.drawing.specs.Entries.{lent_segments}
 use Rattle.clearance_call.proofs.WalkRuns.{Turned}
 use Rattle.clearance_call.proofs.walk_all.walk_all.Given as goal
 
 abbrev pub invariant-loop-q : goal.invariant-loop-q
-invariant-loop-q l = Turned (λ _. l.threshold) l.tree l.m l.order l.packed l.groups l.k (segment_columns l.net l.orientation l.fixed l.start l.end) l.allowance l.state l.marks l.used l.marked l.q
-
-abbrev pub decreases-loop-q : goal.decreases-loop-q
-decreases-loop-q l = length l.net - l.q
+invariant-loop-q l = Turned (λ _. l.threshold) l.tree (length l.ids) l.order l.packed l.groups (length l.packed) (lent_segments l.segments) l.allowance l.state l.marks l.used l.marked l.q

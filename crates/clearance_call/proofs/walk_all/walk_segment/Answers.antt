@@ -9,12 +9,12 @@ pub visit_segment_candidates-requires : goal.visit_segment_candidates-requires
 unfolding segment_box
 visit_segment_candidates-requires c =
     let a = c.args in
-    let s : Segment = as_taken (record { net = a.net; orientation = a.orientation; fixed = a.fixed; start = a.start; end = a.end }) in
+    let s : Segment = as_taken a.segment in
     record { walkable = (walkable_whole s _ _ _ _ _ _ c.requires.part.0 c.from_segment-bounds.ensures c.bounds_of.ensures c.distance.ensures c.requires.remaining_bound c.requires.fit_and_nested.0 c.requires.fit_and_nested.1, c.requires.part.1); net_marks = c.requires.net_marks }
 
-pub returns : goal.returns
+pub returns-clause-outcome : goal.returns-clause-outcome
 unfolding segment_box
-returns c ex l =
+returns-clause-outcome c ex l =
     let a = c.args in
-    let s : Segment = as_taken (record { net = a.net; orientation = a.orientation; fixed = a.fixed; start = a.start; end = a.end }) in
-    c.visit_segment_candidates.ensures ex _ l s (sym c.from_segment-bounds.ensures) refl _ (omega arith)
+    let s : Segment = as_taken a.segment in
+    c.visit_segment_candidates.ensures.outcome ex _ l s (sym c.from_segment-bounds.ensures) refl _ (omega arith)

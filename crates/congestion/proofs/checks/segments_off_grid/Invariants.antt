@@ -1,13 +1,8 @@
--- `congestion::checks::segments_off_grid` meets its contract: after i iterations the first i segments are on the grid. Assumes nothing.
-use Prim.Native.Nat.{◌-◌}
-use lib.ListN.{length}
-use Rattle.drawing.specs.Entries.{segment_columns}
+-- `congestion::checks::segments_off_grid` meets its contract: after i turns the first i segments are on the grid. Assumes nothing.
+use Rattle.drawing.specs.Entries.{lent_segments}
 use Rattle.drawing.specs.Conditions.{off_grid_segment}
 use Rattle.drawing.proofs.Scans.{SegmentsScanned}
 use Rattle.congestion.proofs.checks.segments_off_grid.Given as goal
 
 abbrev pub invariant-loop-i : goal.invariant-loop-i
-invariant-loop-i l = SegmentsScanned off_grid_segment (segment_columns l.net l.orientation l.fixed l.start l.end) l.i
-
-abbrev pub decreases-loop-i : goal.decreases-loop-i
-decreases-loop-i l = length l.net - l.i
+invariant-loop-i l = SegmentsScanned off_grid_segment (lent_segments l.segments) l.i

@@ -1,16 +1,16 @@
 -- `density_call::measure::walk_segments` meets its contract: a cutoff of 0 or less; too few visits for the segments; else horizontal segments, then vertical ones with the remaining visits. Assumes nothing.
 use Rattle.std.specs.Prelude.{Ok}
-use mathlib.Core.Path.{◌≡◌, sym, ◌∙◌, subst}
+use mathlib.Core.Path.{◌≡◌, sym, ap, ◌∙◌, subst}
 use mathlib.Core.Bool.{false}
 use Prim.Native.Nat.{ℕ}
-use lib.Ieee.{Float, nan, of_bits, le}
-use lib.ListN.{get_or}
+use lib.Ieee.{Float, of_bits, le}
+use Rattle.std.proofs.lemmas.Result.{err_from_is_err_and}
 use Rattle.laws.specs.Lists.{All}
 use Rattle.floats.specs.Values.{plus_zero}
-use Rattle.drawing.specs.Entries.{SegmentColumns, segment_columns, segments}
+use Rattle.drawing.specs.Entries.{SegmentColumns, lent_segments, segments}
 use Rattle.drawing.specs.Refusals.{first_of}
-use Rattle.drawing.specs.Held.{Binary64, SegmentHeld}
-use Rattle.drawing.proofs.ListOrders.{segments-held}
+use Rattle.drawing.specs.Inner.Lengths.{SegmentsAgree}
+use Rattle.drawing.specs.Held.{SegmentHeld}
 use Rattle.congestion.specs.Conditions.{congestion_conditions}
 use Rattle.rows.proofs.ToSweep.{rows-to-sweep}
 use Rattle.density_call.specs.Inner.Measuring.{Cutoff, AtColumns}
@@ -26,10 +26,9 @@ record Ready (s : SegmentColumns) (cutoff : Float) (words : ℕ) : Type 0 where
   sweeps : Cutoff cutoff
   rows_of : (o : ℕ) → AtColumns words o s
 
-ready : (s : SegmentColumns) (cutoff : Float) (words : ℕ) → first_of (congestion_conditions s cutoff words) ≡ Ok tt → le cutoff plus_zero ≡ false
-    → ((i : ℕ) → Binary64 (get_or s.fixed i nan)) → ((i : ℕ) → Binary64 (get_or s.start i nan)) → ((i : ℕ) → Binary64 (get_or s.end i nan)) → Ready s cutoff words
-ready s cutoff words passed above f b e =
-    let held : All SegmentHeld (segments s) = segments-held s (agree s cutoff words passed) f b e in
+ready : (s : SegmentColumns) (cutoff : Float) (words : ℕ) → first_of (congestion_conditions s cutoff words) ≡ Ok tt → le cutoff plus_zero ≡ false → (SegmentsAgree s → All SegmentHeld (segments s)) → Ready s cutoff words
+ready s cutoff words passed above known =
+    let held = known (agree s cutoff words passed) in
     record {
       held = held;
       fit = fit_list s cutoff words passed;
@@ -39,46 +38,48 @@ ready s cutoff words passed above f b e =
 
 pub returns-then-cutoff : goal.returns-then-cutoff
 unfolding of_bits
-returns-then-cutoff c = nothing_swept _ _ _ c.requires c.if-cutoff.true _
+returns-then-cutoff c = ap Ok c.nothing_found.ensures ∙ nothing_swept _ _ _ c.requires c.if-cutoff.true _
 
 pub returns-then-allowance-segments_to_sweep : goal.returns-then-allowance-segments_to_sweep
 unfolding of_bits
 returns-then-allowance-segments_to_sweep c =
-    let s = segment_columns c.args.net.now c.args.orientation.now c.args.fixed.now c.args.start.now c.args.end.now in
-    let r = ready s c.args.cutoff _ c.requires c.if-cutoff.false c.type_inv.fixed c.type_inv.start c.type_inv.end in
+    let s = lent_segments c.args.segments.now in
+    let r = ready s c.args.cutoff _ c.requires c.if-cutoff.false c.held.ensures.floats in
     too_few c.args.cutoff r.sweeps.grid (segments s) r.fit r.held r.sweeps.some _ _ (c.segments_to_sweep.ensures ∙ rows-to-sweep s (agree s c.args.cutoff _ c.requires)) c.if-allowance-segments_to_sweep.true
 
-pub sweep_along-first-requires : goal.sweep_along-first-requires
+pub sweep_along-requires : goal.sweep_along-requires
 unfolding of_bits
-sweep_along-first-requires c =
-    let s = segment_columns c.args.net.now c.args.orientation.now c.args.fixed.now c.args.start.now c.args.end.now in
-    let r = ready s c.args.cutoff _ c.requires c.if-cutoff.false c.type_inv.fixed c.type_inv.start c.type_inv.end in
+sweep_along-requires c =
+    let s = lent_segments c.args.segments.now in
+    let r = ready s c.args.cutoff _ c.requires c.if-cutoff.false c.held.ensures.floats in
     record { at_columns = r.rows_of 1; cutoff = r.sweeps }
 
-pub returns-in_default : goal.returns-in_default
+pub returns-in_err-across : goal.returns-in_err-across
 unfolding of_bits
-returns-in_default c =
-    let s = segment_columns c.args.net.now c.args.orientation.now c.args.fixed.now c.args.start.now c.args.end.now in
-    let r = ready s c.args.cutoff _ c.requires c.if-cutoff.false c.type_inv.fixed c.type_inv.start c.type_inv.end in
-    stops c.args.cutoff r.sweeps.grid (segments s) r.fit r.held r.sweeps.some _ _ c.sweep_along-first.ensures c.in_default.is
+returns-in_err-across c =
+    let s = lent_segments c.args.segments.now in
+    let r = ready s c.args.cutoff _ c.requires c.if-cutoff.false c.held.ensures.floats in
+    let exit = err_from_is_err_and c.from_residual.result c.from_residual.ensures.1 in
+    rw (exit.1, exit.2) (stops c.args.cutoff r.sweeps.grid (segments s) r.fit r.held r.sweeps.some _ _ c.sweep_along.ensures _ c.in_err-across.was)
 
-pub sweep_along-second-requires : goal.sweep_along-second-requires
+pub sweep_along-requires-2 : goal.sweep_along-requires-2
 unfolding of_bits
-sweep_along-second-requires c =
-    let s = segment_columns c.args.net.now c.args.orientation.now c.args.fixed.now c.args.start.now c.args.end.now in
-    let r = ready s c.args.cutoff _ c.requires c.if-cutoff.false c.type_inv.fixed c.type_inv.start c.type_inv.end in
-    record { at_columns = subst (λ (n : ℕ). AtColumns n 0 s) (sym c.sweep_along-first.auto.s) (r.rows_of 0); cutoff = r.sweeps }
+sweep_along-requires-2 c =
+    let s = lent_segments c.args.segments.now in
+    let r = ready s c.args.cutoff _ c.requires c.if-cutoff.false c.held.ensures.floats in
+    record { at_columns = subst (λ (n : ℕ). AtColumns n 0 s) (sym c.sweep_along.auto.s) (r.rows_of 0); cutoff = r.sweeps }
 
-pub returns-in_default-second : goal.returns-in_default-second
+pub returns-in_err-down : goal.returns-in_err-down
 unfolding of_bits
-returns-in_default-second c =
-    let s = segment_columns c.args.net.now c.args.orientation.now c.args.fixed.now c.args.start.now c.args.end.now in
-    let r = ready s c.args.cutoff _ c.requires c.if-cutoff.false c.type_inv.fixed c.type_inv.start c.type_inv.end in
-    stops_later c.args.cutoff r.sweeps.grid (segments s) r.fit r.held r.sweeps.some _ _ c.sweep_along-first.ensures _ c.in-Went.is _ c.sweep_along-second.ensures c.in_default-second.is
+returns-in_err-down c =
+    let s = lent_segments c.args.segments.now in
+    let r = ready s c.args.cutoff _ c.requires c.if-cutoff.false c.held.ensures.floats in
+    let exit = err_from_is_err_and c.from_residual-in_err-down.result c.from_residual-in_err-down.ensures.1 in
+    rw (exit.1, exit.2) (stops_later c.args.cutoff r.sweeps.grid (segments s) r.fit r.held r.sweeps.some _ _ c.sweep_along.ensures _ c.in_ok-across.was _ c.sweep_along-2.ensures _ c.in_err-down.was)
 
 pub returns : goal.returns
 unfolding of_bits
 returns c =
-    let s = segment_columns c.args.net.now c.args.orientation.now c.args.fixed.now c.args.start.now c.args.end.now in
-    let r = ready s c.args.cutoff _ c.requires c.if-cutoff.false c.type_inv.fixed c.type_inv.start c.type_inv.end in
-    went_both c.args.cutoff r.sweeps.grid (segments s) r.fit r.held r.sweeps.some _ _ c.sweep_along-first.ensures _ c.in-Went.is _ c.sweep_along-second.ensures _ _ c.in-Went-second.is c.combined.ensures
+    let s = lent_segments c.args.segments.now in
+    let r = ready s c.args.cutoff _ c.requires c.if-cutoff.false c.held.ensures.floats in
+    went_both c.args.cutoff r.sweeps.grid (segments s) r.fit r.held r.sweeps.some _ _ c.sweep_along.ensures _ c.in_ok-across.was _ c.sweep_along-2.ensures _ _ c.in_ok-down.was c.combined.ensures

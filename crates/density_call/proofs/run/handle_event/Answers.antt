@@ -5,5 +5,5 @@ use Rattle.density_call.proofs.run.handle_event.Goals as goal
 pub start_event-requires : goal.start_event-requires
 start_event-requires c = event_starts _ _ _ _ c.if-e-n.false c.requires
 
-pub returns : goal.returns
-returns c = handled_start c.args.s.now _ _ _ c.args.state _ c.if-e-n.false c.start_event.ensures
+pub returns-else-e-n : goal.returns-else-e-n
+returns-else-e-n c = handled_start c.args.s.now _ _ _ c.args.state _ c.if-e-n.false c.start_event.ensures

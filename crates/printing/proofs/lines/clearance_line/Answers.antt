@@ -6,11 +6,10 @@ use Rattle.printing.specs.Sheet.{clearance_label, refusal, clearance_line}
 use Rattle.text.proofs.TextPuts.{put_both, put_same, put-within}
 use Rattle.printing.proofs.lines.clearance_line.Goals as goal
 
-pub returns-in-Report : goal.returns-in-Report
+pub returns-in-Ok : goal.returns-in-Ok
 unfolding clearance_line clearance_label fields
-returns-in-Report c =
-    put_same (sym (ap clearance_line c.in-Report.is)) (put_both c.put_word-at.ensures (put_both c.gap_field-at.ensures (put_both c.count_field-at.ensures (put_both c.count_field-at-in-Report.ensures c.put_byte.ensures))))
+returns-in-Ok c = put_same (sym (ap clearance_line c.in-Ok.is)) (put_both c.put_word.ensures (put_both c.gap_field.ensures (put_both c.count_field.ensures (put_both c.count_field-in-Ok.ensures c.put_byte.ensures))))
 
-pub returns-in-Refused : goal.returns-in-Refused
+pub returns-in-Err : goal.returns-in-Err
 unfolding clearance_line clearance_label refusal
-returns-in-Refused c = put_same (sym (ap clearance_line c.in-Refused.is)) (put-within (omega arith) (put_both c.put_word-at.ensures c.refused_fields.ensures))
+returns-in-Err c = put_same (sym (ap clearance_line c.in-Err.is)) (put-within (omega arith) (put_both c.put_word.ensures c.refused_fields.ensures))

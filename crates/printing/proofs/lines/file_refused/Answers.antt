@@ -5,4 +5,4 @@ use Rattle.printing.proofs.lines.file_refused.Goals as goal
 
 pub returns : goal.returns
 unfolding refusal file_label
-returns c = put_both c.put_word-at.ensures c.refused_fields.ensures
+returns c = put_both c.put_word.ensures c.refused_fields.ensures

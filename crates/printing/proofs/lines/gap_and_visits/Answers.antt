@@ -5,4 +5,4 @@ use Rattle.printing.proofs.lines.gap_and_visits.Goals as goal
 
 pub returns : goal.returns
 unfolding fields
-returns c = put_both c.gap_field-next.ensures (put_both c.count_field-end.ensures c.put_byte.ensures)
+returns c = put_both c.gap_field.ensures (put_both c.count_field.ensures c.put_byte.ensures)

@@ -3,4 +3,4 @@ use Rattle.text.proofs.TextPuts.{put_both}
 use Rattle.printing.proofs.lines.gap_field.Goals as goal
 
 pub returns : goal.returns
-returns c = put_both c.put_byte-next.ensures c.put_gap.ensures
+returns c = put_both c.put_byte.ensures c.put_gap.ensures

@@ -5,10 +5,10 @@ use Rattle.printing.specs.Fields.{gap_text, none_text}
 use Rattle.text.proofs.TextPuts.{put-within, put_same}
 use Rattle.printing.proofs.lines.put_gap.Goals as goal
 
-pub returns-in-Absent : goal.returns-in-Absent
+pub returns-in-None : goal.returns-in-None
 unfolding gap_text none_text
-returns-in-Absent c = put_same (sym (ap gap_text c.in-Absent.is)) (put-within (omega arith) c.put_word.ensures)
+returns-in-None c = put_same (sym (ap gap_text c.in-None.is)) (put-within (omega arith) c.put_word.ensures)
 
-pub returns-in-Present : goal.returns-in-Present
+pub returns-in-Some : goal.returns-in-Some
 unfolding gap_text
-returns-in-Present c = put_same (sym (ap gap_text c.in-Present.is)) c.put_float.ensures
+returns-in-Some c = put_same (sym (ap gap_text c.in-Some.is)) c.put_float.ensures

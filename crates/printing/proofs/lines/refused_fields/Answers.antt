@@ -10,5 +10,5 @@ use Rattle.printing.proofs.lines.refused_fields.Goals as goal
 pub returns : goal.returns
 unfolding fields refused_label
 returns c =
-    let count = put_same (ap (λ n. 32 ∷ decimal n) c.number.ensures) c.count_field-next.ensures in
-    put_both c.put_word-at.ensures (put_both count c.put_byte.ensures)
+    let count = put_same (ap (λ n. 32 ∷ decimal n) c.from.ensures) c.count_field.ensures in
+    put_both c.put_word.ensures (put_both count c.put_byte.ensures)

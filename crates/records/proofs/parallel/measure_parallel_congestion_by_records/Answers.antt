@@ -1,24 +1,16 @@
--- `records::parallel::measure_parallel_congestion_by_records` meets its contract: that of the lines it makes, which decide as the whole list does. Assumes nothing.
-use mathlib.Core.Path.{ap, ◌∙◌}
-use mathlib.Core.List.{map}
-use lib.ListN.{length}
-use Rattle.drawing.specs.Entries.{columns_of}
-use Rattle.drawing.specs.Refusals.{first_of, scratch_after}
+-- `records::parallel::measure_parallel_congestion_by_records` meets its contract: that of the call by columns, of the columns that the records were copied into, which decide as the whole list does. Assumes nothing.
+use Rattle.std.proofs.Common.{length, map, ◌∙◌}
+use Rattle.drawing.specs.declared.refusal.Refusal.TheVariants.{TooManyEntries}
+use Rattle.drawing.specs.Refusals.{first_of}
 use Rattle.drawing.specs.Held.{Binary64, SegmentsHeld}
 use Rattle.congestion.specs.Conditions.{congestion_conditions}
 use Rattle.congestion.specs.Answer.{congestion_answer}
 use Rattle.records.specs.Records.{of_parallel}
-use Rattle.records.proofs.Deciding.{congestion-many, congestion-checked, passed_all, congestion_decided}
+use Rattle.records.proofs.Deciding.{congestion-many, congestion-refused, decided}
 use Rattle.records.proofs.parallel.measure_parallel_congestion_by_records.Goals as goal
 
 pub returns : goal.returns
 returns c =
-    let called = c.congestion_of_lines in
-    let lines = c.parallel_lines-lines.ensures in
     let given = c.args in
     let scratch = given.scratch.now in
-    let entries = map of_parallel given.records.now in (
-      called.ensures.0 ∙ ap (λ l. congestion_answer (columns_of l) given.cutoff (length scratch)) lines ∙ congestion_decided entries given.cutoff (length scratch),
-      called.ensures.1 ∙ ap (λ l. scratch_after (first_of (congestion_conditions (columns_of l) given.cutoff (length scratch))) scratch) lines ∙ ap (λ k. scratch_after k scratch) (congestion-checked entries (length scratch) given.cutoff),
-      passed_all (λ l. first_of (congestion_conditions (columns_of l) given.cutoff (length scratch))) _ (λ k. congestion-many k given.cutoff (length scratch)) (λ l. SegmentsHeld (columns_of l) × Binary64 given.cutoff) _ entries lines called.ensures.2,
-    )
+    decided (λ t. congestion_answer t given.cutoff (length scratch)) (λ t. first_of (congestion_conditions t given.cutoff (length scratch))) (λ t. SegmentsHeld t × Binary64 given.cutoff) scratch TooManyEntries (congestion-many given.cutoff (length scratch)) (congestion-refused given.cutoff (length scratch)) (map of_parallel given.records.now) (c.segments.ensures ∙ c.copy_from.ensures) c.measure_parallel_congestion.ensures

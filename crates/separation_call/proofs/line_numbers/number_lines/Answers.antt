@@ -1,6 +1,5 @@
 -- `separation_call::line_numbers::number_lines` meets its contract: after j iterations the first j keys have their numbers. Assumes nothing.
 use borrow.Author.Rules.{rules}
-use lib.ListN.{length-set}
 use Rattle.separation_call.proofs.LineNumbering.{numbering_start, line_low, numbering_next, numbering_end}
 use Rattle.separation_call.proofs.line_numbers.number_lines.Goals as goal
 
@@ -15,9 +14,6 @@ offset_bounds-s-to c = let low = line_low _ _ _ _ _ _ _ c.loop-j.invariant c.loo
 
 pub bounds-s-to : goal.bounds-s-to
 bounds-s-to c = let low = line_low _ _ _ _ _ _ _ c.loop-j.invariant c.loop-j-test.true c.line_of-line.ensures in search rules
-
-pub bounds-s-at-in-loop-j : goal.bounds-s-at-in-loop-j
-bounds-s-at-in-loop-j c = simp length-set (search rules)
 
 pub overflow_add-m : goal.overflow_add-m
 overflow_add-m c = let low = line_low _ _ _ _ _ _ _ c.loop-j.invariant c.loop-j-test.true c.line_of-line.ensures in search rules

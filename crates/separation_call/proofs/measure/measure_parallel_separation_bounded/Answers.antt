@@ -1,6 +1,5 @@
 -- `separation_call::measure::measure_parallel_separation_bounded` meets its contract: the checks, the walk, the scratch cleared. Assumes nothing.
 use Rattle.separation_call.proofs.WholeCall.{refused-answer, passed_answer}
-use Rattle.drawing.proofs.ListOrders.{segments-held}
 use Rattle.separation.proofs.Checked.{separation-passes}
 use Rattle.drawing.proofs.FirstRefusal.{not_passed, refused-scratch, passed_scratch}
 use Rattle.drawing.specs.Entries.{lent_segments}
@@ -18,7 +17,9 @@ returns-in_err-check_separation c =
     rw (p.1, p.2) (refused-answer _ _ _ _ _ check told, refused-scratch _ _ _ _ check told, not_passed _ _ _ check told)
 
 pub walk_segments-swept-requires : goal.walk_segments-swept-requires
-walk_segments-swept-requires c = record { passed = sym c.check_separation.ensures ∙ c.in_ok-check_separation.was; typed = c.columns_typed.ensures }
+walk_segments-swept-requires c =
+    let passed = sym c.check_separation.ensures ∙ c.in_ok-check_separation.was in
+    record { passed = passed; held = c.held.ensures.floats (separation-passes _ _ passed).agree; nets = c.held.ensures.nets }
 
 pub returns : goal.returns
 returns c =
@@ -26,7 +27,7 @@ returns c =
     let told = c.in_ok-check_separation.was in
     let check = c.check_separation.ensures in
     let passed = sym check ∙ told in
-    let held = segments-held s (separation-passes s _ passed).agree c.columns_typed.ensures.fixed c.columns_typed.ensures.start c.columns_typed.ensures.end in
+    let held = c.held.ensures.floats (separation-passes s _ passed).agree in
     let kept = ap (λ (k : ℕ). replicate {A = ℕ} k 0) c.walk_segments-swept.auto.scratch in
     let cleared = c.clear.ensures ∙ kept in (
       passed_answer s _ _ passed held _ c.walk_segments-swept.ensures _ c.answer_of.ensures,

@@ -1,23 +1,10 @@
 -- `separation_call::nets::end_net` meets its contract. Assumes nothing.
 use mathlib.Core.Logic.{inl, inr}
 use Prim.Native.Nat.{◌+◌, ◌-◌, ◌*◌}
-use native.Mathlib.Omega.{arith}
-use lib.ListN.{get_or, length-set}
-use Rattle.separation_call.proofs.ActiveNets.{LineChanged, changed-length, changed-lent, changed-past, ends}
+use lib.ListN.{get_or}
+use Rattle.separation_call.proofs.ActiveNets.{LineChanged, changed-past, ends}
 use Rattle.separation_call.proofs.nets.end_net.Goals as goal
 use Rattle.separation_call.proofs.nets.end_net.Goals.{then-count-eq1, else-count-eq1}
 
-pub bounds-c-n-then-count-eq1-3 : goal.bounds-c-n-then-count-eq1-3
-bounds-c-n-then-count-eq1-3 c = let p = c.requires in simp length-set (omega (arith, p.room, p.line-inside))
-
-pub bounds-c-slot-2 : goal.bounds-c-slot-2
-bounds-c-slot-2 c = let a = c.args in let t : LineChanged 1 a.n a.slot a.line (get_or a.c.now (a.n + a.line) 0 - 1) (get_or a.c.now (2 * a.n + a.line) 0 - a.net) a.c.now c.if-count-eq1.c = elim c.if-count-eq1.branch [ then-count-eq1 w ↦ inl (w.if-count-eq1.true, w.c-is) | else-count-eq1 w ↦ inr (w.if-count-eq1.false, w.c-is) ] in let p = c.requires in let e = changed-length _ _ _ _ _ _ _ _ t in omega (arith, p.room, p.slot_inside)
-
-pub line_summary-requires : goal.line_summary-requires
-line_summary-requires c = let a = c.args in let t : LineChanged 1 a.n a.slot a.line (get_or a.c.now (a.n + a.line) 0 - 1) (get_or a.c.now (2 * a.n + a.line) 0 - a.net) a.c.now c.if-count-eq1.c = elim c.if-count-eq1.branch [ then-count-eq1 w ↦ inl (w.if-count-eq1.true, w.c-is) | else-count-eq1 w ↦ inr (w.if-count-eq1.false, w.c-is) ] in let p = c.requires in (changed-lent _ _ _ _ _ _ _ _ t _ p.room, p.line-inside)
-
-pub shape_of-c : goal.shape_of-c
-shape_of-c c = let a = c.args in let t : LineChanged 1 a.n a.slot a.line (get_or a.c.now (a.n + a.line) 0 - 1) (get_or a.c.now (2 * a.n + a.line) 0 - a.net) a.c.now c.if-count-eq1.c = elim c.if-count-eq1.branch [ then-count-eq1 w ↦ inl (w.if-count-eq1.true, w.c-is) | else-count-eq1 w ↦ inr (w.if-count-eq1.false, w.c-is) ] in simp length-set (changed-length _ _ _ _ _ _ _ _ t)
-
 pub returns : goal.returns
-returns c = let a = c.args in let t : LineChanged 1 a.n a.slot a.line (get_or a.c.now (a.n + a.line) 0 - 1) (get_or a.c.now (2 * a.n + a.line) 0 - a.net) a.c.now c.if-count-eq1.c = elim c.if-count-eq1.branch [ then-count-eq1 w ↦ inl (w.if-count-eq1.true, w.c-is) | else-count-eq1 w ↦ inr (w.if-count-eq1.false, w.c-is) ] in let p = c.requires in record { counted = ends _ _ _ _ _ _ _ p t c.line_summary.ensures; rest = changed-past _ _ _ _ _ _ _ _ t _ p.slot_inside p.line-inside }
+returns c = let a = c.args in let t : LineChanged 1 a.n a.at.slot a.at.line (get_or a.c.now (a.n + a.at.line) 0 - 1) (get_or a.c.now (2 * a.n + a.at.line) 0 - a.at.net) a.c.now c.if-count-eq1.c = elim c.if-count-eq1.branch [ then-count-eq1 w ↦ inl (w.if-count-eq1.true, w.c-is) | else-count-eq1 w ↦ inr (w.if-count-eq1.false, w.c-is) ] in let p = c.requires in record { counted = ends _ _ _ _ _ _ _ p t c.line_summary.ensures; rest = changed-past _ _ _ _ _ _ _ _ t _ p.slot_inside p.line-inside }

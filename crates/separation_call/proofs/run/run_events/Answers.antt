@@ -1,9 +1,8 @@
 -- `separation_call::run::run_events` meets its contract: event by event. Assumes nothing.
 use borrow.Author.Rules.{rules}
 use mathlib.Core.Path.{refl}
-use native.Mathlib.Omega.{arith}
 use Rattle.std.proofs.lemmas.Result.{err_from_is_err_and}
-use Rattle.separation_call.proofs.SweepLoop.{going_none, run_room, run_event, run_next, run_stops, run_all}
+use Rattle.separation_call.proofs.SweepLoop.{going_none, run_event, run_next, run_stops, run_all}
 use Rattle.separation_call.proofs.run.run_events.Goals as goal
 
 pub loop-q-init : goal.loop-q-init

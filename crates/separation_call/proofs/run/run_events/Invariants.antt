@@ -1,6 +1,5 @@
 -- `separation_call::run::run_events` meets its contract: event by event. Assumes nothing.
 use mathlib.Core.Path.{◌≡◌}
-use Prim.Native.Nat.{◌*◌, ◌-◌}
 use lib.ListN.{length}
 use Rattle.separation_call.proofs.SweepLoop.{Runs}
 use Rattle.separation_call.proofs.run.run_events.Given as goal

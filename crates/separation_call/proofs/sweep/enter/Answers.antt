@@ -1,11 +1,8 @@
 -- `separation_call::sweep::enter` meets its contract: the net is counted and then its line's summary is set. Assumes nothing.
 use Rattle.std.proofs.lemmas.Result.{err_from_is_err_and}
-use Rattle.separation_call.proofs.SweepWork.{leaves-behind, pays_not, pays, entered_not, entered}
+use Rattle.separation_call.proofs.SweepWork.{pays_not, pays, entered_not, entered}
 use mathlib.Core.Path.{refl}
 use Rattle.separation_call.proofs.sweep.enter.Goals as goal
-
-pub set-requires : goal.set-requires
-set-requires c = let a = c.args in let p = c.requires in record { leaves = leaves-behind a.n _ a.work.now c.start_net-summary.new.c c.start_net-summary.ensures.rest p.tree; index_lt_leaves = p.inside }
 
 pub returns-in_err-remaining : goal.returns-in_err-remaining
 returns-in_err-remaining c =

@@ -1,5 +1,4 @@
 -- `separation_call::sweep::with_search` meets its contract: by cases of the search's answer. Assumes nothing.
-use borrow.Author.Rules.{rules}
 use Rattle.separation_call.proofs.SweepSteps.{joined-spent, joined-empty, joined-found}
 use Rattle.separation_call.proofs.sweep.with_search.Goals as goal
 
@@ -8,12 +7,6 @@ returns-in_default c = λ ls o e f w gaps. joined-spent ls _ c.args.state o _ e 
 
 pub returns-in_default-line : goal.returns-in_default-line
 returns-in_default-line c = λ ls o e f w gaps. joined-empty ls _ c.args.state o _ e _ c.in-Ok.is c.in_default-line.is
-
-pub bounds-fixed-place : goal.bounds-fixed-place
-bounds-fixed-place c = c.requires.found _ _ c.in-Ok.is c.in-Some.is
-
-pub offset_bounds-fixed-place : goal.offset_bounds-fixed-place
-offset_bounds-fixed-place c = let h = c.requires.found _ _ c.in-Ok.is c.in-Some.is in search (rules, h)
 
 pub returns : goal.returns
 returns c = λ ls o e f w gaps. joined-found ls _ c.args.state o _ e _ c.in-Ok.is c.args.fixed.now _ _ _ _ c.in-Some.is f w gaps c.float_of_key-there.ensures c.float_of_key-here.ensures c.with_other_line.ensures

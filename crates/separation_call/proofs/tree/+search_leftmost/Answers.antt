@@ -2,10 +2,9 @@
 use mathlib.Core.Path.{sym, ◌∙◌}
 use mathlib.Core.Logic.{inl, inr}
 use native.Mathlib.Omega.{arith}
-use borrow.Author.Rules.{rules}
 use borrow.Author.Tests.{lt-ltb, le-ltb}
 use Rattle.std.proofs.lemmas.Result.{err_from_is_err_and}
-use Rattle.separation_call.proofs.StoredTree.{below-inside, below-some, below_end, children_inside, below-low, below-high}
+use Rattle.separation_call.proofs.StoredTree.{below-some, below-low, below-high}
 use Rattle.separation_call.proofs.StoredSearches.{up, Opened, search_spent, search_shut, search-leaf, hands_spent, hands_found, goes_on}
 use Rattle.separation_call.proofs.tree.+search_leftmost.Goals as goal
 
@@ -15,29 +14,14 @@ returns-then-remaining-eq0 t c = let a = c.args in search_spent up a.tree.now a.
 pub returns-then-end-query_start : goal.returns-then-end-query_start
 returns-then-end-query_start t c = let a = c.args in search_shut up a.tree.now a.excluded a.query_start a.node a.start a.end a.remaining c.if-remaining-eq0.false (inl (le-ltb _ _ c.if-end-query_start.true))
 
-pub other_below-requires : goal.other_below-requires
-other_below-requires t c = below-inside c.requires
-
 pub returns-then-not-other_below : goal.returns-then-not-other_below
 returns-then-not-other_below t c = let a = c.args in search_shut up a.tree.now a.excluded a.query_start a.node a.start a.end a.remaining c.if-remaining-eq0.false (inr (sym c.other_below.ensures ∙ c.if-not-other_below.true))
-
-pub overflow_sub-end : goal.overflow_sub-end
-overflow_sub-end t c = let h = below-some c.requires in omega arith
 
 pub returns-then-end-start-eq1 : goal.returns-then-end-start-eq1
 returns-then-end-start-eq1 t c = let a = c.args in search-leaf up a.tree.now a.excluded a.query_start a.node a.start a.end a.remaining c.if-remaining-eq0.false (lt-ltb _ _ c.if-end-query_start.false) (sym c.other_below.ensures ∙ c.if-not-other_below.false) c.if-end-start-eq1.true
 
-pub overflow_add-middle : goal.overflow_add-middle
-overflow_add-middle t c = let h = below_end c.requires in search (rules, h)
-
-pub overflow_mul-low : goal.overflow_mul-low
-overflow_mul-low t c = let h = children_inside c.requires c.if-end-start-eq1.false in search (rules, h)
-
 pub search_leftmost-requires : goal.search_leftmost-requires
 search_leftmost-requires t c = (omega (arith, below-some c.requires, c.if-end-start-eq1.false), below-low c.requires c.if-end-start-eq1.false)
-
-pub overflow_add-low : goal.overflow_add-low
-overflow_add-low t c = let h = children_inside c.requires c.if-end-start-eq1.false in search (rules, h)
 
 pub search_leftmost-requires-2 : goal.search_leftmost-requires-2
 search_leftmost-requires-2 t c = (omega (arith, below-some c.requires, c.if-end-start-eq1.false), below-high c.requires c.if-end-start-eq1.false)

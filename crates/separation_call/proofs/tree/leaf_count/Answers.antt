@@ -1,10 +1,6 @@
 -- `separation_call::tree::leaf_count` meets its contract. Assumes nothing.
-use lib.Count.{leading_le}
 use Rattle.separation_call.proofs.StoredTree.{shift_few, leaf_power}
 use Rattle.separation_call.proofs.tree.leaf_count.Goals as goal
-
-pub overflow_sub-levels : goal.overflow_sub-levels
-overflow_sub-levels c = leading_le _ _
 
 pub overflow_shl-result : goal.overflow_shl-result
 overflow_shl-result c = shift_few _ c.requires.at_most_4096

@@ -1,0 +1,2 @@
+-- What only contracts of inner functions and proofs cite.
+pub mod Written

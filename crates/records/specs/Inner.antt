@@ -1,2 +1,0 @@
--- What only contracts of inner functions and proofs cite: no promise rests on it.
-pub mod NoRecord
