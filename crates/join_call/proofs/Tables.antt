@@ -6,8 +6,8 @@ use mathlib.Core.Logic.{◌⊎◌, inl, inr}
 use Prim.Native.Nat.{ℕ, zero, suc, ◌+◌, ◌-◌, ◌*◌, ◌≤◌, ◌<◌}
 use native.Mathlib.Numerals.{add-one}
 use native.Mathlib.Omega.{arith}
-use lib.ListN.{length, get_or, take, drop, length-map, get_or-map}
-use lib.Seq.{paste, length-paste, get_or-take, get_or-drop, drop-cons, drop-drop}
+use lib.ListN.{length, get_or, set, take, drop, length-map, get_or-map}
+use lib.Seq.{sets-eq, paste, length-paste, get_or-take, get_or-drop, drop-cons, drop-drop}
 use Rattle.laws.specs.Lists.{Mem, All}
 use Rattle.laws.specs.Rows.{row_le}
 use Rattle.laws.specs.Sort.{sort_by}
@@ -39,6 +39,14 @@ use Rattle.joining.proofs.JoinedLists.{piece_of-row, canonical_all}
 pub words_wide : (p : Piece) → length (piece_words p) ≡ 4
 unfolding piece_words
 words_wide p = refl
+
+pub four_stores : (s : List ℕ) (at : ℕ) (p : Piece) → at + 4 ≤ length s → set (set (set (set s at p.net_and_orientation) (at + 1) p.fixed) (at + 2) p.start) (at + 3) p.end ≡ paste s at (piece_words p) 4
+unfolding piece_words
+four_stores s at p h =
+    let one : at + 1 ≡ suc at = omega arith in
+    let two : at + 2 ≡ suc (suc at) = omega arith in
+    let three : at + 3 ≡ suc (suc (suc at)) = omega arith in
+    (λ i. set (set (set (set s at p.net_and_orientation) (one i) p.fixed) (two i) p.start) (three i) p.end) ∙ sets-eq (p.net_and_orientation ∷ p.fixed ∷ p.start ∷ p.end ∷ []) s at h
 
 -- ---- one row after the other
 pub gathered_none : (c : SegmentColumns) (s : List ℕ) → Gathered c 0 s s

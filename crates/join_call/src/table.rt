@@ -33,7 +33,11 @@ fn put_row(a: &mut [u64], at: usize, p: Piece)
     requires { at + 4 ≤ length a.old }
     ensures { a.new ≡ paste a.old at (piece_words p) 4 }
 {
-    a[at..at + 4].copy_from_slice(&[p.net_and_orientation, p.fixed, p.start, p.end]);
+    // Four stores: an array of the words, to be copied by `copy_from_slice`, is stored twice, which takes a tenth more of the joiner's own instructions.
+    a[at] = p.net_and_orientation;
+    a[at + 1] = p.fixed;
+    a[at + 2] = p.start;
+    a[at + 3] = p.end;
 }
 
 // A row for each segment.
@@ -41,6 +45,8 @@ fn gather(a: &mut [u64], segments: &Segments<'_>)
     requires { Lists (lent_segments segments.now) (length a.old) }
     ensures { Gathered (lent_segments segments.now) (length segments.now.net.now) a.old a.new }
 {
+    // A copy of the struct of slices: behind the reference the slices would be loaded again for each row.
+    let segments = *segments;
     let n = segments.net.len();
     for i in 0..n {
         put_row(a, n + 4 * i, piece_of(segments.at(i)));
