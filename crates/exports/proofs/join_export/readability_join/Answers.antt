@@ -11,5 +11,5 @@ returns c =
     let told = join-told joined.result in (
       c.write.ensures.value ∙ told.0 ∙ ap (λ a. (result_of a).0) joined.ensures.0,
       c.write.ensures.out_after ∙ told.1 ∙ ap (λ a. join_words (result_of a)) joined.ensures.0,
-      joined.ensures.1.0,
+      joined.ensures.1,
     )
