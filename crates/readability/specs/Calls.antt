@@ -9,7 +9,7 @@ use borrow.Fn.World.{World}
 use borrow.Fn.Run.{Over}
 use borrow.Fn.Plain.{Known}
 use denote.Triple.Clauses.{AtExit}
-use Rattle.drawing.specs.Entries.{Segment, as_lent, columns_of, segment_columns, node_columns, exemption_columns}
+use Rattle.drawing.specs.Entries.{Segment, as_lent, columns_of, segment_columns, lent_segments, lent_nodes, lent_exemptions}
 use Rattle.drawing.specs.Checks.{segments_differ}
 use Rattle.tight_pair.specs.TightPair.{Answered}
 use Rattle.clearance_call.proofs.measure.measure_edge_node_clearance_bounded.Kinds as clearanceKinds
@@ -66,41 +66,35 @@ pub record Contract (n : ℕ) (ps : List (ParamKind n)) (r : ResultKind n) (code
   pub says : (κs : Lfts n) (a : Dens κs ps) (x : (res_t r κs).Denot) (e : AtExit (ended_of n ps r) κs) → Learnt κs a x e → Claim κs a x e
 
 pub record Calls : Type 2 where
-  -- net, orientation, fixed, start, end, id, x, y, width, height, exempt_net, exempt_node, threshold, allowance, scratch
-  pub of-clearance : Contract 13 clearanceKinds.ps clearanceKinds.r clearanceCode.code clearanceCode.name clearanceReads.Asked clearanceReads.Learnt (λ κs a x e. let b = a.1.1.1.1.1 in let c = b.1.1.1.1.1 in
+  -- segments, nodes, exemptions, threshold, allowance, scratch
+  pub of-clearance : Contract 7 clearanceKinds.ps clearanceKinds.r clearanceCode.code clearanceCode.name clearanceReads.Asked clearanceReads.Learnt (λ κs a x e. let b = a.1.1.1 in
       Says clearance (record {
-        segments = segment_columns a.0.now a.1.0.now a.1.1.0.now a.1.1.1.0.now a.1.1.1.1.0.now;
-        nodes = node_columns b.0.now b.1.0.now b.1.1.0.now b.1.1.1.0.now b.1.1.1.1.0.now;
-        exemptions = exemption_columns c.0.now c.1.0.now;
-      }) c.1.1.0 c.1.1.1.0 c.1.1.1.1.0.now x e.1.1.1.1.1.1.1.1.1.1.1.1.1.1.0.now)
-  -- net, orientation, fixed, start, end, allowance, scratch
-  pub of-separation : Contract 6 separationKinds.ps separationKinds.r separationCode.code separationCode.name separationReads.Asked separationReads.Learnt (λ κs a x e. let b = a.1.1.1.1.1 in
-      Says separation (segment_columns a.0.now a.1.0.now a.1.1.0.now a.1.1.1.0.now a.1.1.1.1.0.now) tt b.0 b.1.0.now x e.1.1.1.1.1.1.0.now)
-  -- net, orientation, fixed, start, end, cutoff, allowance, scratch
-  pub of-density : Contract 6 densityKinds.ps densityKinds.r densityCode.code densityCode.name densityReads.Asked densityReads.Learnt (λ κs a x e. let b = a.1.1.1.1.1 in
-      Says density (segment_columns a.0.now a.1.0.now a.1.1.0.now a.1.1.1.0.now a.1.1.1.1.0.now) b.0 b.1.0 b.1.1.0.now x e.1.1.1.1.1.1.1.0.now)
-  pub of-profile : Contract 6 profileKinds.ps profileKinds.r profileCode.code profileCode.name profileReads.Asked profileReads.Learnt (λ κs a x e. let b = a.1.1.1.1.1 in
-      Says profile (segment_columns a.0.now a.1.0.now a.1.1.0.now a.1.1.1.0.now a.1.1.1.1.0.now) b.0 b.1.0 b.1.1.0.now x e.1.1.1.1.1.1.1.0.now)
-  -- net, orientation, fixed, start, end, cutoff, scratch: no allowance
-  pub of-congestion : Contract 6 congestionKinds.ps congestionKinds.r congestionCode.code congestionCode.name congestionReads.Asked congestionReads.Learnt (λ κs a x e. let b = a.1.1.1.1.1 in
-      Says congestion (segment_columns a.0.now a.1.0.now a.1.1.0.now a.1.1.1.0.now a.1.1.1.1.0.now) b.0 tt b.1.0.now x e.1.1.1.1.1.1.0.now)
-  -- net, orientation, fixed, start, end, id, x, y, width, height, exempt_net, exempt_node: nothing that is lent can be written
-  pub of-tight-pair : Contract 12 tightPairKinds.ps tightPairKinds.r tightPairCode.code tightPairCode.name tightPairReads.Asked tightPairReads.Learnt (λ κs a x e. let b = a.1.1.1.1.1 in let c = b.1.1.1.1.1 in
-      Answered (segment_columns a.0.now a.1.0.now a.1.1.0.now a.1.1.1.0.now a.1.1.1.1.0.now)
-      (node_columns b.0.now b.1.0.now b.1.1.0.now b.1.1.1.0.now b.1.1.1.1.0.now) (exemption_columns c.0.now c.1.0.now) x)
-  -- net, orientation, fixed, start, end, to_net, to_orientation, to_fixed, to_start, to_end: with the equations that make a call a `JoinRun`
-  pub of_join : Contract 10 joinKinds.ps joinKinds.r joinCode.code joinCode.name joinReads.Asked joinReads.Learnt (λ κs a x e. let b = a.1.1.1.1.1 in let f = e.1.1.1.1.1 in
-      JoinSays (segment_columns a.0.now a.1.0.now a.1.1.0.now a.1.1.1.0.now a.1.1.1.1.0.now)
+        segments = lent_segments a.0.now;
+        nodes = lent_nodes a.1.0.now;
+        exemptions = lent_exemptions a.1.1.0.now;
+      }) b.0 b.1.0 b.1.1.0.now x e.1.1.1.1.1.0.now)
+  -- segments, allowance, scratch
+  pub of-separation : Contract 3 separationKinds.ps separationKinds.r separationCode.code separationCode.name separationReads.Asked separationReads.Learnt (λ κs a x e. Says separation (lent_segments a.0.now) tt a.1.0 a.1.1.0.now x e.1.1.0.now)
+  -- segments, cutoff, allowance, scratch
+  pub of-density : Contract 3 densityKinds.ps densityKinds.r densityCode.code densityCode.name densityReads.Asked densityReads.Learnt (λ κs a x e. Says density (lent_segments a.0.now) a.1.0 a.1.1.0 a.1.1.1.0.now x e.1.1.1.0.now)
+  pub of-profile : Contract 3 profileKinds.ps profileKinds.r profileCode.code profileCode.name profileReads.Asked profileReads.Learnt (λ κs a x e. Says profile (lent_segments a.0.now) a.1.0 a.1.1.0 a.1.1.1.0.now x e.1.1.1.0.now)
+  -- segments, cutoff, scratch: no allowance
+  pub of-congestion : Contract 3 congestionKinds.ps congestionKinds.r congestionCode.code congestionCode.name congestionReads.Asked congestionReads.Learnt (λ κs a x e. Says congestion (lent_segments a.0.now) a.1.0 tt a.1.1.0.now x e.1.1.0.now)
+  -- segments, nodes, exemptions: nothing that is lent can be written
+  pub of-tight-pair : Contract 6 tightPairKinds.ps tightPairKinds.r tightPairCode.code tightPairCode.name tightPairReads.Asked tightPairReads.Learnt (λ κs a x e. Answered (lent_segments a.0.now) (lent_nodes a.1.0.now) (lent_exemptions a.1.1.0.now) x)
+  -- segments, to_net, to_orientation, to_fixed, to_start, to_end: with the equations that make a call a `JoinRun`
+  pub of_join : Contract 7 joinKinds.ps joinKinds.r joinCode.code joinCode.name joinReads.Asked joinReads.Learnt (λ κs a x e. let b = a.1 in let f = e.1 in
+      JoinSays (lent_segments a.0.now)
       (segment_columns b.0.now b.1.0.now b.1.1.0.now b.1.1.1.0.now b.1.1.1.1.0.now) x
       (segment_columns f.0.now f.1.0.now f.1.1.0.now f.1.1.1.0.now f.1.1.1.1.0.now))
   -- ---- the thin entries, SCOPE 2.6, 6.1: "it is called by columns or by a thin entry, where there is one". A list of records is read as columns, and the entry answers what the call by columns answers of them.
-  -- records, id, x, y, width, height, exempt_net, exempt_node, threshold, allowance, scratch
-  pub of-clearance-by_records : Contract 9 clearanceEntryKinds.ps clearanceEntryKinds.r clearanceEntryCode.code clearanceEntryCode.name clearanceEntryReads.Asked clearanceEntryReads.Learnt (λ κs a x e. let b = a.1 in let c = b.1.1.1.1.1 in
+  -- records, nodes, exemptions, threshold, allowance, scratch
+  pub of-clearance-by_records : Contract 6 clearanceEntryKinds.ps clearanceEntryKinds.r clearanceEntryCode.code clearanceEntryCode.name clearanceEntryReads.Asked clearanceEntryReads.Learnt (λ κs a x e. let b = a.1.1.1 in
       Says clearance (record {
         segments = edge_node_columns a.0.now;
-        nodes = node_columns b.0.now b.1.0.now b.1.1.0.now b.1.1.1.0.now b.1.1.1.1.0.now;
-        exemptions = exemption_columns c.0.now c.1.0.now;
-      }) c.1.1.0 c.1.1.1.0 c.1.1.1.1.0.now x e.1.1.1.1.1.1.1.1.1.1.0.now)
+        nodes = lent_nodes a.1.0.now;
+        exemptions = lent_exemptions a.1.1.0.now;
+      }) b.0 b.1.0 b.1.1.0.now x e.1.1.1.1.1.0.now)
   -- records, allowance, scratch
   pub of-separation-by_records : Contract 2 separationEntryKinds.ps separationEntryKinds.r separationEntryCode.code separationEntryCode.name separationEntryReads.Asked separationEntryReads.Learnt (λ κs a x e. Says separation (parallel_columns a.0.now) tt a.1.0 a.1.1.0.now x e.1.1.0.now)
   -- records, cutoff, allowance, scratch

@@ -8,9 +8,9 @@ pub use congestion_call::{
     measure_parallel_congestion, measure_parallel_congestion_profile_bounded,
 };
 pub use density_call::measure_parallel_density_profile_bounded;
-pub use drawing::{Refusal, number};
+pub use drawing::{Exemptions, Nodes, Refusal, Segments};
 pub use join_call::join;
-pub use joining::JoinAnswer;
+pub use joining::Joined;
 pub use records::{
     EdgeNodeSegment, ParallelSegment, measure_edge_node_clearance_bounded_by_records,
     measure_parallel_congestion_by_records, measure_parallel_congestion_profile_bounded_by_records,
