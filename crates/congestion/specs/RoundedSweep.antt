@@ -65,7 +65,7 @@ only_of h l = keep (λ s. beq h (wire_of s).horizontal) l
 
 -- `congested_length`, `pair_overlap_length` and `minimum_positive_separation`
 abbrev pub Sums : Type 0
-Sums = Float × Float × (Option Float)
+Sums = Float × Float × Option Float
 
 -- one orientation's figures join them `if oriented.len() >= 2`
 unfoldable pub rounded_join : ℕ → Sums → List Segment → Sums

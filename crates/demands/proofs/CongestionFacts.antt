@@ -31,7 +31,7 @@ use Rattle.demands.proofs.Facts.{Facts}
 
 -- figures and the least gap, at a cost
 abbrev Charges : Type 0
-Charges = Charged (ParallelCongestion × (Option Float))
+Charges = Charged (ParallelCongestion × Option Float)
 
 refused-result : (r : Refusal) → result_of (Err r) ≡ (number_of r, zeros)
 unfolding result_of
@@ -42,7 +42,7 @@ unfolding result_of
 reported r = refl
 
 -- the floats of the report: lengths of whole 64ths, and a gap of two coordinates on the grid
-abbrev floats_of : ParallelCongestion × (Option Float) → List Float
+abbrev floats_of : ParallelCongestion × Option Float → List Float
 floats_of f = density.floats f
 
 all-numbers : (s : SegmentColumns) (cutoff : Float) (words : ℕ) → first_of (congestion_conditions s cutoff words) ≡ Ok tt → All Reported (floats_of (all_pairs cutoff (segments s)).value)

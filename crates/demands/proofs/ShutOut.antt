@@ -150,7 +150,7 @@ separation_results = record {
   one_report = λ f g i j e. ((λ x. record { least = (e x).1.minimum; least_nonzero = (e x).1.minimum_positive }), ap (λ r. r.1.visits) e);
 }
 
-module _ (part : Charged (ParallelCongestion × (Option Float)) → Charged (ParallelCongestion × (Option Float))) (A : Type 0) (reach : A → ℕ → Bool) (answers : SegmentColumns → Float → A → ℕ → (Result CongestionReport Refusal)) where
+module _ (part : Charged (ParallelCongestion × Option Float) → Charged (ParallelCongestion × Option Float)) (A : Type 0) (reach : A → ℕ → Bool) (answers : SegmentColumns → Float → A → ℕ → (Result CongestionReport Refusal)) where
   congestion_results : Results (of_congestion part A reach answers)
   congestion_results = record {
     number = λ r. r.0;
@@ -197,7 +197,7 @@ by-separation : (s : SegmentColumns) (words : ℕ) → 32 * (length s.net + 0) +
 by-separation s words h a f n e = from_told separation separation_facts separation_results s tt words (separation_roomy s words h) words (le_refl words) a f n e
 
 -- the three calls have one count, and their figures are parts of one report
-by-congestion : (s : SegmentColumns) (cutoff : Float) (words : ℕ) → 32 * (length s.net + 0) + 64 ≤ words → (a : ℕ) (f : ParallelCongestion × (Option Float)) (n : ℕ) → result_on density s cutoff a words ≡ density.accepted f n → Congestion s cutoff words f n
+by-congestion : (s : SegmentColumns) (cutoff : Float) (words : ℕ) → 32 * (length s.net + 0) + 64 ≤ words → (a : ℕ) (f : ParallelCongestion × Option Float) (n : ℕ) → result_on density s cutoff a words ≡ density.accepted f n → Congestion s cutoff words f n
 by-congestion s cutoff words h a f n e =
     let room = congestion_roomy s cutoff words h in
     let p = passes density density_facts density_results s cutoff words room words (le_refl words) a f n e in

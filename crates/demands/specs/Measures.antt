@@ -100,7 +100,7 @@ clearance = record {
   floats = λ f. present f.least;
   walk = λ d threshold. clearanceWalk.walk_all (exemptions d.exemptions) (λ net. threshold) (segments d.segments) (nodes d.nodes);
   count = λ d threshold. clearanceWalk.visit_count (exemptions d.exemptions) (λ net. threshold) (segments d.segments) (nodes d.nodes);
-  Answer = (Result EdgeNodeClearance Refusal);
+  Answer = Result EdgeNodeClearance Refusal;
   answer = λ d threshold allowance words. clearanceCall.clearance_answer d.segments d.nodes d.exemptions threshold allowance words;
   Result = ℕ × EdgeNodeClearance;
   result = clearanceCall.result_of;
@@ -123,7 +123,7 @@ separation = record {
   floats = λ f. present f.least ++ present f.least_nonzero;
   walk = λ s none. separationWalk.walk_all (segments s);
   count = λ s none. separationWalk.visit_count (segments s);
-  Answer = (Result ParallelSeparation Refusal);
+  Answer = Result ParallelSeparation Refusal;
   answer = λ s none allowance words. separationCall.separation_answer s allowance words;
   Result = ℕ × ParallelSeparation;
   result = separationCall.result_of;
@@ -132,7 +132,7 @@ separation = record {
 }
 
 -- ---- the three calls of congestion (SCOPE 6.2), whose figures are a part of one report
-abbrev pub of_congestion : (Charged (ParallelCongestion × (Option Float)) → Charged (ParallelCongestion × (Option Float))) → (A : Type 0) → (A → ℕ → Bool) → (SegmentColumns → Float → A → ℕ → (Result CongestionReport Refusal)) → Measure
+abbrev pub of_congestion : (Charged (ParallelCongestion × Option Float) → Charged (ParallelCongestion × Option Float)) → (A : Type 0) → (A → ℕ → Bool) → (SegmentColumns → Float → A → ℕ → (Result CongestionReport Refusal)) → Measure
 of_congestion part A reach answers = record {
   Drawing = SegmentColumns;
   Reordered = λ s t. Perm (as_lent s) (as_lent t);
@@ -141,12 +141,12 @@ of_congestion part A reach answers = record {
   Allowance = A;
   reaches = reach;
   conditions = λ s cutoff words. congestion_conditions s cutoff words;
-  Figures = ParallelCongestion × (Option Float);
+  Figures = ParallelCongestion × Option Float;
   figures = λ s cutoff. (part (all_pairs cutoff (segments s))).value;
   floats = λ f. f.0.total_length ∷ f.0.congested_length ∷ f.0.pair_overlap_length ∷ present f.1;
   walk = λ s cutoff. part (congestionWalk.walk_all cutoff (segments s));
   count = λ s cutoff. congestionVisits.visit_count cutoff (segments s);
-  Answer = (Result CongestionReport Refusal);
+  Answer = Result CongestionReport Refusal;
   answer = answers;
   Result = ℕ × CongestionReport;
   result = result_of;

@@ -31,10 +31,10 @@ RefusedWith m drawing settings words number = (r : Run m) → On m drawing setti
 
 -- ---- congestion, by all three calls
 -- total, congested, pair overlap, peak; and the least nonzero close gap
-abbrev congestion_figures : Float → Float → Float → ℕ → Option Float → ParallelCongestion × (Option Float)
+abbrev congestion_figures : Float → Float → Float → ℕ → Option Float → ParallelCongestion × Option Float
 congestion_figures t c o p g = (record { total_length = t; congested_length = c; pair_overlap_length = o; peak_close_neighbors = p }, g)
 
-pub record Congestion (drawing : SegmentColumns) (cutoff : Float) (words : ℕ) (figures : ParallelCongestion × (Option Float)) (visits : ℕ) : Type 0 where
+pub record Congestion (drawing : SegmentColumns) (cutoff : Float) (words : ℕ) (figures : ParallelCongestion × Option Float) (visits : ℕ) : Type 0 where
   pub by-density : Measured density drawing cutoff words figures visits
   -- SCOPE 6.2: "is the same with pair overlap and peak zero"
   pub by-profile : Measured profile drawing cutoff words (without_density (record { value = figures; cost = visits })).value visits
