@@ -27,7 +27,7 @@ use Rattle.drawing.specs.Held.{SegmentsHeld}
 use Rattle.drawing.specs.Inner.Lengths.{SegmentsAgree}
 use Rattle.drawing.specs.Outputs.{written_over}
 use Rattle.drawing.proofs.EntryLaws.{length-segments}
-use Rattle.drawing.proofs.ListOrders.{segments-all, segments-held}
+use Rattle.drawing.proofs.ListOrders.{segments-all}
 use Rattle.drawing.proofs.Fit.{fit-segments}
 use Rattle.drawing.proofs.FirstRefusal.{first_yes, first_no, first-none, first_stop, first_go_on, segment_list_passes, not_passed}
 use Rattle.joining.specs.declared.answer.Joined.{Joined}

@@ -1,15 +1,13 @@
 -- What only inner contracts cite: the state of the sweep, and what each of its steps makes of it.
 -- After the tables of one orientation's n segments (9 n words) come the words that the sweep changes: 3 n that count the active nets, and the tree.
 use Rattle.drawing.specs.declared.refusal.Refusal.{Refusal}
-use Rattle.std.specs.Prelude.{◌≡◌, List, [], ◌∷◌, ℕ, ◌+◌, ◌*◌, ◌^◌, ◌≤◌, ◌<◌, length, get_or, take, drop, Float, Option, Some, Result, Ok}
-use Rattle.std.specs.Float.{nan}
+use Rattle.std.specs.Prelude.{◌≡◌, List, [], ◌∷◌, ℕ, ◌+◌, ◌*◌, ◌^◌, ◌≤◌, ◌<◌, length, get_or, take, drop, Option, Some, Result, Ok}
 use Rattle.laws.specs.Lists.{Mem}
 use Rattle.laws.specs.Inner.Sort.{Sorted}
 use Rattle.laws.specs.Inner.Allowance.{Outcome, left, within, onward}
 use Rattle.floats.specs.Values.{gap_of}
 use Rattle.floats.specs.TotalOrder.{float_at}
 use Rattle.drawing.specs.Entries.{SegmentColumns, segments}
-use Rattle.drawing.specs.Held.{Binary64}
 use Rattle.drawing.specs.Inner.Lengths.{SegmentsAgree}
 use Rattle.drawing.specs.Inner.LeastFloats.{Number}
 use Rattle.rows.specs.Rows.{Row, rows_in_order, oriented}
