@@ -80,8 +80,7 @@ fn look_at_nodes(
     let mut best = so_far;
     for node in 0..nodes.id.len() {
         let entry = nodes.at(node);
-        let other = Aabb::from_node(entry.x, entry.y, entry.width, entry.height);
-        let distance = bounds.distance(other);
+        let distance = bounds.distance(Aabb::from_node(entry));
         let pair = TightPair {
             segment: segment,
             node: node,
@@ -109,12 +108,7 @@ fn look_at_segments(
         }
         let segment = segments.at(position);
         let range = net_range(words, k, segment.net);
-        let bounds = Aabb::from_segment(
-            segment.orientation == 1,
-            segment.fixed,
-            segment.start,
-            segment.end,
-        );
+        let bounds = Aabb::from_segment(segment);
         best = look_at_nodes(words, &range, bounds, position, nodes, best);
     }
     best

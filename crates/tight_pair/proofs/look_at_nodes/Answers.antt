@@ -11,10 +11,9 @@ pub loop-node-init : goal.loop-node-init
 loop-node-init c = nodes-start _ _ _ _ _ _ c.requires
 
 pub loop-node-preserved : goal.loop-node-preserved
-unfolding node_box
 loop-node-preserved c =
     nodes_next _ _ _ _ _ _ _ _ c.loop-node.invariant c.loop-node-test.true _
-    (c.distance-distance.ensures ∙ ap (distance c.args.bounds) (c.from_node-other.ensures ∙ ap node_box c.at-entry.ensures)) _
+    (c.distance-distance.ensures ∙ ap (distance c.args.bounds) (c.from_node.ensures ∙ ap node_box c.at-entry.ensures)) _
     (λ ex net l. c.with_pair-best.ensures ex net l ∙ ap (λ (z : Node). best_with (exempt ex net z.id) c.distance-distance.result (record { segment = c.args.segment; node = c.loop-node.node }) c.loop-node.best) c.at-entry.ensures)
 
 pub returns : goal.returns
