@@ -3,7 +3,7 @@ ghost use Rattle.std.specs.Prelude.{◌≡◌};
 ghost use Rattle.drawing.specs.Entries as Entries;
 ghost use Rattle.boxes.specs.Boxes as Boxes;
 
-use drawing::ends_in_order;
+use drawing::{Node, Segment, ends_in_order};
 use floats::{greater, lesser};
 
 #[derive(Clone, Copy)]
@@ -29,34 +29,34 @@ fn axis_gap(a: f64, b: f64, c: f64, d: f64) -> f64
 
 impl Aabb {
     // A node's box: its right edge is x + width rounded once, its bottom edge likewise.
-    pub fn from_node(x: f64, y: f64, width: f64, height: f64) -> Aabb
-        ensures { result ≡ Boxes.from_node x y width height }
+    pub fn from_node(node: Node) -> Aabb
+        ensures { result ≡ Boxes.node_box node }
     {
         Aabb {
-            left: x,
-            top: y,
-            right: x + width,
-            bottom: y + height,
+            left: node.x,
+            top: node.y,
+            right: node.x + node.width,
+            bottom: node.y + node.height,
         }
     }
 
     // A segment's box, which has no extent across the segment. The ends may be given in either order.
-    pub fn from_segment(horizontal: bool, fixed: f64, start: f64, end: f64) -> Aabb
-        ensures { let ends = Entries.ends_in_order start end in result ≡ Boxes.from_segment horizontal fixed ends.start ends.end }
+    pub fn from_segment(segment: Segment) -> Aabb
+        ensures { result ≡ Boxes.segment_box (Entries.as_taken segment) }
     {
-        let ends = ends_in_order(start, end);
-        if horizontal {
+        let ends = ends_in_order(segment.start, segment.end);
+        if segment.orientation == 1 {
             Aabb {
                 left: ends.start,
-                top: fixed,
+                top: segment.fixed,
                 right: ends.end,
-                bottom: fixed,
+                bottom: segment.fixed,
             }
         } else {
             Aabb {
-                left: fixed,
+                left: segment.fixed,
                 top: ends.start,
-                right: fixed,
+                right: segment.fixed,
                 bottom: ends.end,
             }
         }

@@ -34,8 +34,7 @@ pub(crate) fn box_at(i: usize, nodes: &Nodes<'_>) -> Aabb
     requires { (i < length nodes.now.id.now) × NodesAgree (lent_nodes nodes.now) }
     ensures { result ≡ (indexed_at (lent_nodes nodes.now) i).bounds }
 {
-    let node = nodes.at(i);
-    Aabb::from_node(node.x, node.y, node.width, node.height)
+    Aabb::from_node(nodes.at(i))
 }
 
 // The box around the nodes whose indices are in the first n words.

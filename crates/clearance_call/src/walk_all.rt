@@ -36,12 +36,7 @@ fn walk_segment(
     ensures outcome { (ex : List Exemption) → MarksOf marks.now groups.now tree.now ex segment.net → outcome_of result ≡ within state.remaining (walk ex threshold (as_taken segment) (stored_tree m tree.now 0 m) (so_far state)) }
     ensures refusal { IfErr result (λ r. r ≡ WorkLimitExceeded) }
 {
-    let bounds = Aabb::from_segment(
-        segment.orientation == 1,
-        segment.fixed,
-        segment.start,
-        segment.end,
-    );
+    let bounds = Aabb::from_segment(segment);
     let whole = Subtree {
         first: 0,
         count: m,

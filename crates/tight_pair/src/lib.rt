@@ -42,30 +42,7 @@ fn is_nearer(distance: f64, best: Option<Best>) -> bool
     }
 }
 
-// The best so far, which is the first pair at the least distance, with one pair more. The exemption is searched only where the pair would be the best.
-fn with_pair(
-    words: &[u64],
-    range: &Range<usize>,
-    id: u32,
-    distance: f64,
-    pair: TightPair,
-    best: Option<Best>,
-) -> Option<Best>
-    ensures { (ex : List Exemption) (net : ℕ) → Listed words.now ex net range.now → result ≡ best_with (exempt ex net id) distance pair best }
-{
-    if !is_nearer(distance, best) {
-        return best;
-    }
-    if is_exempt(words, range, id) {
-        return best;
-    }
-    Some(Best {
-        distance: distance,
-        pair: pair,
-    })
-}
-
-// One segment and each node in turn.
+// One segment and each node in turn. The exemption is searched only where the pair would be the best.
 fn look_at_nodes(
     words: &[u64],
     range: &Range<usize>,
@@ -80,13 +57,16 @@ fn look_at_nodes(
     let mut best = so_far;
     for node in 0..nodes.id.len() {
         let entry = nodes.at(node);
-        let other = Aabb::from_node(entry.x, entry.y, entry.width, entry.height);
-        let distance = bounds.distance(other);
-        let pair = TightPair {
-            segment: segment,
-            node: node,
-        };
-        best = with_pair(words, range, entry.id, distance, pair, best);
+        let distance = bounds.distance(Aabb::from_node(entry));
+        if is_nearer(distance, best) && !is_exempt(words, range, entry.id) {
+            best = Some(Best {
+                distance: distance,
+                pair: TightPair {
+                    segment: segment,
+                    node: node,
+                },
+            });
+        }
     }
     best
 }
@@ -109,12 +89,7 @@ fn look_at_segments(
         }
         let segment = segments.at(position);
         let range = net_range(words, k, segment.net);
-        let bounds = Aabb::from_segment(
-            segment.orientation == 1,
-            segment.fixed,
-            segment.start,
-            segment.end,
-        );
+        let bounds = Aabb::from_segment(segment);
         best = look_at_nodes(words, &range, bounds, position, nodes, best);
     }
     best

@@ -14,7 +14,6 @@ pub look_at_nodes-best-requires : goal.look_at_nodes-best-requires
 look_at_nodes-best-requires c = c.requires.1
 
 pub loop-position-preserved : goal.loop-position-preserved
-unfolding segment_box
 loop-position-preserved c =
     segments_next _ _ _ _ _ _ c.loop-position.invariant c.loop-position-test.true _ (subst (λ (z : Segment). Rising c.args.words.now c.args.k → Own c.args.words.now c.args.k z.net c.net_range-range.result) c.at-segment.ensures c.net_range-range.ensures) _ (c.from_segment-bounds.ensures ∙ ap (λ (z : Segment). segment_box (as_taken z)) c.at-segment.ensures) _ c.look_at_nodes-best.ensures
 

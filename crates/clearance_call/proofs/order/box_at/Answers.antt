@@ -4,5 +4,5 @@ use Rattle.clearance.specs.Tree.{indexed}
 use Rattle.clearance_call.proofs.order.box_at.Goals as goal
 
 pub returns : goal.returns
-unfolding indexed node_box
-returns c = c.from_node.ensures ∙ ap node_box c.at-node.ensures
+unfolding indexed
+returns c = c.from_node.ensures ∙ ap node_box c.at.ensures
