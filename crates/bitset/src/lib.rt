@@ -85,6 +85,7 @@ pub fn last_below(words: &[u64], from: usize, to: usize, rest: u64) -> Option<(u
     let first = from / 64;
     let mut at = word_of(words.len(), to);
     let mut bits = rest;
+    // No range counts these words: where the rest has a member none is read, as in most calls.
     while bits == 0 {
         if at <= first {
             return None;

@@ -9,7 +9,7 @@ ghost use Rattle.clearance.specs.Inner.State.{so_far, outcome_of, at_start};
 
 use drawing::{Refusal, least_with, no_gap};
 
-// The figures so far, and the remaining visits. The least distance is a NaN where there is none yet.
+// The figures so far, and the remaining visits. The least distance is a NaN where there is none yet (`no_gap`).
 #[derive(Clone, Copy)]
 pub struct Walking {
     pub violations: usize,

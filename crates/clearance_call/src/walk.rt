@@ -186,6 +186,7 @@ pub(crate) fn visit_segment_candidates(
     let mut state = start;
     let mut waiting = [part; DEPTH];
     let mut top = 0;
+    // No range counts these parts: which are halved is known at the step only.
     loop {
         let step = look_at_part(words, part, bounds, threshold, marks, groups, state)?;
         match step {

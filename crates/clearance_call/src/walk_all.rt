@@ -20,6 +20,7 @@ use clearance::{Subtree, Walking, at_start};
 use drawing::{Refusal, Segment, Segments};
 
 // The walk of one segment, its ends in either order, over the m leaves of the tree; the marks are those of its net.
+// The tree and m stay two parameters, as the marks and groups do: they are parts of the lent scratch, and a struct of them would be taken apart at each leaf.
 fn walk_segment(
     tree: &[u64],
     m: usize,

@@ -65,6 +65,7 @@ fn meet_neighbor(s: &mut [u64], at: usize, starts: bool, gap: f64, meeting: Meet
 }
 
 // One visit, that of wire i: it is paid, and if the wire is of another net it is a neighbor.
+// The event's net, coordinate and kind stay parameters: one caller has them, as values that its loop reads.
 #[tactic(auto, unfolding(floats::specs::Values::gap_of))]
 fn visit(
     s: &mut [u64],

@@ -8,7 +8,7 @@ use bitset::{insert, remove};
 use drawing::Refusal;
 use floats::float_of_key;
 
-// The Rust's variables, and the remaining visits. The least gap is a NaN where there is none yet.
+// The Rust's variables, and the remaining visits. The least gap is a NaN where there is none yet (`no_gap`).
 #[derive(Clone, Copy)]
 pub(crate) struct Sweeping {
     pub congested_active: usize,

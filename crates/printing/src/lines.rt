@@ -68,6 +68,7 @@ pub(crate) fn file_refused(buffer: &mut TextBuffer<'_>, why: Refusal)
     refused_fields(buffer, why);
 }
 
+// The lines of the three measures. They differ in their name and in which fields of which report they print, so that one function would take all that it prints from three others.
 fn clearance_line(buffer: &mut TextBuffer<'_>, answer: Result<EdgeNodeClearance, Refusal>)
     ensures { Put 69 buffer.old (Sheet.clearance_line answer) buffer.new }
 {

@@ -13,6 +13,7 @@ use drawing::{Exemptions, Nodes, Refusal, Segment};
 use lines::{Columns, SegmentRecord};
 
 // A straight wire segment, as clearance takes it.
+// Two records with the same fields, this one and `ParallelSegment`: each call takes its own, as the Rust does (SCOPE 2.6), and a user's code names both.
 #[repr(C)]
 #[derive(Clone, Copy)]
 pub struct EdgeNodeSegment {

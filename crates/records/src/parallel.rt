@@ -16,7 +16,7 @@ use lines::{Columns, SegmentRecord};
 use separation::ParallelSeparation;
 use separation_call::measure_parallel_separation_bounded;
 
-// A straight wire segment, as separation and congestion take it.
+// A straight wire segment, as separation and congestion take it. `EdgeNodeSegment` says why it is a type of its own.
 #[repr(C)]
 #[derive(Clone, Copy)]
 pub struct ParallelSegment {

@@ -8,7 +8,7 @@ use crate::found::Found;
 use drawing::{gap_of_float, least_with, no_gap};
 use floats::absolute;
 
-// The figures so far, and the remaining visits. Each least gap is a NaN where there is none yet.
+// The figures so far, and the remaining visits. Each least gap is a NaN where there is none yet (`no_gap`).
 #[derive(Clone, Copy)]
 pub struct Sweeping {
     pub minimum: f64,

@@ -22,6 +22,8 @@ pub(crate) fn leaf_count(coordinate_count: usize) -> usize
     1usize << levels
 }
 
+// The tree and its number of leaves stay two parameters: the tree is a part of the lent scratch, and a struct that lends it for writing would be made anew for each call.
+
 // Whether another net than the excluded one is active below a node.
 fn other_below(tree: &[u64], node: usize, excluded: u32) -> bool
     requires { node < length tree.now }
