@@ -24,13 +24,7 @@ fn segments_off_grid(segments: &Segments<'_>) -> bool
     requires { SegmentsAgree (lent_segments segments.now) }
     ensures { result ≡ some_of off_grid_segment (Entries.segments (lent_segments segments.now)) }
 {
-    // By an index: `any` wants a closure that may be called at any index, and there is a segment at those of the list only.
-    for i in 0..segments.net.len() {
-        if segment_off_grid(segments.at(i)) {
-            return true;
-        }
-    }
-    false
+    (0..segments.net.len()).any(|i| segment_off_grid(segments.at(i)))
 }
 
 // The checks of segments and scratch, then those of the cutoff and the grid.

@@ -1,8 +1,6 @@
 // The tight pair (SCOPE 12).
-ghost use Rattle.std.specs.Prelude.{◌≡◌};
 ghost use Rattle.drawing.specs.Entries.{segment_columns, node_columns, exemption_columns};
-ghost use Rattle.tight_pair.specs.TightPair.{result_of};
-ghost use Rattle.exports.specs.Words.{pair_words, PairWritten};
+ghost use Rattle.exports.specs.Words.{PairWritten};
 
 use crate::words::write;
 use drawing::{Exemptions, Nodes, Segments};

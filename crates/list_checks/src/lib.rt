@@ -5,7 +5,7 @@ ghost use Rattle.std.specs.Prelude.{◌≡◌};
 ghost use Rattle.laws.specs.Lists.{some_of};
 ghost use Rattle.drawing.specs.Refusals.{first_of};
 ghost use Rattle.drawing.specs.Entries as Entries;
-ghost use Rattle.drawing.specs.Entries.{lent_segments, lent_nodes, lent_exemptions, exemption_columns, segments, nodes};
+ghost use Rattle.drawing.specs.Entries.{lent_segments, lent_nodes, lent_exemptions, segments, nodes};
 ghost use Rattle.drawing.specs.Conditions as Conditions;
 ghost use Rattle.drawing.specs.Checks as Checks;
 ghost use Rattle.drawing.specs.Inner.Lengths.{SegmentsAgree, NodesAgree, compared_entry_conditions};
@@ -77,24 +77,14 @@ fn segments_unfit(segments: &Segments<'_>) -> bool
     requires { SegmentsAgree (lent_segments segments.now) }
     ensures { result ≡ some_of Conditions.unfit_segment (Entries.segments (lent_segments segments.now)) }
 {
-    for i in 0..segments.net.len() {
-        if segment_unfit(segments.at(i)) {
-            return true;
-        }
-    }
-    false
+    (0..segments.net.len()).any(|i| segment_unfit(segments.at(i)))
 }
 
 fn nodes_unfit(nodes: &Nodes<'_>) -> bool
     requires { NodesAgree (lent_nodes nodes.now) }
     ensures { result ≡ some_of Conditions.unfit_node (Entries.nodes (lent_nodes nodes.now)) }
 {
-    for i in 0..nodes.id.len() {
-        if node_unfit(nodes.at(i)) {
-            return true;
-        }
-    }
-    false
+    (0..nodes.id.len()).any(|i| node_unfit(nodes.at(i)))
 }
 
 // The checks 2, 3, 4 and 5 of segments and the number of words of the scratch.

@@ -61,6 +61,13 @@ pub clearance-many : (n : NodeColumns) (e : ExemptionColumns) (threshold : Float
 unfolding clearance_conditions
 clearance-many n e threshold words l h = sym (first_stop (list_conditions (columns_of l) n e) _ (Err (stops n e)) (stops n e) (sym (lists-many l n e h)) refl)
 
+-- what holds of a list that passes, j being its first 4,097 entries, holds of all entries where they pass
+pub passed_all : (c : List Segment → Result Unit Refusal) (r : Refusal) → ((k : List Segment) → 4096 < length k → c k ≡ Err r) → (P : List Segment → Type 0) (j l : List Segment) → j ≡ take 4097 l → (c j ≡ Ok tt → P j) → c l ≡ Ok tt → P l
+passed_all c r many P j l e h =
+    let late : (i k : List Segment) → 4096 < length i → 4096 < length k → (c i ≡ Ok tt → P i) → c k ≡ Ok tt → P k = λ i k a b g.
+    let stop : c k ≡ Err r = many k b in λ passed. cc in
+    few_or_many (λ i k. (c i ≡ Ok tt → P i) → c k ≡ Ok tt → P k) l (λ k g. g) late (subst (λ k. c k ≡ Ok tt → P k) e h)
+
 -- ---- so what a call promises of the columns of the first 4,097 entries it promises of those of all
 module _ {A : Type 0} (answer : SegmentColumns → Result A Refusal) (checked : SegmentColumns → Result Unit Refusal) (IsHeld : SegmentColumns → Type 0) (before : List ℕ) where
   -- the result, the scratch at exit, and what is held where the checks pass
@@ -69,13 +76,11 @@ module _ {A : Type 0} (answer : SegmentColumns → Result A Refusal) (checked : 
 
   pub decided : {told : Result A Refusal} {after : List ℕ} {s : SegmentColumns} (why : Refusal) → ((k : List Segment) → 4096 < length k → checked (columns_of k) ≡ Err why) → ((t : SegmentColumns) → checked t ≡ Err why → answer t ≡ Err why) → (l : List Segment) → s ≡ columns_of (take 4097 l) → Promised told after s → Promised told after (columns_of l)
   decided {told} {after} {s} why many refused l e p =
-      let both : (j k : List Segment) → 4096 < length j → 4096 < length k → Promised told after (columns_of j) → Promised told after (columns_of k) = λ j k x y q.
-      let stop : checked (columns_of k) ≡ Err why = many k y in (
-        q.0 ∙ refused (columns_of j) (many j x) ∙ sym (refused (columns_of k) stop),
-        q.1 ∙ ap (λ r. scratch_after r before) (many j x ∙ sym stop),
-        λ passed. cc,
-      ) in
-      few_or_many (λ j k. Promised told after (columns_of j) → Promised told after (columns_of k)) l (λ k q. q) both (subst (Promised told after) e p)
+      let first = subst (Promised told after) e p in (
+        few_or_many (λ j k. told ≡ answer (columns_of j) → told ≡ answer (columns_of k)) l (λ k q. q) (λ j k x y q. q ∙ refused (columns_of j) (many j x) ∙ sym (refused (columns_of k) (many k y))) first.0,
+        few_or_many (λ j k. after ≡ scratch_after (checked (columns_of j)) before → after ≡ scratch_after (checked (columns_of k)) before) l (λ k q. q) (λ j k x y q. q ∙ ap (λ r. scratch_after r before) (many j x ∙ sym (many k y))) first.1,
+        passed_all (λ k. checked (columns_of k)) why many (λ k. IsHeld (columns_of k)) (take 4097 l) l refl first.2,
+      )
 
 pub separation-refused : (allowance words : ℕ) (s : SegmentColumns) → first_of (separation_conditions s words) ≡ Err TooManyEntries → separation_answer s allowance words ≡ Err TooManyEntries
 unfolding separation_answer

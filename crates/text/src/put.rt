@@ -20,7 +20,16 @@ impl<'a> TextBuffer<'a> {
         ensures contents { result.bytes.now ≡ bytes.old }
         ensures position { result.position ≡ 0 }
     {
-        TextBuffer { bytes, position: 0 }
+        TextBuffer::new_at(bytes, 0)
+    }
+
+    // A text is put from this position on, which may lie beyond the buffer.
+    pub fn new_at(bytes: &'a mut [u8], position: usize) -> TextBuffer<'a>
+        ensures same_reference { result.bytes.ghost_name ≡ bytes.entry.ghost_name }
+        ensures contents { result.bytes.now ≡ bytes.old }
+        ensures position { result.position ≡ position }
+    {
+        TextBuffer { bytes, position }
     }
 
     pub fn position(&self) -> usize

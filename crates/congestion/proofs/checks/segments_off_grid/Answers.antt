@@ -1,20 +1,26 @@
--- `congestion::checks::segments_off_grid` meets its contract: after i turns the first i segments are on the grid. Assumes nothing.
-use mathlib.Core.Path.{sym, ap, ◌∙◌}
+-- `congestion::checks::segments_off_grid` meets its contract: whether a segment is off the grid does not depend on the order of its ends. Assumes nothing.
+use mathlib.Core.Path.{◌≡◌, refl, sym, ◌∙◌}
+use Prim.Native.Nat.{ℕ}
+use native.Mathlib.Omega.{arith}
+use lib.ListN.{length}
+use Rattle.std.specs.List.{list_any, range_with_len}
+use Rattle.std.proofs.Common.{rules, tests}
+use Rattle.std.proofs.lemmas.Iterator.{YieldsList-from_range}
+use Rattle.std.proofs.lemmas.Iterator.Search.{any_from_yields_List}
+use Rattle.drawing.specs.Entries.{SegmentColumns, lent_segments}
+use Rattle.drawing.specs.Inner.Entries.{lent_at, segment_at}
 use Rattle.drawing.specs.Conditions.{off_grid_segment}
 use Rattle.drawing.proofs.Directions.{grid_either_way}
-use Rattle.drawing.proofs.Scans.{segments-none, segments_hit, segments_next, segments-all}
+use Rattle.drawing.proofs.Scans.{segments_scanned}
 use Rattle.congestion.proofs.checks.segments_off_grid.Goals as goal
 
-pub loop-i-init : goal.loop-i-init
-loop-i-init c = segments-none off_grid_segment _ c.requires
-
-pub returns-then-segment_off_grid : goal.returns-then-segment_off_grid
+either_way : (c : SegmentColumns) (i : ℕ) → off_grid_segment (lent_at c i) ≡ off_grid_segment (segment_at c i)
 unfolding off_grid_segment
-returns-then-segment_off_grid c = segments_hit off_grid_segment _ _ c.loop-i.invariant c.loop-i-test.true (grid_either_way _ _ _ ∙ sym (c.segment_off_grid.ensures ∙ ap off_grid_segment c.at.ensures) ∙ c.if-segment_off_grid.true)
-
-pub loop-i-preserved : goal.loop-i-preserved
-unfolding off_grid_segment
-loop-i-preserved c = segments_next off_grid_segment _ _ c.loop-i.invariant c.loop-i-test.true (grid_either_way _ _ _ ∙ sym (c.segment_off_grid.ensures ∙ ap off_grid_segment c.at.ensures) ∙ c.if-segment_off_grid.false)
+either_way c i = sym (grid_either_way _ _ _)
 
 pub returns : goal.returns
-returns c = segments-all off_grid_segment _ _ c.loop-i.invariant c.loop-i-test.false
+returns c =
+    let columns = lent_segments c.args.segments.now in
+    any_from_yields_List (λ (i : ℕ). off_grid_segment (lent_at columns i)) _ _ _ c.any.ensures.ran (YieldsList-from_range 0 _ _ refl (omega arith)) (λ x b q k. search (rules, tests))
+    ∙ (λ j. list_any (λ (i : ℕ). either_way columns i j) (range_with_len 0 (length columns.net)))
+    ∙ segments_scanned off_grid_segment _ c.requires
