@@ -5,10 +5,9 @@ ghost use Rattle.std.specs.Prelude.{◌≡◌, List, ℕ, length};
 ghost use Rattle.drawing.specs.Entries as Entries;
 ghost use Rattle.drawing.specs.Entries.{Exemption, lent_segments, lent_nodes, lent_exemptions, segments, nodes};
 ghost use Rattle.drawing.specs.Inner.Lengths.{SegmentsAgree, NodesAgree};
-ghost use Rattle.clearance.specs.Figures.{exempt};
 ghost use Rattle.exemptions.specs.Inner.Exempting.{Holds, Listed};
 ghost use Rattle.tight_pair.specs.TightPair.{Answered};
-ghost use Rattle.tight_pair.specs.Inner.Looking.{nearer, best_with, look_nodes, look_segments};
+ghost use Rattle.tight_pair.specs.Inner.Looking.{nearer, look_nodes, look_segments};
 
 mod checks;
 
