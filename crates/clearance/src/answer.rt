@@ -17,7 +17,7 @@ pub fn answer_of(
     let report = EdgeNodeClearance {
         minimum_clearance: least,
         violations: state.violations,
-        visits: visits,
+        visits,
     };
     Ok(report)
 }

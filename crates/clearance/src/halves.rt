@@ -29,7 +29,7 @@ pub fn nearer_first(
     ensures { result ≡ nearer_first (record { first = first; count = half; lower = left_lower }) (record { first = middle; count = rest; lower = right_lower }) }
 {
     let left = Subtree {
-        first: first,
+        first,
         count: half,
         lower: left_lower,
     };

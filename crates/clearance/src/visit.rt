@@ -45,7 +45,7 @@ pub fn visit_pair(
     let charged = Walking {
         violations: state.violations,
         least: state.least,
-        remaining: remaining,
+        remaining,
     };
     if exempt {
         return Ok(charged);
@@ -54,15 +54,15 @@ pub fn visit_pair(
     if distance < threshold {
         let violations = state.violations.wrapping_add(1);
         Ok(Walking {
-            violations: violations,
-            least: least,
-            remaining: remaining,
+            violations,
+            least,
+            remaining,
         })
     } else {
         Ok(Walking {
             violations: state.violations,
-            least: least,
-            remaining: remaining,
+            least,
+            remaining,
         })
     }
 }

@@ -74,7 +74,7 @@ fn mark_net(marks: &mut [u64], net: u32, packed: &[u64], ids: &[u64]) -> usize
     MARK_WORDS
 }
 
-// The marks of the net that was walked last, if there was one: the first `used` words.
+// The marks of the net that was walked last, if there was one: the first `used` words. A count and no flag: it ends the slice that a visit reads, so that a net without exemptions has an empty one.
 #[derive(Drop)]
 pub(crate) struct Marks {
     words: [u64; MARK_WORDS],

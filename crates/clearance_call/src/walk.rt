@@ -1,4 +1,5 @@
 // The walk of one segment over the stored tree (SCOPE 5.5 to 5.7), within the remaining visits: a loop over the parts of the tree, with a stack of those that are still to be walked.
+// The tree's words, the box, the threshold, the marks and the groups stay parameters of each function: they are lent by different owners, and each contract speaks of them one by one (`Part`, `Near`, `NetMarks`), so that a struct of them would be taken apart in every contract.
 ghost use Rattle.std.specs.Prelude.{◌≡◌, true, List, ℕ, ◌+◌, ◌^◌, ◌≤◌, ◌<◌, length, get_or, IfErr};
 ghost use Rattle.laws.specs.Charged.{free, visit, runs};
 ghost use Rattle.laws.specs.Inner.Allowance.{within};
@@ -166,8 +167,8 @@ fn look_at_part(
 // The stack never holds more parts: a tree has at most 4,096 leaves, 2 to the power 12, and each part on the stack has at most half of the leaves, rounded up, of the part that was halved.
 const DEPTH: usize = 12;
 
-// The stack is an array with a count beside it: a vector of fixed room would answer a Result or an Option at every push and pop, for cases that its depth rules out.
 // The walk of a segment with the given box, whose net has these marks, over one part of the tree. Where a part is halved, its nearer half is next and its farther half is put on the stack, `waiting`; where a part is done, the one on top of the stack is next.
+// The stack is an array with a count beside it: a vector of fixed room would answer a Result or an Option at every push and pop, for cases that its depth rules out.
 pub(crate) fn visit_segment_candidates(
     words: &[u64],
     whole: Subtree,

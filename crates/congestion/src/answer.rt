@@ -22,7 +22,7 @@ pub fn answer_of(
         peak_close_neighbors: found.peak_close_neighbors,
     };
     let report = CongestionReport {
-        congestion: congestion,
+        congestion,
         minimum_positive: found.minimum_positive,
         visits: visits_used(allowance, found.remaining),
     };
@@ -42,7 +42,7 @@ pub fn without_density(
         ..report.congestion
     };
     Ok(CongestionReport {
-        congestion: congestion,
+        congestion,
         ..report
     })
 }

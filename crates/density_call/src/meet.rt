@@ -113,8 +113,8 @@ pub(crate) fn meet(
         neighbors: 0,
         changed: 0,
         highest: 0,
-        least: least,
-        remaining: remaining,
+        least,
+        remaining,
     };
     while let Some((i, below)) = last_below(&s[9 * n..], from, to, rest) {
         if meeting.remaining == 0 {

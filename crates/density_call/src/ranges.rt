@@ -9,7 +9,7 @@ pub(crate) fn fill_ranges(s: &mut [u64], n: usize, cutoff: f64)
     ensures frame { RangesOnly n s.old s.new }
     ensures ranges { FillsRanges s.old s.new n cutoff }
 {
-    // By index, since a column of the slice is read while two others are written.
+    // By an index: a column of the slice is read while two others are written.
     let mut range = 0..0;
     for j in 0..n {
         range = cutoff_range(&s[4 * n..5 * n], j, cutoff, range);

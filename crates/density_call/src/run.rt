@@ -37,7 +37,7 @@ pub(crate) fn run_events(s: &mut [u64], n: usize, allowance: usize) -> Result<Fo
         previous: float_of_key(s[2 * n + first]),
         remaining: allowance,
     };
-    // By index, since an event writes the same scratch, behind the events.
+    // By an index: an event writes the same scratch, after the events.
     for q in 0..2 * n {
         let e = s[q] as usize;
         state = handle_event(s, n, e, state)?;

@@ -94,8 +94,8 @@ fn deactivate(s: &mut [u64], n: usize, j: usize)
     remove(&mut s[9 * n..], j);
 }
 
-// A start and an end are two functions: one for both, with a flag, would choose at each step, since they read other columns, raise or lower the counts, and mark the wire after the meeting in opposite ways.
 // Wire j starts: event n + j.
+// A start and an end are two functions, and so are the parts of each: one for both, with a flag, would choose at each step, since they read other columns, raise or lower the counts, and mark the wire after the meeting in opposite ways.
 pub(crate) fn start_event(
     s: &mut [u64],
     n: usize,

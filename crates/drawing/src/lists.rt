@@ -16,7 +16,7 @@ fn floats_held(column: &[f64])
     ensures { (i : ℕ) → Binary64 (get_or column.now i nan) }
 {}
 
-// A segment as an entry of these columns: the orientation byte is 1 where it is horizontal and 0 where it is vertical.
+// A segment as an entry of these columns: the orientation byte is 1 where it is horizontal and 0 where it is vertical. It stays a byte, as the column has it (SCOPE 2.5): another one is refused, and no type excludes it.
 #[derive(Clone, Copy)]
 pub struct Segment {
     pub net: u32,

@@ -67,7 +67,7 @@ fn first_node(words: &[u64], a: usize, b: usize, id: u32) -> usize
     at
 }
 
-// The indices of that net's exemptions among the first k words, which ascend once they are gathered.
+// The indices of that net's exemptions among the first k words, which ascend once they are gathered. The words may go on after the k exemptions, so k stays beside the slice.
 pub fn net_range(words: &[u64], k: usize, net: u32) -> Range<usize>
     ensures { Rising words.now k → Own words.now k net result }
 {

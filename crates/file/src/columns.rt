@@ -1,4 +1,4 @@
-// The columns of a drawing of the program's limits: 120 segments, 120 nodes and 240 exemptions.
+// The columns of a drawing of the program's limits: 120 segments, 120 nodes and 240 exemptions. Arrays side by side, since the calls take columns and there is no heap.
 ghost use Rattle.std.specs.Prelude.{◌≡◌, ◌≤◌, take, replicate};
 ghost use Rattle.std.specs.Float.{binary64};
 ghost use Rattle.std.specs.Float.Ieee.{of_bits};

@@ -106,7 +106,7 @@ pub fn check_segments(segments: &Segments<'_>, words: usize) -> Result<(), Refus
     Ok(())
 }
 
-// The checks 2, 3 and 5 of segments, for a call without scratch.
+// The checks 2, 3 and 5 of segments, for a call without scratch: `check_segments` tests the scratch between them.
 pub fn check_segment_list(segments: &Segments<'_>) -> Result<(), Refusal>
     ensures { result ≡ first_of (Checks.segment_list_conditions (lent_segments segments.now)) }
 {

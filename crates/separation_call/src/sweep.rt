@@ -57,6 +57,7 @@ fn with_nearest(
 }
 
 // A segment starts: its net is counted, and its line's summary is set. `work` holds the counts and after them the tree.
+// A start and an end are two functions here and below: a start searches before it is counted, and all that both do is `set`.
 fn enter(
     work: &mut [u64],
     n: usize,

@@ -59,11 +59,8 @@ fn look_at_nodes(
         let distance = bounds.distance(Aabb::from_node(entry));
         if is_nearer(distance, best) && !is_exempt(words, range, entry.id) {
             best = Some(Best {
-                distance: distance,
-                pair: TightPair {
-                    segment: segment,
-                    node: node,
-                },
+                distance,
+                pair: TightPair { segment, node },
             });
         }
     }
