@@ -1,4 +1,5 @@
 // The sweep over all events of one orientation. The scratch holds the tables of its n wires (8 n words) and after them the words that the sweep changes.
+// `separation_call` has a sweep of its own: the two share the order of events and nothing else, neither the figures, nor the tables, nor what holds between two events.
 ghost use Rattle.std.specs.Prelude.{◌≡◌};
 ghost use Rattle.laws.specs.Inner.Allowance.{within};
 ghost use Rattle.congestion.specs.Walk.{sweep};

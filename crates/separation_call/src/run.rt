@@ -1,4 +1,5 @@
 // The sweep over all events of one orientation. The scratch holds the tables of its n segments (9 n words) and after them the words that the sweep changes: 3 n for the active nets, then the tree.
+// `density_call` has a sweep of its own, and says why.
 ghost use Rattle.std.specs.Prelude.{◌≡◌, List, [], ℕ, ◌<◌, ◌^◌, length};
 ghost use Rattle.laws.specs.Lists.{Mem};
 ghost use Rattle.laws.specs.Inner.Allowance.{within};
