@@ -45,11 +45,11 @@ impl DrawingColumns {
         }
     }
 
-    // The first entries of each list, lent.
+    // The first entries of each list, lent: all of them where there are no more.
     pub fn segments(&self, count: usize) -> Segments<'_>
-        requires { «count» ≤ 120 }
         ensures { lent_segments result ≡ segment_columns (take «count» self.now.net) (take «count» self.now.orientation) (take «count» self.now.fixed) (take «count» self.now.start) (take «count» self.now.end) }
     {
+        let count = count.min(120);
         Segments {
             net: &self.net[..count],
             orientation: &self.orientation[..count],
@@ -60,9 +60,9 @@ impl DrawingColumns {
     }
 
     pub fn nodes(&self, count: usize) -> Nodes<'_>
-        requires { «count» ≤ 120 }
         ensures { lent_nodes result ≡ node_columns (take «count» self.now.id) (take «count» self.now.x) (take «count» self.now.y) (take «count» self.now.width) (take «count» self.now.height) }
     {
+        let count = count.min(120);
         Nodes {
             id: &self.id[..count],
             x: &self.x[..count],
@@ -73,9 +73,9 @@ impl DrawingColumns {
     }
 
     pub fn exemptions(&self, count: usize) -> Exemptions<'_>
-        requires { «count» ≤ 240 }
         ensures { lent_exemptions result ≡ exemption_columns (take «count» self.now.exempt_net) (take «count» self.now.exempt_node) }
     {
+        let count = count.min(240);
         Exemptions {
             net: &self.exempt_net[..count],
             node: &self.exempt_node[..count],
