@@ -14,7 +14,7 @@ use Rattle.laws.proofs.Tests.{decide, clash, le_or_lt}
 use Rattle.bitset.specs.Inner.Members.{member, inserted}
 use Rattle.bitset.proofs.Sets.{length_inserted, member_beyond, member-none, member-kept, member_new, member-only}
 use Rattle.drawing.specs.Entries.{Exemption}
-use Rattle.std.specs.declared.ops.Range.{Range}
+use Rattle.exemptions.specs.declared.Range.{Range}
 use Rattle.clearance.specs.Figures.{exempt}
 use Rattle.clearance_call.specs.Inner.Stored.{leaf_at}
 use Rattle.exemptions.specs.Inner.Exempting.{word_at, node_of, Holds, LowerBound, Own, Listed}
@@ -78,7 +78,7 @@ module _ (packed ids : List ℕ) (m from to : ℕ) where
   }
 
 -- all are done: the marks are those of the net
-module _ (packed ids : List ℕ) (m : ℕ) (r : Range ℕ) (marks : List ℕ) (i : ℕ) (u : NetMarking packed ids m r.start r.end marks i) (k net : ℕ) (done : r.end ≤ i) (own : Own packed k net r) (ex : List Exemption) (groups w : List ℕ) (holds : Holds packed ex) (count : length ex ≡ k) (b : Grouped ids groups w m) where
+module _ (packed ids : List ℕ) (m : ℕ) (r : Range) (marks : List ℕ) (i : ℕ) (u : NetMarking packed ids m r.from r.to marks i) (k net : ℕ) (done : r.to ≤ i) (own : Own packed k net r) (ex : List Exemption) (groups w : List ℕ) (holds : Holds packed ex) (count : length ex ≡ k) (b : Grouped ids groups w m) where
   l : Listed packed ex net r
   l = listed_of packed k net r own ex holds count
 
@@ -90,7 +90,7 @@ module _ (packed ids : List ℕ) (m : ℕ) (r : Range ℕ) (marks : List ℕ) (i
     exempt_where_marked : member marks g ≡ true → true ≡ exempt ex net (leaf_at w j).id
     exempt_where_marked t =
         let o = u.only g t in
-        let inside : o.0 < r.end = omega (arith, o.2, u.end) in
+        let inside : o.0 < r.to = omega (arith, o.2, u.end) in
         listed packed ex net r l (leaf_at w j).id o.0 (omega (arith, own.inside)) (own.own o.0 o.1 inside) (sym o.3 ∙ (b.there j less).1)
 
     -- and where one of them names the leaf's id, its group is marked
@@ -107,7 +107,7 @@ module _ (packed ids : List ℕ) (m : ℕ) (r : Range ℕ) (marks : List ℕ) (i
   net-marked = record { leaf = λ j h. ap (λ (s : List ℕ). member s (get_or groups j 0)) (take_all 64 marks (omega (arith, u.room))) ∙ leaf-marked j (omega (arith, b.whole)) }
 
 -- ---- no group is marked: the net has no exemptions
-pub none-marked : (packed : List ℕ) (k net : ℕ) (r : Range ℕ) → Own packed k net r → r.start ≡ r.end → (groups w : List ℕ) (ex : List Exemption) → Holds packed ex → length ex ≡ k → MarksOf [] groups w ex net
+pub none-marked : (packed : List ℕ) (k net : ℕ) (r : Range) → Own packed k net r → r.from ≡ r.to → (groups w : List ℕ) (ex : List Exemption) → Holds packed ex → length ex ≡ k → MarksOf [] groups w ex net
 none-marked packed k net r own empty groups w ex holds count = record { leaf = λ j inside. member_beyond [] (get_or groups j 0) (omega arith) ∙ none-there packed ex net r (listed_of packed k net r own ex holds count) (leaf_at w j).id (omega arith) }
 
 -- ---- the net is the same as before

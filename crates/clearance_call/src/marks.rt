@@ -62,8 +62,8 @@ fn mark_net(marks: &mut [u64], net: u32, packed: &[u64], ids: &[u64]) -> usize
     ensures { (result ≤ 64) × ((ex : List Exemption) (groups w : List ℕ) → Holds packed.now ex → length ex ≡ length packed.now → (0 < length packed.now → Grouped ids.now groups w (length ids.now)) → MarksOf (take result marks.new) groups w ex net) }
 {
     let range = net_range(packed, packed.len(), net);
-    let from = range.start;
-    let to = range.end;
+    let from = range.from;
+    let to = range.to;
     if from == to {
         return 0;
     }

@@ -13,7 +13,7 @@ use lib.Seq.{get_or-take, get_or-drop, get_or-set_same, get_or-set_other, take-s
 use Rattle.laws.proofs.Tests.{same_test, ltb_same, le_or_lt}
 use Rattle.floats.specs.TotalOrder.{key_of, float_at}
 use Rattle.floats.specs.Grid.{on_grid}
-use Rattle.std.specs.declared.ops.Range.{Range}
+use Rattle.key_ranges.specs.declared.range.Range.{Range}
 use Rattle.key_ranges.specs.Inner.Reach.{Ascending, LowerBound, InBounds, Reached}
 use Rattle.congestion.specs.Wires.{Wire, cutoff_of}
 use Rattle.congestion.specs.Inner.Keys.{Key}
@@ -40,15 +40,15 @@ module _ (n : ℕ) (s keys : List ℕ) (len : length keys ≡ n) (same : (i : �
       let e = same i h in
       ltb_same i r (get_or s (4 * n + i) 0) k (λ p. omega (arith, b.below i p)) (λ p. elim (le_or_lt r i) [ inl q ↦ absurd (omega (arith, b.above i q (omega arith))) | inr q ↦ q ])
 
-  found : (cutoff : Float) (j : ℕ) (r : Range ℕ) → j < n → Reached keys j cutoff r → Found n cutoff s j r.start r.end
+  found : (cutoff : Float) (j : ℕ) (r : Range) → j < n → Reached keys j cutoff r → Found n cutoff s j r.from r.to
   found cutoff j r h f = record {
-    inside = omega (arith, f.end.inside);
-    low = λ i q. by-low (key_of (sub binary64 (float_at (get_or s (4 * n + j) 0)) cutoff)) r.start i (subst (λ (w : ℕ). LowerBound keys (key_of (sub binary64 (float_at w) cutoff) + 1) r.start) (same j h) f.start) q;
-    high = λ i q. by_high (key_of (add binary64 (float_at (get_or s (4 * n + j) 0)) cutoff)) r.end i (subst (λ (w : ℕ). LowerBound keys (key_of (add binary64 (float_at w) cutoff)) r.end) (same j h) f.end) q;
+    inside = omega (arith, f.to.inside);
+    low = λ i q. by-low (key_of (sub binary64 (float_at (get_or s (4 * n + j) 0)) cutoff)) r.from i (subst (λ (w : ℕ). LowerBound keys (key_of (sub binary64 (float_at w) cutoff) + 1) r.from) (same j h) f.from) q;
+    high = λ i q. by_high (key_of (add binary64 (float_at (get_or s (4 * n + j) 0)) cutoff)) r.to i (subst (λ (w : ℕ). LowerBound keys (key_of (add binary64 (float_at w) cutoff)) r.to) (same j h) f.to) q;
   }
 
 -- ---- the ranges of the first j wires are written, and the search for the next one begins at `last`
-pub record Filling (n : ℕ) (cutoff : Float) (s₀ s : List ℕ) (j : ℕ) (last : Range ℕ) : Type 0 where
+pub record Filling (n : ℕ) (cutoff : Float) (s₀ s : List ℕ) (j : ℕ) (last : Range) : Type 0 where
   pub given : Rangeable s₀ n
   pub small : j ≤ n
   pub near : InBounds n last
@@ -57,7 +57,7 @@ pub record Filling (n : ℕ) (cutoff : Float) (s₀ s : List ℕ) (j : ℕ) (las
   pub done : (i : ℕ) → i < j → Found n cutoff s₀ i (get_or s (6 * n + i) 0) (get_or s (7 * n + i) 0)
 
 module _ (n : ℕ) (cutoff : Float) (s₀ : List ℕ) where
-  module _ (s : List ℕ) (j : ℕ) (last : Range ℕ) (f : Filling n cutoff s₀ s j last) where
+  module _ (s : List ℕ) (j : ℕ) (last : Range) (f : Filling n cutoff s₀ s j last) where
     -- column 4 as it is lent
     abbrev column : List ℕ
     column = mid_of (4 * n) (5 * n - 4 * n) s
@@ -77,21 +77,21 @@ module _ (n : ℕ) (cutoff : Float) (s₀ : List ℕ) where
       rw column-length f.near,
     )
 
-    module _ (h : j < n) (r : Range ℕ) (found-r : Reached column j cutoff r) where
+    module _ (h : j < n) (r : Range) (found-r : Reached column j cutoff r) where
       abbrev next : List ℕ
-      next = set (set s (6 * n + j) r.start) (7 * n + j) r.end
+      next = set (set s (6 * n + j) r.from) (7 * n + j) r.to
 
       room : 8 * n ≤ length s
       room = omega (arith, f.len, f.given.room)
 
-      from_at : get_or next (6 * n + j) 0 ≡ r.start
-      from_at = get_or-set_other (set s (6 * n + j) r.start) (7 * n + j) (6 * n + j) r.end 0 (λ e. omega arith) ∙ get_or-set_same s (6 * n + j) r.start 0 (omega (arith, room))
+      from_at : get_or next (6 * n + j) 0 ≡ r.from
+      from_at = get_or-set_other (set s (6 * n + j) r.from) (7 * n + j) (6 * n + j) r.to 0 (λ e. omega arith) ∙ get_or-set_same s (6 * n + j) r.from 0 (omega (arith, room))
 
-      to_at : get_or next (7 * n + j) 0 ≡ r.end
-      to_at = get_or-set_same (set s (6 * n + j) r.start) (7 * n + j) r.end 0 (simp length-set (omega (arith, room)))
+      to_at : get_or next (7 * n + j) 0 ≡ r.to
+      to_at = get_or-set_same (set s (6 * n + j) r.from) (7 * n + j) r.to 0 (simp length-set (omega (arith, room)))
 
       other_at : (k : ℕ) → (k ≡ 6 * n + j → ⊥) → (k ≡ 7 * n + j → ⊥) → get_or next k 0 ≡ get_or s k 0
-      other_at k p q = get_or-set_other (set s (6 * n + j) r.start) (7 * n + j) k r.end 0 q ∙ get_or-set_other s (6 * n + j) k r.start 0 p
+      other_at k p q = get_or-set_other (set s (6 * n + j) r.from) (7 * n + j) k r.to 0 q ∙ get_or-set_other s (6 * n + j) k r.from 0 p
 
       done_next : (i : ℕ) → i < j + 1 → Found n cutoff s₀ i (get_or next (6 * n + i) 0) (get_or next (7 * n + i) 0)
       done_next i p = elim (le_or_lt j i) [
@@ -103,11 +103,11 @@ module _ (n : ℕ) (cutoff : Float) (s₀ : List ℕ) where
       filling_next = record {
         given = f.given;
         small = omega arith;
-        near = record { start = omega (arith, column-length, found-r.start.inside); end = omega (arith, column-length, found-r.end.inside) };
-        len = length-set (set s (6 * n + j) r.start) (7 * n + j) r.end ∙ length-set s (6 * n + j) r.start ∙ f.len;
+        near = record { from = omega (arith, column-length, found-r.from.inside); to = omega (arith, column-length, found-r.to.inside) };
+        len = length-set (set s (6 * n + j) r.from) (7 * n + j) r.to ∙ length-set s (6 * n + j) r.from ∙ f.len;
         kept = record {
-          front = take-set-le (6 * n) (set s (6 * n + j) r.start) (7 * n + j) r.end (omega arith) ∙ take-set-le (6 * n) s (6 * n + j) r.start (omega arith) ∙ f.kept.front;
-          behind = drop-set-lt (8 * n) (set s (6 * n + j) r.start) (7 * n + j) r.end (omega arith) ∙ drop-set-lt (8 * n) s (6 * n + j) r.start (omega arith) ∙ f.kept.behind;
+          front = take-set-le (6 * n) (set s (6 * n + j) r.from) (7 * n + j) r.to (omega arith) ∙ take-set-le (6 * n) s (6 * n + j) r.from (omega arith) ∙ f.kept.front;
+          behind = drop-set-lt (8 * n) (set s (6 * n + j) r.from) (7 * n + j) r.to (omega arith) ∙ drop-set-lt (8 * n) s (6 * n + j) r.from (omega arith) ∙ f.kept.behind;
         };
         done = done_next;
       }
@@ -135,5 +135,5 @@ module _ (c : ℕ) (L : List Wire) (cutoff : Float) (s₀ s : List ℕ) (words :
   ranged : (n : ℕ) → length L ≡ n → Keyed n → AllFound n → Ranged c L s
   ranged n size = subst (λ (n : ℕ). Keyed n → AllFound n → Ranged c L s) size all_ranged
 
-pub filled : (n : ℕ) (cutoff : Float) (s₀ s : List ℕ) (j : ℕ) (last : Range ℕ) → Filling n cutoff s₀ s j last → n ≤ j → ((i : ℕ) → get_or s₀ i 0 < 2 ^ 64) → FillsRanges s₀ s n cutoff
+pub filled : (n : ℕ) (cutoff : Float) (s₀ s : List ℕ) (j : ℕ) (last : Range) → Filling n cutoff s₀ s j last → n ≤ j → ((i : ℕ) → get_or s₀ i 0 < 2 ^ 64) → FillsRanges s₀ s n cutoff
 filled n cutoff s₀ s j last f h words = λ c L size e p g keys. ranged c L cutoff s₀ s words e p g n size keys (λ i q. f.done i (omega arith))

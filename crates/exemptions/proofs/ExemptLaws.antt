@@ -32,8 +32,8 @@ use Rattle.drawing.specs.Inner.Lengths.{ExemptionsAgree}
 use Rattle.drawing.specs.Conditions.{differ}
 use Rattle.drawing.specs.Checks.{exemptions_differ}
 use Rattle.drawing.proofs.EntryLaws.{length-exemptions}
-use Rattle.std.specs.declared.ops.Range.{Range}
 use Rattle.clearance.specs.Figures.{exempt}
+use Rattle.exemptions.specs.declared.Range.{Range}
 use Rattle.exemptions.specs.Inner.Exempting.{word, unpacked, word_at, node_of, Ascending, Rising, Holds, Gathered, LowerBound, Own, Listed}
 
 -- ---- the search by halving: if the keys ascend, the index sought is one of the n from `at` on, or the one after them
@@ -118,7 +118,7 @@ module _ (words : List ℕ) (k net from : ℕ) (f : LowerBound (word_at words) 0
   own-from : (i : ℕ) → word_at words i / 4294967296 ≡ net → from ≤ i
   own-from i e = elim (le_or_lt from i) [ inl p ↦ p | inr p ↦ absurd (omega (arith, f.below i (omega arith) p)) ]
 
-  pub own-between : (to : ℕ) → LowerBound (word_at words) from k ((net + 1) * 4294967296) to → Own words k net (record { start = from; end = to })
+  pub own-between : (to : ℕ) → LowerBound (word_at words) from k ((net + 1) * 4294967296) to → Own words k net (record { from = from; to = to })
   own-between to t = record {
     ordered = t.from;
     inside = t.to;
@@ -127,19 +127,19 @@ module _ (words : List ℕ) (k net from : ℕ) (f : LowerBound (word_at words) 0
   }
 
   -- no words follow those of the last net
-  pub own-last : net ≡ 4294967295 → ((i : ℕ) → word_at words i < 2 ^ 64) → Own words k net (record { start = from; end = k })
+  pub own-last : net ≡ 4294967295 → ((i : ℕ) → word_at words i < 2 ^ 64) → Own words k net (record { from = from; to = k })
   own-last last fit = record { ordered = f.to; inside = omega arith; own = λ i p q. omega (arith, f.above i p q, fit i); others = λ i h e. (own-from i e, h) }
 
 -- the range of a net can be searched by node
-nodes_ascend : (words : List ℕ) (k net : ℕ) (r : Range ℕ) → Rising words k → Own words k net r → Ascending (node_of words) r.start r.end
+nodes_ascend : (words : List ℕ) (k net : ℕ) (r : Range) → Rising words k → Own words k net r → Ascending (node_of words) r.from r.to
 nodes_ascend words k net r h o i j p q t = omega (arith, o.own i p (omega arith), o.own j (omega arith) t, h.order i j (omega arith) q (omega (arith, o.inside)))
 
 -- the range found among the first k words is that of the net's exemptions
-pub listed_of : (packed : List ℕ) (k net : ℕ) (range : Range ℕ) → Own packed k net range → (ex : List Exemption) → Holds packed ex → length ex ≡ k → Listed packed ex net range
+pub listed_of : (packed : List ℕ) (k net : ℕ) (range : Range) → Own packed k net range → (ex : List Exemption) → Holds packed ex → length ex ≡ k → Listed packed ex net range
 listed_of packed k net range o ex h e = record { holds = h; places = subst (λ (z : ℕ). Own packed z net range) (sym e) o }
 
 -- ---- what a search finds
-module _ (words : List ℕ) (ex : List Exemption) (net : ℕ) (r : Range ℕ) (l : Listed words ex net r) (id : ℕ) where
+module _ (words : List ℕ) (ex : List Exemption) (net : ℕ) (r : Range) (l : Listed words ex net r) (id : ℕ) where
   -- a word is the exemption of the net and the node
   test : ℕ → Bool
   test u = eqb (unpacked u).net net && eqb (unpacked u).node id
@@ -171,24 +171,24 @@ module _ (words : List ℕ) (ex : List Exemption) (net : ℕ) (r : Range ℕ) (l
     | inr f ↦ sym (by-words ∙ f)
   ]
 
-  pub none-there : r.end ≤ r.start → false ≡ exempt ex net id
+  pub none-there : r.to ≤ r.from → false ≡ exempt ex net id
   none-there e = unlisted (λ i h a b. let z = l.places.others i h a in omega arith)
 
   -- the range does not extend beyond the words
-  pub never_beyond : length words < r.end → false ≡ exempt ex net id
+  pub never_beyond : length words < r.to → false ≡ exempt ex net id
   never_beyond h = absurd (omega (arith, l.places.inside, l.holds.rising.room))
 
-  order : Ascending (node_of words) r.start r.end
+  order : Ascending (node_of words) r.from r.to
   order = nodes_ascend words (length ex) net r l.holds.rising l.places
 
-  module _ (at : ℕ) (search : Ascending (node_of words) r.start r.end → LowerBound (node_of words) r.start r.end id at) where
-    b : LowerBound (node_of words) r.start r.end id at
+  module _ (at : ℕ) (search : Ascending (node_of words) r.from r.to → LowerBound (node_of words) r.from r.to id at) where
+    b : LowerBound (node_of words) r.from r.to id at
     b = search order
 
-    pub not_found : r.end ≤ at → false ≡ exempt ex net id
+    pub not_found : r.to ≤ at → false ≡ exempt ex net id
     not_found h = unlisted (λ i k a g. let z = l.places.others i k a in omega (arith, b.below i z.0 (omega arith)))
 
-    pub found : at < r.end → eqb (node_of words at) id ≡ exempt ex net id
+    pub found : at < r.to → eqb (node_of words at) id ≡ exempt ex net id
     found h = elim (decide (eqb (node_of words at) id)) [
       | inl t ↦ t ∙ listed at (omega (arith, l.places.inside)) (l.places.own at b.from h) (eqb-true (node_of words at) id t)
       | inr f ↦ f ∙ unlisted (λ i k a g. eqb-false (node_of words at) id f (same i k a g))

@@ -9,10 +9,16 @@ ghost use Rattle.exemptions.specs.Inner.Exempting.{word, word_at, node_of, Ascen
 
 use drawing::Exemptions;
 use sorting::sort_indices;
-use std::ops::Range;
 
 // 2 to the power 32: the upper half of a word is the net, the lower the node.
 pub const HALF: u64 = 4294967296;
+
+// The indices of one net's exemptions: from `from` on, and before `to`. A type of its own, since std's `Range` is not `Copy`.
+#[derive(Clone, Copy)]
+pub struct Range {
+    pub from: usize,
+    pub to: usize,
+}
 
 fn pack(net: u32, node: u32) -> u64
     ensures { result ≡ word net node }
@@ -68,24 +74,24 @@ fn first_node(words: &[u64], a: usize, b: usize, id: u32) -> usize
 }
 
 // The indices of that net's exemptions among the first k words, which ascend once they are gathered. The words may go on after the k exemptions, so k stays beside the slice.
-pub fn net_range(words: &[u64], k: usize, net: u32) -> Range<usize>
+pub fn net_range(words: &[u64], k: usize, net: u32) -> Range
     ensures { Rising words.now k → Own words.now k net result }
 {
     let from = first_at_least(words, 0, k, net as u64 * HALF);
     // the words of the last net extend to the end
     if net == u32::MAX {
-        return from..k;
+        return Range { from, to: k };
     }
     let to = first_at_least(words, from, k, (net as u64 + 1) * HALF);
-    from..to
+    Range { from, to }
 }
 
 // Whether a node of that id is exempt for the net whose exemptions are in the range that `net_range` returns for gathered words. Where the range is empty or extends beyond the words, no node is.
-pub fn is_exempt(words: &[u64], range: &Range<usize>, id: u32) -> bool
-    ensures { (ex : List Exemption) (net : ℕ) → Listed words.now ex net range.now → result ≡ exempt ex net id }
+pub fn is_exempt(words: &[u64], range: Range, id: u32) -> bool
+    ensures { (ex : List Exemption) (net : ℕ) → Listed words.now ex net range → result ≡ exempt ex net id }
 {
-    let from = range.start;
-    let to = range.end;
+    let from = range.from;
+    let to = range.to;
     if to <= from {
         return false;
     }

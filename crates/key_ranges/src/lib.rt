@@ -3,4 +3,4 @@
 
 pub mod range;
 
-pub use range::cutoff_range;
+pub use range::{Range, cutoff_range};

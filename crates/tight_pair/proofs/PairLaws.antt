@@ -27,7 +27,7 @@ use Rattle.drawing.specs.Gaps.{least_gap, lesser_gap}
 use Rattle.drawing.proofs.GapLaws.{least-none, least-one, least_join}
 use Rattle.drawing.proofs.EntryLaws.{length-segments, segments-at, length-nodes, nodes-at}
 use Rattle.boxes.specs.declared.aabb.Aabb.{Aabb}
-use Rattle.std.specs.declared.ops.Range.{Range}
+use Rattle.exemptions.specs.declared.Range.{Range}
 use Rattle.tight_pair.specs.declared.Best.{Best}
 use Rattle.tight_pair.specs.declared.TightPair.{TightPair}
 use Rattle.boxes.specs.Boxes.{node_box, segment_box, distance}
@@ -75,12 +75,12 @@ module _ {A S : Type 0} (step : ℕ → A → S → S) (l : List A) (i : ℕ) (b
 abbrev node_step : List Exemption → ℕ → Aabb → ℕ → ℕ → Node → Option Best → Option Best
 node_step ex net box i j n b = best_with (exempt ex net n.id) (distance box (node_box n)) (record { segment = i; node = j }) b
 
-pub record NodesLooked (words : List ℕ) (r : Range ℕ) (box : Aabb) (i : ℕ) (c : NodeColumns) (b₀ : Option Best) (j : ℕ) (b : Option Best) : Type 0 where
+pub record NodesLooked (words : List ℕ) (r : Range) (box : Aabb) (i : ℕ) (c : NodeColumns) (b₀ : Option Best) (j : ℕ) (b : Option Best) : Type 0 where
   pub agree : NodesAgree c
   pub small : j ≤ length c.id
   pub left : (ex : List Exemption) (net : ℕ) → Listed words ex net r → look_nodes ex net box i (nodes c) b₀ ≡ in_turn (node_step ex net box i) j (drop j (nodes c)) b
 
-module _ (words : List ℕ) (r : Range ℕ) (box : Aabb) (i : ℕ) (c : NodeColumns) (b₀ : Option Best) where
+module _ (words : List ℕ) (r : Range) (box : Aabb) (i : ℕ) (c : NodeColumns) (b₀ : Option Best) where
   pub nodes-start : NodesAgree c → NodesLooked words r box i c b₀ 0 b₀
   unfolding look_nodes
   nodes-start a = record { agree = a; small = omega arith; left = λ ex net l. refl }
@@ -147,7 +147,7 @@ module _ (words : List ℕ) (k : ℕ) (s : SegmentColumns) (ns : List Node) wher
   segments-start a = record { agree = a; small = omega arith; left = λ ex h e. refl }
 
   module _ (i : ℕ) (b : Option Best) (p : SegmentsLooked words k s ns i b) where
-    pub segments_next : i < length s.net → (r : Range ℕ) → (Rising words k → Own words k (get_or s.net i 0) r) → (box : Aabb) → box ≡ segment_box (segment_at s i) → (b' : Option Best)
+    pub segments_next : i < length s.net → (r : Range) → (Rising words k → Own words k (get_or s.net i 0) r) → (box : Aabb) → box ≡ segment_box (segment_at s i) → (b' : Option Best)
         → ((ex : List Exemption) (net : ℕ) → Listed words ex net r → b' ≡ look_nodes ex net box i ns b) → SegmentsLooked words k s ns (i + 1) b'
     segments_next h r o box g b' next = record {
       agree = p.agree;

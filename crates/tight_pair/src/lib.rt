@@ -14,8 +14,7 @@ mod checks;
 use crate::checks::check_tight_pair;
 use boxes::Aabb;
 use drawing::{Exemptions, Nodes, Refusal, Segments};
-use exemptions::{gather, is_exempt, net_range};
-use std::ops::Range;
+use exemptions::{Range, gather, is_exempt, net_range};
 
 // Positions of a segment and of a node in the given lists.
 #[derive(Clone, Copy)]
@@ -44,14 +43,14 @@ fn is_nearer(distance: f64, best: Option<Best>) -> bool
 // One segment and each node in turn. The exemption is searched only where the pair would be the best.
 fn look_at_nodes(
     words: &[u64],
-    range: &Range<usize>,
+    range: Range,
     bounds: Aabb,
     segment: usize,
     nodes: &Nodes<'_>,
     so_far: Option<Best>,
 ) -> Option<Best>
     requires { NodesAgree (lent_nodes nodes.now) }
-    ensures { (ex : List Exemption) (net : ℕ) → Listed words.now ex net range.now → result ≡ look_nodes ex net bounds segment (Entries.nodes (lent_nodes nodes.now)) so_far }
+    ensures { (ex : List Exemption) (net : ℕ) → Listed words.now ex net range → result ≡ look_nodes ex net bounds segment (Entries.nodes (lent_nodes nodes.now)) so_far }
 {
     let mut best = so_far;
     for node in 0..nodes.id.len() {
@@ -86,7 +85,7 @@ fn look_at_segments(
         let segment = segments.at(position);
         let range = net_range(words, k, segment.net);
         let bounds = Aabb::from_segment(segment);
-        best = look_at_nodes(words, &range, bounds, position, nodes, best);
+        best = look_at_nodes(words, range, bounds, position, nodes, best);
     }
     best
 }

@@ -2,7 +2,7 @@
 use Rattle.std.specs.Prelude.{◌≡◌, List, map, ℕ, ◌+◌, ◌*◌, ◌/◌, ◌%◌, ◌≤◌, ◌<◌, length, get_or, take, drop}
 use Rattle.laws.specs.Perm.{Perm}
 use Rattle.drawing.specs.Entries.{Exemption, ExemptionColumns, exemptions}
-use Rattle.std.specs.declared.ops.Range.{Range}
+use Rattle.exemptions.specs.declared.Range.{Range}
 
 -- net and node in one word: the net is the upper half
 abbrev pub word : ℕ → ℕ → ℕ
@@ -46,13 +46,13 @@ pub record LowerBound (key : ℕ → ℕ) (a b v r : ℕ) : Type 0 where
   pub above : (i : ℕ) → r ≤ i → i < b → v ≤ key i
 
 -- of the first k words, those of the range and no others are words of the net
-pub record Own (words : List ℕ) (k net : ℕ) (r : Range ℕ) : Type 0 where
-  pub ordered : r.start ≤ r.end
-  pub inside : r.end ≤ k
-  pub own : (i : ℕ) → r.start ≤ i → i < r.end → (unpacked (get_or words i 0)).net ≡ net
-  pub others : (i : ℕ) → i < k → (unpacked (get_or words i 0)).net ≡ net → (r.start ≤ i) × (i < r.end)
+pub record Own (words : List ℕ) (k net : ℕ) (r : Range) : Type 0 where
+  pub ordered : r.from ≤ r.to
+  pub inside : r.to ≤ k
+  pub own : (i : ℕ) → r.from ≤ i → i < r.to → (unpacked (get_or words i 0)).net ≡ net
+  pub others : (i : ℕ) → i < k → (unpacked (get_or words i 0)).net ≡ net → (r.from ≤ i) × (i < r.to)
 
 -- the range is that of the net's exemptions in words that hold these exemptions
-pub record Listed (words : List ℕ) (ex : List Exemption) (net : ℕ) (r : Range ℕ) : Type 0 where
+pub record Listed (words : List ℕ) (ex : List Exemption) (net : ℕ) (r : Range) : Type 0 where
   pub holds : Holds words ex
   pub places : Own words (length ex) net r

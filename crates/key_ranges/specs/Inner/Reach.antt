@@ -3,7 +3,7 @@ use Rattle.std.specs.Prelude.{List, ℕ, ◌+◌, ◌≤◌, ◌<◌, Float, len
 use Rattle.std.specs.Float.{binary64}
 use Rattle.std.specs.Float.Ieee.{add, sub}
 use Rattle.floats.specs.TotalOrder.{key_of, float_at}
-use Rattle.std.specs.declared.ops.Range.{Range}
+use Rattle.key_ranges.specs.declared.range.Range.{Range}
 
 -- the words are sorted
 abbrev pub Ascending : List ℕ → Type 0
@@ -21,11 +21,11 @@ pub record LowerBound (l : List ℕ) (v r : ℕ) : Type 0 where
   pub above : (i : ℕ) → r ≤ i → i < length l → v ≤ get_or l i 0
 
 -- both ends are at most n
-pub record InBounds (n : ℕ) (r : Range ℕ) : Type 0 where
-  pub start : r.start ≤ n
-  pub end : r.end ≤ n
+pub record InBounds (n : ℕ) (r : Range) : Type 0 where
+  pub from : r.from ≤ n
+  pub to : r.to ≤ n
 
 -- the keys strictly between those of x - cutoff and x + cutoff, where x is the coordinate at index j
-pub record Reached (keys : List ℕ) (j : ℕ) (cutoff : Float) (r : Range ℕ) : Type 0 where
-  pub start : LowerBound keys (key_of (sub binary64 (float_at (get_or keys j 0)) cutoff) + 1) r.start
-  pub end : LowerBound keys (key_of (add binary64 (float_at (get_or keys j 0)) cutoff)) r.end
+pub record Reached (keys : List ℕ) (j : ℕ) (cutoff : Float) (r : Range) : Type 0 where
+  pub from : LowerBound keys (key_of (sub binary64 (float_at (get_or keys j 0)) cutoff) + 1) r.from
+  pub to : LowerBound keys (key_of (add binary64 (float_at (get_or keys j 0)) cutoff)) r.to
