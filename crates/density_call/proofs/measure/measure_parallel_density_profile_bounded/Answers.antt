@@ -29,7 +29,7 @@ returns c =
     let held = c.held.ensures.floats (agree s _ _ passed) in
     let kept = ap (λ (k : ℕ). replicate {A = ℕ} k 0) c.walk_segments-swept.auto.scratch in
     let cleared = c.clear.ensures ∙ kept in (
-      passed_answer s _ _ _ passed _ c.walk_segments-swept.ensures _ (c.total_length-total.ensures (agree s _ _ passed)) _ c.answer_of.ensures,
+      passed_answer s _ _ _ passed _ c.walk_segments-swept.ensures _ (c.total_length-total.ensures.value (agree s _ _ passed)) _ c.answer_of.ensures,
       passed_scratch _ _ _ _ check told cleared,
       λ p. (held, subst T (sym c.well_formed.1.0.1) tt),
     )
