@@ -16,6 +16,7 @@ use Rattle.drawing.specs.Inner.LeastFloats.{Number, gap_of_float, least_with}
 use Rattle.drawing.proofs.LeastFloatLaws.{none_absent, least-joined}
 use Rattle.separation.specs.declared.state.Sweeping.{Sweeping}
 use Rattle.separation.specs.declared.found.Found.{Found}
+use Rattle.separation.specs.declared.report.ParallelSeparation.{ParallelSeparation}
 use Rattle.separation.specs.Figures.{Figures}
 use Rattle.separation.specs.Walk.{no_figures, lesser_figures, own_line}
 use Rattle.separation.specs.Answer.{accepted}
@@ -74,14 +75,16 @@ lesser-of a b x y e f = λ i. record { least = e i; least_nonzero = f i }
 
 -- ---- the answer
 pub answers-spent : (r : Result Found Refusal) (allowance : ℕ) (x : Refusal) → r ≡ Err x → Answers r allowance (Err x)
-unfolding reply
-answers-spent r allowance x h o e = let p = spent-is o x (sym h ∙ e) in rw (p.0, p.1)
+answers-spent r allowance x h = rw h refl
 
 pub answers-went : (r : Result Found Refusal) (allowance : ℕ) (t : Found) (v : ℕ) → r ≡ Ok t → v ≡ allowance - t.remaining → Answers r allowance (Ok (record { minimum = t.minimum; minimum_positive = t.minimum_positive; visits = v }))
+answers-went r allowance t v h k = rw (h, k) refl
+
+-- where the walk ended as an outcome within the allowance does, it is the reply to that
+pub answers-reply : (r : Result Found Refusal) (allowance : ℕ) (a : Result ParallelSeparation Refusal) → Answers r allowance a → (o : Outcome Figures) → r ≡ swept_of o → a ≡ reply accepted (Err WorkLimitExceeded) allowance o
 unfolding reply
-answers-went r allowance t v h k o e =
-    let z : Ok (record { minimum = t.minimum; minimum_positive = t.minimum_positive; visits = allowance - t.remaining }) ≡ reply accepted (Err WorkLimitExceeded) allowance o = sym (rw (went-is o t (sym h ∙ e))) in
-    ap (λ (n : ℕ). Ok (record { minimum = t.minimum; minimum_positive = t.minimum_positive; visits = n })) k ∙ z
+answers-reply (Ok t) allowance a h o e = h ∙ sym (ap (reply accepted (Err WorkLimitExceeded) allowance) (went-is o t e))
+answers-reply (Err x) allowance a h o e = let p = spent-is o x e in h ∙ ap Err p.0 ∙ sym (ap (reply accepted (Err WorkLimitExceeded) allowance) p.1)
 
 -- ---- the allowance: a fifth of it in place of five times the segments
 pub fifth : (m n : ℕ) → ltb (m / 5) n ≡ too_few m n

@@ -35,7 +35,7 @@ use Rattle.separation.specs.declared.found.Found.{Found}
 use Rattle.separation.specs.declared.report.ParallelSeparation.{ParallelSeparation}
 use Rattle.separation.specs.Inner.States.{found_by, swept_of, Answers, too_few}
 use Rattle.separation_call.specs.Inner.Sweeping.{Gapped, AtColumns}
-use Rattle.separation.proofs.States.{went-is, spent-is, too_few_means}
+use Rattle.separation.proofs.States.{went-is, spent-is, answers-reply, too_few_means}
 
 -- ---- what the checks establish
 row-net : (s : Segment) → s.net < 2 ^ 32 → (row_of s).net < 2 ^ 32
@@ -104,4 +104,4 @@ unfolding separation_answer
 refused-answer c allowance words k r h g = sym (rw (sym h ∙ g))
 
 pub passed_answer : (c : SegmentColumns) (allowance words : ℕ) → first_of (separation_conditions c words) ≡ Ok tt → All SegmentHeld (segments c) → (r : Result Found Refusal) → r ≡ swept_of (within allowance (walk_all (segments c))) → (a : Result ParallelSeparation Refusal) → Answers r allowance a → a ≡ separation_answer c allowance words
-passed_answer c allowance words passed held r e a f = f (within allowance (walk_all (segments c))) e ∙ settle-within accepted (Err WorkLimitExceeded) allowance (walk_all (segments c)) ∙ sym (walk_settles c words passed held allowance)
+passed_answer c allowance words passed held r e a f = answers-reply r allowance a f (within allowance (walk_all (segments c))) e ∙ settle-within accepted (Err WorkLimitExceeded) allowance (walk_all (segments c)) ∙ sym (walk_settles c words passed held allowance)

@@ -1,5 +1,6 @@
 // One event of the sweep over an orientation's segments, within the remaining visits.
-ghost use Rattle.std.specs.Prelude.{◌≡◌, List, ℕ, ◌+◌, ◌*◌, length, get_or, take, Option};
+ghost use Rattle.std.specs.Prelude.{◌≡◌, List, ℕ, ◌+◌, ◌*◌, length, get_or, take, Option, Err, IfErr};
+ghost use Rattle.drawing.specs.declared.refusal.Refusal.TheVariants.{WorkLimitExceeded};
 ghost use Rattle.laws.specs.Inner.Allowance.{Outcome};
 ghost use Rattle.separation.specs.Inner.Searches.{search_of};
 ghost use Rattle.separation.specs.Inner.States.{met_by, Gives};
@@ -19,7 +20,8 @@ fn with_search(
     state: Sweeping,
 ) -> Result<Sweeping, Refusal>
     requires { WithinLines search line (length fixed.now) }
-    ensures { (ls : List ℕ) (o : Outcome (Option ℕ)) → search ≡ search_of o → take (length ls) fixed.now ≡ ls → WithinLines search line (length ls) → Gapped ls → Gives result (joined ls (get_or ls line 0) (met_by state) o) }
+    ensures outcome { (ls : List ℕ) (o : Outcome (Option ℕ)) → search ≡ search_of o → take (length ls) fixed.now ≡ ls → WithinLines search line (length ls) → Gapped ls → Gives result (joined ls (get_or ls line 0) (met_by state) o) }
+    ensures refusal { IfErr search (λ _. result ≡ Err WorkLimitExceeded) }
 {
     // Taken apart by `let .. else`, and not by `?`: SCOPE 15.6 says so. The sweep continues only with found and empty.
     let Ok(answer) = search else {

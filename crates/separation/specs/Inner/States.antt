@@ -1,8 +1,8 @@
 -- What only the contracts of inner functions cite: the state of the sweep as the code holds it, what changes the figures, and the answers within an allowance.
 use Rattle.drawing.specs.declared.refusal.Refusal.{Refusal}
-use Rattle.std.specs.Prelude.{◌≡◌, Bool, ℕ, ◌*◌, ltb, Float, Some, Result, Ok, Err}
+use Rattle.std.specs.Prelude.{◌≡◌, Bool, ℕ, ◌-◌, ◌*◌, ltb, Float, Some, Result, Ok, Err}
 use Rattle.std.specs.Float.{nan}
-use Rattle.laws.specs.Inner.Allowance.{Outcome, spent, left, reply}
+use Rattle.laws.specs.Inner.Allowance.{Outcome, spent, left}
 use Rattle.drawing.specs.declared.refusal.Refusal.TheVariants.{WorkLimitExceeded}
 use Rattle.drawing.specs.Inner.LeastFloats.{gap_of_float, least_with}
 use Rattle.separation.specs.declared.state.Sweeping.{Sweeping}
@@ -46,9 +46,10 @@ with_gap x f = let g = Some x in lesser_figures f (record { least = g; least_non
 abbrev pub gap_met : Float → ℕ → Sweeping → Sweeping
 gap_met gap m s = record { minimum = least_with s.minimum gap; minimum_positive = least_with s.minimum_positive gap; remaining = m }
 
--- the answer of a call whose checks passed and whose walk ended with r
+-- the answer of a call whose checks passed and whose walk ended with this: a refusal stays what it is
 abbrev pub Answers : Result Found Refusal → ℕ → Result ParallelSeparation Refusal → Type 0
-Answers r allowance a = (o : Outcome Figures) → r ≡ swept_of o → a ≡ reply accepted (Err WorkLimitExceeded) allowance o
+Answers (Ok f) allowance a = a ≡ accepted (found_by f) (allowance - f.remaining)
+Answers (Err r) allowance a = a ≡ Err r
 
 -- the allowance is below five visits for each segment that is swept, the least that they cost
 unfoldable pub too_few : ℕ → ℕ → Bool

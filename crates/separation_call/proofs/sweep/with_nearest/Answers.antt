@@ -16,7 +16,7 @@ pub returns-in_err-half : goal.returns-in_err-half
 returns-in_err-half c =
     let a = c.args in
     let p = err_from_is_err_and c.from_residual-in_err-half.result c.from_residual-in_err-half.ensures.1 in
-    rw (p.1, p.2) (λ ls H active x k v f l. look_stops a.tree.now a.fixed.now _ _ _ a.state ls H active x k v f l _ c.has_other_at.ensures _ _ _ c.in_ok-own.was _ _ c.with_own_line-begun.ensures.figures c.with_own_line-begun.ensures.remaining c.rightmost_other-below.ensures c.with_search.ensures _ c.in_err-half.was)
+    rw (p.1, p.2) (λ ls H active x k v f l. look_stops a.tree.now a.fixed.now _ _ _ a.state ls H active x k v f l _ c.has_other_at.ensures _ _ _ c.in_ok-own.was _ _ c.with_own_line-begun.ensures.figures c.with_own_line-begun.ensures.remaining c.rightmost_other-below.ensures c.with_search.ensures.outcome _ c.in_err-half.was)
 
 pub with_search-requires-2 : goal.with_search-requires-2
 with_search-requires-2 c = let p = c.requires in left-within _ _ _ _ _ _ _ _ p.tree.count p.inside p.values (c.leftmost_other-above.ensures _ p.tree.count)
@@ -24,4 +24,4 @@ with_search-requires-2 c = let p = c.requires in left-within _ _ _ _ _ _ _ _ p.t
 pub returns : goal.returns
 returns c =
     let a = c.args in
-    λ ls H active x k v f l. look_on a.tree.now a.fixed.now _ _ _ a.state ls H active x k v f l _ c.has_other_at.ensures _ _ _ c.in_ok-own.was _ _ c.with_own_line-begun.ensures.figures c.with_own_line-begun.ensures.remaining c.rightmost_other-below.ensures c.with_search.ensures _ _ _ c.in_ok-half.was c.leftmost_other-above.ensures c.with_search-2.ensures
+    λ ls H active x k v f l. look_on a.tree.now a.fixed.now _ _ _ a.state ls H active x k v f l _ c.has_other_at.ensures _ _ _ c.in_ok-own.was _ _ c.with_own_line-begun.ensures.figures c.with_own_line-begun.ensures.remaining c.rightmost_other-below.ensures c.with_search.ensures.outcome _ _ _ c.in_ok-half.was c.leftmost_other-above.ensures c.with_search-2.ensures.outcome

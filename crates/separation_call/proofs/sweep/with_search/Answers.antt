@@ -2,11 +2,11 @@
 use Rattle.separation_call.proofs.SweepSteps.{joined-spent, joined-empty, joined-found}
 use Rattle.separation_call.proofs.sweep.with_search.Goals as goal
 
-pub returns-in_default : goal.returns-in_default
-returns-in_default c = λ ls o e f w gaps. joined-spent ls _ c.args.state o _ e _ c.in_default.is
+pub returns-in_default-clause-outcome : goal.returns-in_default-clause-outcome
+returns-in_default-clause-outcome c = λ ls o e f w gaps. joined-spent ls _ c.args.state o _ e _ c.in_default.is
 
-pub returns-in_default-line : goal.returns-in_default-line
-returns-in_default-line c = λ ls o e f w gaps. joined-empty ls _ c.args.state o _ e _ c.in-Ok.is c.in_default-line.is
+pub returns-in_default-line-clause-outcome : goal.returns-in_default-line-clause-outcome
+returns-in_default-line-clause-outcome c = λ ls o e f w gaps. joined-empty ls _ c.args.state o _ e _ c.in-Ok.is c.in_default-line.is
 
-pub returns : goal.returns
-returns c = λ ls o e f w gaps. joined-found ls _ c.args.state o _ e _ c.in-Ok.is c.args.fixed.now _ _ _ _ c.in-Some.is f w gaps c.float_of_key-there.ensures c.float_of_key-here.ensures c.with_other_line.ensures
+pub returns-clause-outcome : goal.returns-clause-outcome
+returns-clause-outcome c = λ ls o e f w gaps. joined-found ls _ c.args.state o _ e _ c.in-Ok.is c.args.fixed.now _ _ _ _ c.in-Some.is f w gaps c.float_of_key-there.ensures c.float_of_key-here.ensures c.with_other_line.ensures
