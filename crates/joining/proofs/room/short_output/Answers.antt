@@ -1,5 +1,5 @@
 -- `joining::room::short_output` meets its contract: some length is below what is needed. Assumes nothing.
-use Rattle.std.proofs.Common.{rules, tests, ◌∙◌, sym}
+use Rattle.std.proofs.Common.{arith, rules, tests, ◌∙◌, sym}
 use Rattle.std.proofs.Math.Seq.{take-length}
 use Rattle.std.proofs.lemmas.Iterator.{YieldsList-from_slice}
 use Rattle.std.proofs.lemmas.Iterator.Search.{any_from_yields_List}
@@ -13,4 +13,4 @@ pub returns : goal.returns
 unfolding short_output
 returns c =
     let a = c.args in
-    any_from_yields_List (λ m. ltb m a.needed) _ _ _ c.any.ensures.ran (YieldsList-from_slice a.lengths.now (grind (rules, take-length))) (λ x b q k. search (rules, tests)) ∙ sym (some_any _ a.lengths.now)
+    any_from_yields_List (λ m. ltb m a.needed) _ _ _ c.any.ensures.ran (YieldsList-from_slice a.lengths.now (grind (arith, take-length))) (λ x b q k. search (rules, tests)) ∙ sym (some_any _ a.lengths.now)
