@@ -45,6 +45,10 @@ unfolding stored
 length-stored s at [] = refl
 length-stored s at (x ∷ t) = length-stored (set s at x) (index_after at 1) t ∙ length-set s at x
 
+-- what is left of a text where none of its first bytes goes
+pub drop-none : (n : ℕ) (l : List ℕ) → n ≡ 0 → drop n l ≡ l
+drop-none n l h = ap (λ (k : ℕ). drop k l) h
+
 -- ---- texts put
 pub put-none : (k : ℕ) (b : TextBuffer) → Put k b [] b
 unfolding stored
@@ -99,5 +103,6 @@ copied_next text i c h q =
     let w : take (i + 1) text ≡ take i text ++ (get_or text i 0 ∷ []) = ap (λ (z : ℕ). take z text) (add-one i) ∙ take-suc text i 0 h in
     record { small = omega arith; put = put_same (sym w) (put_both c.put q) }
 
-pub copied_all : {b : TextBuffer} (text : List ℕ) {e : TextBuffer} (i : ℕ) → Copied b text e i → length text ≤ i → Put (length text) b text e
-copied_all text i c h = put-within (omega (arith, c.small)) (put_same (take_all i text h) c.put)
+-- where what was put, byte by byte, is all of a word
+pub copied_all : {b : TextBuffer} (text word : List ℕ) {e : TextBuffer} (i : ℕ) → Copied b text e i → length text ≤ i → text ≡ word → Put (length word) b word e
+copied_all {b} text word {e} i c h is = subst (λ (w : List ℕ). Put (length w) b w e) is (put-within (omega (arith, c.small)) (put_same (take_all i text h) c.put))
